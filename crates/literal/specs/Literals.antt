@@ -1,0 +1,25 @@
+-- Literals (document 01, "Clauses", first paragraph).
+use mathlib.Core.Bool.{Bool}
+use Prim.Native.Nat.{ℕ}
+use lib.IntN.{ℤ, pos, negsuc, negℤ, natAbs}
+use Rattle.prelude.specs.Tests.{between}
+
+-- "A literal is a signed 32-bit number: v says that variable v is true, -v that it is false."
+pub data Literal : Type 0 where
+  positive negative : ℕ → Literal
+
+abbrev pub wordOf : Literal → ℤ
+wordOf (positive v) = pos v
+wordOf (negative v) = negℤ (pos v)
+
+abbrev pub opposite : Literal → Literal
+opposite (positive v) = negative v
+opposite (negative v) = positive v
+
+abbrev pub variable : Literal → ℕ
+variable (positive v) = v
+variable (negative v) = v
+
+-- a word is a literal of the variables 1 to v: not 0 and not beyond v
+abbrev pub isLiteral : ℕ → ℤ → Bool
+isLiteral v w = between 1 v (natAbs w)
