@@ -1,0 +1,5 @@
+pub mod Blocks
+pub mod Kinds
+pub mod Shapes
+pub mod Tables
+pub mod Reading
