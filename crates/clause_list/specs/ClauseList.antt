@@ -2,7 +2,7 @@
 -- (document 01, "Clauses", "The words of demand 3" and "Answers that decline").
 use mathlib.Core.Path.{_≡_}
 use mathlib.Core.Bool.{Bool, true, false, _&&_}
-use mathlib.Core.List.{List, [], _∷_}
+use mathlib.Core.List.{List, [], _∷_, _++_}
 use Prim.Native.Nat.{ℕ, zero, suc, pred}
 use lib.Dec.{leb, eqb}
 use lib.IntN.{ℤ, pos, negsuc, natAbs}
@@ -19,6 +19,11 @@ cut (suc rounds) (count ∷ ws) = take (natAbs count) ws ∷ cut rounds (drop (n
 
 abbrev pub clausesOf : List ℤ → List (List ℤ)
 clausesOf ws = cut (length ws) ws
+
+-- the words of a list of clauses, which the cut takes apart again
+unfoldable pub wordsOf : List (List ℤ) → List ℤ
+wordsOf [] = []
+wordsOf (clause ∷ clauses) = pos (length clause) ∷ (clause ++ wordsOf clauses)
 
 -- a count is at least 1, and its literals are among the words left
 abbrev pub isCount : ℕ → ℤ → Bool

@@ -1,1 +1,2 @@
 pub mod ClauseList
+pub mod Private

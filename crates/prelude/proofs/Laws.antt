@@ -3,11 +3,13 @@ use mathlib.Core.Path.{_≡_, refl, sym, ap, _∙_}
 use mathlib.Core.Bool.{Bool, true, false, _&&_, _||_, true≢false, false≢true, and-assoc, or-assoc}
 use mathlib.Core.List.{List, [], _∷_, _++_, map}
 use mathlib.Core.Logic.{_⊎_, inl, inr, ⊎-elim}
-use Prim.Native.Nat.{ℕ, zero, suc, _<_, _≤_}
+use Prim.Native.Nat.{ℕ, zero, suc, _+_, _<_, _≤_}
 use native.Mathlib.Nat.{not-suc-le-zero, le-of-suc-le-suc, eq-or-lt-of-le}
+use native.Mathlib.Numerals.{add-one}
 use native.Mathlib.Omega.{arith}
 use lib.Dec.{leb}
-use lib.ListN.{length, getD}
+use lib.ListN.{length, getD, drop, drop-of-length-le}
+use lib.Seq.{drop-cons}
 use borrow.Author.Tests.{leb-true, leb-false, le-leb, lt-leb}
 use Rattle.prelude.specs.Tests.{between, each, all, any}
 
@@ -112,6 +114,15 @@ module _ {A : Type 0} (p : A → Bool) where
   unfolding all
   all-of [] d h = refl
   all-of (x ∷ xs) d h = and-both (p x) (all p xs) (h 0 (omega arith)) (all-of xs d (λ i l. h (suc i) (omega arith)))
+
+  -- the elements from an index on
+  pub all-from : (xs : List A) (i : ℕ) (d : A) → i < length xs → all p (drop i xs) ≡ (p (getD xs i d) && all p (drop (i + 1) xs))
+  unfolding all
+  all-from xs i d h = rw (drop-cons xs i d h, add-one)
+
+  pub all-from-end : (xs : List A) (i : ℕ) → length xs ≤ i → all p (drop i xs) ≡ true
+  unfolding all
+  all-from-end xs i h = rw (drop-of-length-le xs h)
 
   pub all-append : (xs ys : List A) → all p (xs ++ ys) ≡ (all p xs && all p ys)
   unfolding all
