@@ -6,14 +6,14 @@ use lib.Dec.{eqb, ltb, leb}
 use lib.ListN.{length, getD}
 use Rattle.prelude.specs.Tests.{between, each}
 use Rattle.refusal.specs.declared.Refusal.{Refusal}
-use Rattle.sheet.specs.declared.kinds.Field.{Field}
-use Rattle.sheet.specs.declared.kinds.Field.the-variants.{Unused, Node, Relation, Variable, Sort}
+use Rattle.kinds.specs.declared.Field.{Field}
+use Rattle.kinds.specs.declared.Field.the-variants.{Unused, Node, Relation, Variable, Sort}
 use Rattle.sheet.specs.declared.shapes.Shape.the-variants.{Ill}
 use Rattle.sheet.specs.declared.Layout.{Layout}
 use Rattle.sheet.specs.declared.Reading.{Reading}
 use Rattle.sheet.specs.declared.Reading.the-variants.{Accepted, Refused}
 use Rattle.sheet.specs.Blocks.{Sheet, byte, lengthAt, variablesHead, relationsHead, nodesHead, blocksEnd, sheetOf, sortCount, scope, variableCount, sortOf, relationCount, columns, multiplicity, firstSort, secondSort, nodeCount, kind, fieldA, fieldB, root}
-use Rattle.sheet.specs.Kinds.{rowOf, isKnown}
+use Rattle.kinds.specs.Kinds.{rowOf, isKnown}
 use Rattle.sheet.specs.Shapes.{isFormula, isShaped}
 use Rattle.sheet.specs.Tables.{shapes, free, visits}
 

@@ -2,8 +2,8 @@
 use mathlib.Core.Bool.{Bool, true, false, _&&_, cond}
 use Prim.Native.Nat.{ℕ}
 use lib.Dec.{eqb}
-use Rattle.sheet.specs.declared.kinds.Rule.{Rule}
-use Rattle.sheet.specs.declared.kinds.Rule.the-variants.{Unknown, OfRelation, OfVariable, OfSort, OfIdentity, Same, Join, Product, Inverse, Closure, Comprehension, Comparison, Test, Negation, Connective, Quantifier}
+use Rattle.kinds.specs.declared.Rule.{Rule}
+use Rattle.kinds.specs.declared.Rule.the-variants.{Unknown, OfRelation, OfVariable, OfSort, OfIdentity, Same, Join, Product, Inverse, Closure, Comprehension, Comparison, Test, Negation, Connective, Quantifier}
 use Rattle.sheet.specs.declared.shapes.Shape.{Shape}
 use Rattle.sheet.specs.declared.shapes.Shape.the-variants.{Ill, Formula, SetOf, RelationOf}
 use Rattle.sheet.specs.Blocks.{Sheet, sortOf, columns, firstSort, secondSort}

@@ -4,13 +4,13 @@ use mathlib.Core.List.{List, [], _∷_, _++_}
 use Prim.Native.Nat.{ℕ, zero, suc, _+_, _*_}
 use lib.Dec.{eqb}
 use lib.ListN.{getD}
-use Rattle.sheet.specs.declared.kinds.Field.{Field}
-use Rattle.sheet.specs.declared.kinds.Field.the-variants.{Unused, Node, Relation, Variable, Sort}
-use Rattle.sheet.specs.declared.kinds.Row.{Row}
+use Rattle.kinds.specs.declared.Field.{Field}
+use Rattle.kinds.specs.declared.Field.the-variants.{Unused, Node, Relation, Variable, Sort}
+use Rattle.kinds.specs.declared.Row.{Row}
 use Rattle.sheet.specs.declared.shapes.Shape.{Shape}
 use Rattle.sheet.specs.declared.shapes.Shape.the-variants.{Ill}
 use Rattle.sheet.specs.Blocks.{Sheet, scope, sortOf, kind, fieldA, fieldB, nodeCount}
-use Rattle.sheet.specs.Kinds.{rowOf}
+use Rattle.kinds.specs.Kinds.{rowOf}
 use Rattle.sheet.specs.Shapes.{shapeBy}
 
 -- "Operands that are nodes have lower numbers than their parent.": the entries of the first n nodes, each made from those before

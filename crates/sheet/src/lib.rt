@@ -1,7 +1,6 @@
 // Reading a sheet (document 01, "The sheet" and "Kinds and meanings"): refusals 1 to 9.
 use refusal::Refusal;
 
-pub mod kinds; // kinds.rt: the constant table of node kinds
 pub mod shapes; // shapes.rt: shapes of expressions and formulas
 
 // Where a block's records start in the sheet, and how many there are.

@@ -3,11 +3,11 @@ use mathlib.Core.Bool.{Bool, true, false, cond}
 use mathlib.Core.List.{List, [], _∷_}
 use Prim.Native.Nat.{ℕ}
 use lib.Dec.{eqb}
-use Rattle.sheet.specs.declared.kinds.Field.{Field}
-use Rattle.sheet.specs.declared.kinds.Field.the-variants.{Unused, Node, Relation, Variable, Sort}
-use Rattle.sheet.specs.declared.kinds.Rule.{Rule}
-use Rattle.sheet.specs.declared.kinds.Rule.the-variants.{Unknown, OfRelation, OfVariable, OfSort, OfIdentity, Same, Join, Product, Inverse, Closure, Comprehension, Comparison, Test, Negation, Connective, Quantifier}
-use Rattle.sheet.specs.declared.kinds.Row.{Row}
+use Rattle.kinds.specs.declared.Field.{Field}
+use Rattle.kinds.specs.declared.Field.the-variants.{Unused, Node, Relation, Variable, Sort}
+use Rattle.kinds.specs.declared.Rule.{Rule}
+use Rattle.kinds.specs.declared.Rule.the-variants.{Unknown, OfRelation, OfVariable, OfSort, OfIdentity, Same, Join, Product, Inverse, Closure, Comprehension, Comparison, Test, Negation, Connective, Quantifier}
+use Rattle.kinds.specs.declared.Row.{Row}
 
 abbrev pub row : Field → Field → Rule → Row
 row a b rule = record { a = a; b = b; rule = rule }
