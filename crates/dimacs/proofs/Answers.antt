@@ -1,6 +1,6 @@
 -- The answers by their cases.
-use mathlib.Core.Path.{_≡_, refl, sym, ap, _∙_}
-use mathlib.Core.Bool.{Bool, true, false, _&&_, cond}
+use mathlib.Core.Path.{_≡_, sym, ap, _∙_}
+use mathlib.Core.Bool.{true, false}
 use mathlib.Core.List.{List, _++_}
 use mathlib.Core.Logic.{⊎-elim}
 use Prim.Native.Nat.{ℕ, _+_, _*_, _<_, _≤_}
@@ -14,7 +14,7 @@ use Rattle.prelude.proofs.Stores.{put-front}
 use Rattle.clause_list.specs.ClauseList.{isList}
 use Rattle.dimacs.proofs.Lines.{text-fits}
 use Rattle.dimacs.specs.Text.{textOf, textRoom}
-use Rattle.dimacs.specs.Answers.{Answer, bytes, refused, answerOf, sizeAnswer, writeAnswer, textAfter}
+use Rattle.dimacs.specs.Answers.{bytes, refused, answerOf, sizeAnswer, writeAnswer, textAfter}
 use Rattle.dimacs.specs.Private.{Put}
 use Rattle.dimacs.specs.declared.TextSize.{TextSize}
 use Rattle.dimacs.specs.declared.TextSize.the-variants.{Bytes, Refused}

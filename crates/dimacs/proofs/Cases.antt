@@ -1,11 +1,10 @@
 -- Texts computed from the definitions: case K1 of document 01, whole, and some numbers.
 use mathlib.Core.Path.{_≡_, refl}
 use mathlib.Core.List.{List, [], _∷_}
-use Prim.Native.Nat.{ℕ}
 use lib.IntN.{ℤ, pos, negsuc}
-use lib.ListN.{length, replicate}
+use lib.ListN.{replicate}
 use Rattle.prelude.specs.Texts.{bytesOf}
-use Rattle.prelude.specs.Tests.{between, all}
+use Rattle.prelude.specs.Tests.{all}
 use Rattle.clause_list.specs.ClauseList.{cut, isList, wellCut}
 use Rattle.dimacs.specs.Text.{digits, decimal, literalText, clauseLine, clauseLines, header, textOf, textRoom}
 use Rattle.dimacs.specs.Answers.{bytes, refused, sizeAnswer, writeAnswer}

@@ -1,8 +1,8 @@
 -- The text of a clause list, line by line, and its length: the text never passes the room that is asked for it.
-use mathlib.Core.Path.{_≡_, refl, sym, ap, _∙_}
-use mathlib.Core.Bool.{Bool, true, false, _&&_}
-use mathlib.Core.List.{List, [], _∷_, _++_, append-assoc}
-use Prim.Native.Nat.{ℕ, zero, suc, _+_, _*_, _^_, _<_, _≤_}
+use mathlib.Core.Path.{_≡_, refl, ap}
+use mathlib.Core.Bool.{true, false}
+use mathlib.Core.List.{List, [], _∷_, _++_}
+use Prim.Native.Nat.{ℕ, suc, _+_, _*_, _<_, _≤_}
 use native.Mathlib.Omega.{arith}
 use lib.Dec.{ltb}
 use lib.IntN.{ℤ, pos, negsuc, natAbs}
@@ -11,13 +11,12 @@ use lib.Seq.{drop-cons}
 use borrow.Author.Tests.{lt-ltb}
 use Rattle.prelude.specs.Tests.{all}
 use Rattle.prelude.proofs.Laws.{clash, and-left, and-right}
-use Rattle.prelude.specs.Texts.{bytesOf}
 use Rattle.literal.specs.Literals.{isLiteral, isPositive}
 use Rattle.literal.proofs.Words.{literal-high}
 use Rattle.clause_list.specs.ClauseList.{clausesOf, wordsOf, isList}
 use Rattle.clause_list.proofs.Laws.{list-clauses, list-literals, list-most-variables}
 use Rattle.dimacs.specs.Text.{decimal, literalText, clauseLine, clauseLines, header, textOf, textRoom}
-use Rattle.dimacs.proofs.Decimals.{decimal-few, decimal-short, decimal-some}
+use Rattle.dimacs.proofs.Decimals.{decimal-few, decimal-short}
 
 -- a literal by its sign
 pub positive-text : (l : ℤ) → isPositive l ≡ true → literalText l ≡ decimal (natAbs l)

@@ -1,17 +1,17 @@
 -- A walk over the clauses of a list, by their counts.
-use mathlib.Core.Path.{_≡_, refl, sym, ap, _∙_, subst}
+use mathlib.Core.Path.{_≡_, sym, ap, _∙_, subst}
 use mathlib.Core.Bool.{true}
-use mathlib.Core.List.{List, []}
+use mathlib.Core.List.{List}
 use Prim.Native.Nat.{ℕ, suc, _+_, _-_, _<_, _≤_}
 use native.Mathlib.Numerals.{add-one}
 use native.Mathlib.Omega.{arith}
-use lib.IntN.{ℤ, pos, natAbs}
+use lib.IntN.{ℤ, pos}
 use lib.ListN.{length, getD, take, drop}
 use Rattle.prelude.specs.Tests.{all}
 use Rattle.prelude.proofs.Laws.{all-at}
 use Rattle.literal.specs.Literals.{countOf, isLiteral}
 use Rattle.literal.proofs.Words.{literal-low}
-use Rattle.clause_list.specs.ClauseList.{clausesOf, isList}
+use Rattle.clause_list.specs.ClauseList.{isList}
 use Rattle.clause_list.proofs.Laws.{ClauseAt, clause-at, wellCutWords, list-well-cut}
 use Rattle.dimacs.specs.Private.{Listed, Proper}
 

@@ -1,5 +1,5 @@
 -- What `size` and `write` answer, and what `write` leaves (document 01, "Answers that decline": clause text takes 12 and 13).
-use mathlib.Core.Bool.{Bool, _&&_, cond}
+use mathlib.Core.Bool.{_&&_, cond}
 use mathlib.Core.List.{List, _++_}
 use Prim.Native.Nat.{ℕ}
 use lib.Dec.{leb}

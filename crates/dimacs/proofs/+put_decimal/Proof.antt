@@ -1,5 +1,5 @@
 -- `dimacs::put_decimal` meets its contract: the digits of the tenth, and then the last digit. The number falls at each call.
-use mathlib.Core.Path.{_≡_, sym, _∙_}
+use mathlib.Core.Path.{sym, _∙_}
 use Prim.Native.Nat.{ℕ, _<_, _%_}
 use native.Mathlib.Omega.{arith}
 use lib.ListN.{length, length-set}
@@ -108,13 +108,17 @@ put-decimal-add-result-2 : (t : ℕ) → put-decimal-lts.Need-add-result-2 (
   put-decimal-below t,
   put-decimal.Post,
 ) (put-decimal-at t) put-decimal.Post
-put-decimal-add-result-2 t c = omega (arith, last-place t c, put-length (c .before .before .put-decimal .ensures), c .before .before .before .before .before .before .good .0 .0)
+put-decimal-add-result-2 t c =
+    let start = c .before .before .before .before .before .before in
+    omega (arith, last-place t c, put-length (c .before .before .put-decimal .ensures), start .good .0 .0)
 
 put-decimal-same-length-2 : (t : ℕ) → put-decimal-lts.Need-same-length-2 (
   put-decimal-below t,
   put-decimal.Post,
 ) (put-decimal-at t) put-decimal.Post
-put-decimal-same-length-2 t c = length-set (c .before .before .put-decimal .last .0) (c .before .before .put-decimal .result) _ ∙ put-length (c .before .before .put-decimal .ensures)
+put-decimal-same-length-2 t c =
+    let call = c .before .before .put-decimal in
+    length-set (call .last .0) (call .result) _ ∙ put-length (call .ensures)
 
 put-decimal-returns-2 : (t : ℕ) → put-decimal-lts.Need-returns-2 (
   put-decimal-below t,

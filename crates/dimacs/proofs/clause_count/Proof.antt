@@ -1,6 +1,6 @@
 -- `dimacs::clause_count` meets its contract. The loop's invariant: the clauses passed and those of the rest are all.
-use mathlib.Core.Path.{_≡_, refl, sym, ap, _∙_, subst}
-use Prim.Native.Nat.{ℕ, suc, _+_, _-_, _≤_}
+use mathlib.Core.Path.{_≡_, ap, _∙_}
+use Prim.Native.Nat.{suc, _+_, _-_}
 use native.Mathlib.Omega.{arith}
 use lib.IntN.{pos}
 use lib.ListN.{length, getD, drop, drop-of-length-le}
@@ -65,7 +65,9 @@ add-i-2 : tie.Need-add-i-2 Inv-loop μ-loop
 add-i-2 c = omega (arith, passed c .0 .within, c .before .before .before .before .good .0)
 
 add-clauses : tie.Need-add-clauses Inv-loop μ-loop
-add-clauses c = omega (arith, passed c .1, clauses-few (c .before .before .before .before .args .list .now), c .before .before .before .before .good .0)
+add-clauses c =
+    let start = c .before .before .before .before in
+    omega (arith, passed c .1, clauses-few (start .args .list .now), start .good .0)
 
 loop-less : tie.Need-loop-less Inv-loop μ-loop
 loop-less c = omega (arith, passed c .0 .within, c .before .before .loop-test .taken)

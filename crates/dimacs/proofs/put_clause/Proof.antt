@@ -1,22 +1,19 @@
 -- `dimacs::put_clause` meets its contract. The loop's invariant: what is still to be put is the line from the next literal on.
-use mathlib.Core.Path.{_≡_, refl, sym, ap, _∙_}
+use mathlib.Core.Path.{sym, ap}
 use mathlib.Core.List.{_∷_, [], _++_}
-use Prim.Native.Nat.{ℕ, suc, _+_, _-_, _≤_, _<_}
+use Prim.Native.Nat.{suc, _-_, _≤_}
 use native.Mathlib.Numerals.{add-one}
 use native.Mathlib.Omega.{arith}
 use lib.IntN.{pos}
-use lib.ListN.{length, getD, drop, drop-of-length-le, length-append, length-set}
+use lib.ListN.{length, getD, drop, length-set}
 use borrow.Author.Needs.{needs}
 use Rattle.literal.proofs.Signs.{back}
 use Rattle.dimacs.specs.Text.{literalText, clauseLine}
-use Rattle.dimacs.specs.Private.{Put, Room}
 use Rattle.dimacs.proofs.Lines.{line-from, line-end}
-use Rattle.dimacs.proofs.Puts.{put-byte, put-two, put-both, put-length, put-as, room-first, Left, left-all, left-as, left-room, left-put, left-last}
+use Rattle.dimacs.proofs.Puts.{put-byte, put-two, put-length, put-as, room-first}
+use Rattle.dimacs.proofs.Puts.{Left, left-all, left-as, left-room, left-put, left-last}
 use Rattle.dimacs.proofs.put_clause.Statement.{statement}
 use Rattle.dimacs.proofs.put_clause.Tie as tie
-use Rattle.dimacs.proofs.put_clause.Reads as reads
-use Rattle.dimacs.proofs.put_clause.Lts as lts
-use Rattle.dimacs.proofs.put_literal.Reads as put-literal-reads
 
 abbrev Inv-loop : tie.InvT-loop
 Inv-loop text₀ at clause end₀ i₀ text end i = (i ≤ length clause) × Left text₀ at (clauseLine clause) text end (clauseLine (drop i clause))
@@ -34,12 +31,15 @@ shared-slice-copy-out-l : tie.Need-shared-slice-copy-out-l Inv-loop μ-loop
 shared-slice-copy-out-l c = omega arith
 
 -- what is still to be put in a turn, its literal first
+abbrev entered : tie.At-loop Inv-loop μ-loop → tie.Start Inv-loop μ-loop
+entered c = c .before .before
+
 turn : (c : tie.In-loop Inv-loop μ-loop)
-    → Left (c .before .before .before .args .text .now) (c .before .before .before .args .at) (clauseLine (c .before .before .before .args .clause .now))
+    → Left (entered (c .before) .args .text .now) (entered (c .before) .args .at) (clauseLine (entered (c .before) .args .clause .now))
     (c .before .loop .text) (c .before .loop .end)
-    (literalText (getD (c .before .before .before .args .clause .now) (c .before .loop .i) (pos 0))
-    ++ (32 ∷ clauseLine (drop (suc (c .before .loop .i)) (c .before .before .before .args .clause .now))))
-turn c = left-as (line-from (c .before .before .before .args .clause .now) (c .before .loop .i) (c .loop-test .taken)) (c .before .loop .inv .1)
+    (literalText (getD (entered (c .before) .args .clause .now) (c .before .loop .i) (pos 0))
+    ++ (32 ∷ clauseLine (drop (suc (c .before .loop .i)) (entered (c .before) .args .clause .now))))
+turn c = left-as (line-from (entered (c .before) .args .clause .now) (c .before .loop .i) (c .loop-test .taken)) (c .before .loop .inv .1)
 
 put-literal-requires : tie.Need-put-literal-requires Inv-loop μ-loop
 put-literal-requires c κs =
@@ -54,14 +54,17 @@ put-literal-requires c κs =
     )
 
 -- after the literal
+abbrev turning : tie.After-put-literal Inv-loop μ-loop → tie.At-loop Inv-loop μ-loop
+turning c = c .before .before .before .before
+
 after : (c : tie.After-put-literal Inv-loop μ-loop)
-    → Left (c .before .before .before .before .before .before .args .text .now) (c .before .before .before .before .before .before .args .at)
-    (clauseLine (c .before .before .before .before .before .before .args .clause .now))
+    → Left (entered (turning c) .args .text .now) (entered (turning c) .args .at) (clauseLine (entered (turning c) .args .clause .now))
     (c .put-literal .last .0) (c .put-literal .result)
-    (32 ∷ clauseLine (drop (suc (c .before .before .before .before .loop .i)) (c .before .before .before .before .before .before .args .clause .now)))
+    (32 ∷ clauseLine (drop (suc (turning c .loop .i)) (entered (turning c) .args .clause .now)))
 after c =
-    let l = getD (c .before .before .before .before .before .before .args .clause .now) (c .before .before .before .before .loop .i) (pos 0) in
-    left-put (turn (c .before .before .before)) (put-as (ap literalText (back l (record { sfits = c .before .before .l .given }))) (c .put-literal .ensures))
+    let l = getD (entered (turning c) .args .clause .now) (turning c .loop .i) (pos 0) in
+    let e = back l (record { sfits = c .before .before .l .given }) in
+    left-put (turn (c .before .before .before)) (put-as (ap literalText e) (c .put-literal .ensures))
 
 slice-write-text : tie.Need-slice-write-text Inv-loop μ-loop
 slice-write-text c =
@@ -90,9 +93,9 @@ loop-again c =
 
 -- after the loop
 ending : (c : tie.After-loop Inv-loop μ-loop)
-    → Left (c .before .before .before .args .text .now) (c .before .before .before .args .at) (clauseLine (c .before .before .before .args .clause .now))
+    → Left (entered (c .before) .args .text .now) (entered (c .before) .args .at) (clauseLine (entered (c .before) .args .clause .now))
     (c .before .loop .text) (c .before .loop .end) (48 ∷ 10 ∷ [])
-ending c = left-as (line-end (c .before .before .before .args .clause .now) (c .before .loop .i) (c .loop-test .left)) (c .before .loop .inv .1)
+ending c = left-as (line-end (entered (c .before) .args .clause .now) (c .before .loop .i) (c .loop-test .left)) (c .before .loop .inv .1)
 
 slice-write-text-2 : tie.Need-slice-write-text-2 Inv-loop μ-loop
 slice-write-text-2 c = omega (arith, left-room (c .before .before .before .pre .1) (ending c))

@@ -1,9 +1,9 @@
 -- `dimacs::put_header` meets its contract: the header's pieces, one after the other.
-use mathlib.Core.Path.{_≡_, refl, sym, _∙_}
+use mathlib.Core.Path.{_≡_}
 use mathlib.Core.List.{_∷_, [], _++_, append-assoc}
-use Prim.Native.Nat.{_+_, _≤_, _<_}
+use Prim.Native.Nat.{_+_, _≤_}
 use native.Mathlib.Omega.{arith}
-use lib.ListN.{length, set, length-set, length-append}
+use lib.ListN.{length, set, length-set}
 use Rattle.prelude.specs.Texts.{bytesOf}
 use Rattle.dimacs.specs.Text.{decimal, header}
 use Rattle.dimacs.specs.Private.{Put}
