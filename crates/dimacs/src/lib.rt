@@ -1,7 +1,7 @@
 // Clause text in the DIMACS CNF format (document 01): its size, and the text itself.
 use refusal::Refusal;
 ghost use mathlib.Core.Path.{_≡_};
-ghost use Prim.Native.Nat.{_+_, _≤_};
+ghost use Prim.Native.Nat.{_≤_};
 ghost use lib.IntN.{natAbs};
 ghost use lib.ListN.{length};
 ghost use Rattle.clause_list.specs.ClauseList.{clausesOf};
