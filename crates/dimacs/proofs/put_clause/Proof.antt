@@ -105,7 +105,7 @@ add-text c = omega (arith, left-room (c .before .before .before .pre .1) (ending
 
 slice-write-text-3 : tie.Need-slice-write-text-3 Inv-loop μ-loop
 slice-write-text-3 c =
-    omega (arith, left-room (c .before .before .before .pre .1) (ending c), length-set (c .before .loop .text) (c .before .loop .end) 48)
+    simp length-set (omega (arith, left-room (c .before .before .before .pre .1) (ending c)))
 
 add-result : tie.Need-add-result Inv-loop μ-loop
 add-result c = omega (arith, left-room (c .before .before .before .pre .1) (ending c), ending c .same, c .before .before .before .good .0 .0)

@@ -55,12 +55,12 @@ add-put-decimal c = omega (arith, slice-write-text (c .before), c .before .befor
 put-decimal-requires-2 : tie.Need-put-decimal-requires-2
 put-decimal-requires-2 c κs =
     let start = c .before .before .before .before .before in
-    omega (arith, start .pre .1, ap length (negative (c .before)), length-set (start .args .text .now) (start .args .at) 45)
+    simp length-set (omega (arith, start .pre .1, ap length (negative (c .before))))
 
 same-length-2 : tie.Need-same-length-2
 same-length-2 c =
     let a = c .before .before .before .before .before .before .before .before .args in
-    put-length (c .before .before .put-decimal2 .ensures) ∙ length-set (a .text .now) (a .at) 45
+    put-length (c .before .before .put-decimal2 .ensures) ∙ length-set (a .text .now) (a .at) _
 
 returns-2 : tie.Need-returns-2
 returns-2 c =
