@@ -1,1 +1,4 @@
 mod Loops
+pub mod TableLaws
+mod FillingLaws
+mod Visits
