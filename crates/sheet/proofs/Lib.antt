@@ -2,3 +2,6 @@ mod Loops
 pub mod TableLaws
 mod FillingLaws
 mod Visits
+mod Verdicts
+mod Counts
+mod Parts
