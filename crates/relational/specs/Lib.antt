@@ -1,1 +1,4 @@
 pub mod Trees
+pub mod Cells
+pub mod Matrices
+pub mod Evaluation
