@@ -8,7 +8,8 @@ use Rattle.prelude.specs.Tests.{each, all, any}
 use Rattle.sheet.specs.Blocks.{Sheet, byte, scope, sortOf, relationCount, multiplicity}
 use Rattle.relational.specs.Trees.{Leaf, relation, variable, atoms, identity, Binary, union, intersection, difference, join, product, Unary, inverse, closure, Comparison, equal, within, Test, some, none, lone, Connective, conjunction, disjunction, implication, equivalence, Quantifier, for-all, for-some, Expression, leaf, binary, unary, comprehension, Formula, comparison, test, negation, connective, quantified, Tree, expression, formula, broken, rootTree}
 use Rattle.relational.specs.Cells.{rowCount, rowLength, cell}
-use Rattle.relational.specs.Matrices.{from, upto, Place, rounds, Matrix, Environment, bind, setOf, leafMatrix, sameSize, joinPlaces, joinSize, productSize, matched, middles, crossed, inverted}
+use Rattle.relational.specs.Meaning.{Environment, bind}
+use Rattle.relational.specs.Matrices.{from, upto, Place, rounds, Matrix, setOf, leafMatrix, sameSize, joinPlaces, joinSize, productSize, matched, middles, crossed, inverted}
 
 -- ---- flags
 abbrev pub both : Bool × Bool → Bool

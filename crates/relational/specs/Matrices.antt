@@ -9,6 +9,7 @@ use lib.ListN.{getD}
 use Rattle.sheet.specs.Blocks.{Sheet, scope, sortOf, columns}
 use Rattle.relational.specs.Trees.{Leaf, relation, variable, atoms, identity}
 use Rattle.relational.specs.Cells.{rowCount, rowLength, cellsOf, firstCell}
+use Rattle.relational.specs.Meaning.{Environment}
 
 -- ---- numbers and places in order
 -- n numbers, from s on
@@ -51,13 +52,6 @@ pub record Matrix (A : Type 0) : Type 0 where
   pub rows : ℕ
   pub columns : ℕ
   pub cells : List A
-
--- variables by their atoms; a binder replaces just its own
-abbrev pub Environment : Type 0
-Environment = ℕ → ℕ
-
-abbrev pub bind : Environment → ℕ → ℕ → Environment
-bind env x atom y = cond (eqb y x) atom (env y)
 
 module _ {A : Type 0} where
   abbrev pub setOf : ℕ → List A → Matrix A
