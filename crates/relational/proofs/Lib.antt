@@ -6,3 +6,6 @@ pub mod Paths
 pub mod Stands
 pub mod Operators
 pub mod Joins
+pub mod Typing
+pub mod Evaluates
+pub mod Multiplicities

@@ -96,7 +96,7 @@ module _ {z : Size} {m k : Matrix Bool} {P Q : Tuples} (a : Stands z m P) (b : S
       ((λ f t x. f t (a .2 .fits t x) x), λ f t g. f t)
 
 -- ---- tests of one expression, by the number of true cells
-beyond : (bs : List Bool) (k : ℕ) → getD bs k false ≡ true → k < length bs
+pub beyond : (bs : List Bool) (k : ℕ) → getD bs k false ≡ true → k < length bs
 beyond [] k e = absurd (false≢true e)
 beyond (b ∷ bs) zero e = omega arith
 beyond (b ∷ bs) (suc k) e = omega (arith, beyond bs k e)
