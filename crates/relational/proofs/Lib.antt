@@ -9,3 +9,5 @@ pub mod Joins
 pub mod Typing
 pub mod Evaluates
 pub mod Multiplicities
+pub mod Rows
+pub mod WellShaped
