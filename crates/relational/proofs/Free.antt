@@ -121,7 +121,7 @@ module _ (sheet : Sheet) (x : ℕ) where
     declared-expression (of-closure a) h = declared-expression a h
     declared-expression (of-comprehension {f} y s l es a) h = declared-formula a (and-right (not (eqb y x)) (freeInFormula x f) h)
 
-    declared-formula : {f : Formula} → Formed sheet f → freeInFormula x f ≡ true → x < variableCount sheet
+    pub declared-formula : {f : Formula} → Formed sheet f → freeInFormula x f ≡ true → x < variableCount sheet
     declared-formula (of-comparison {p} {q} o a b) h =
         either-declared (freeInExpression x p) (freeInExpression x q) (λ e. declared-expression a e) (λ e. declared-expression b e) h
     declared-formula (of-test o a) h = declared-expression a h

@@ -12,3 +12,4 @@ pub mod Multiplicities
 pub mod Rows
 pub mod WellShaped
 pub mod Free
+pub mod Satisfaction
