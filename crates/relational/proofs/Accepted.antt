@@ -9,7 +9,7 @@ use Rattle.sheet.specs.declared.Layout.{Layout}
 use Rattle.sheet.specs.declared.Reading.{Reading}
 use Rattle.sheet.specs.declared.Reading.the-variants.{Accepted, Refused}
 use Rattle.sheet.specs.Blocks.{sheetOf}
-use Rattle.sheet.specs.Reading.{badVersion, badLength, counted, scoped, declared, nodesFine, shaped, rooted, walkable, layoutOf, unless, reading}
+use Rattle.sheet.specs.Reading.{badVersion, badLength, counted, scoped, declared, nodesFine, shaped, rooted, unless, reading}
 use Rattle.relational.specs.Meaning.{Satisfies}
 use Rattle.relational.specs.Evaluation.{holds}
 use Rattle.relational.proofs.Satisfaction.{Sound, sound, holds-satisfies}

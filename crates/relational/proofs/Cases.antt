@@ -2,7 +2,7 @@
 use mathlib.Core.Path.{_≡_, refl}
 use mathlib.Core.Bool.{Bool, true, false, _&&_, false≢true}
 use mathlib.Core.List.{List, [], _∷_, _++_, map}
-use Prim.Native.Nat.{ℕ, zero, suc, _<_}
+use Prim.Native.Nat.{ℕ, _<_}
 use lib.Dec.{eqb}
 use lib.ListN.{getD, length}
 use Rattle.prelude.specs.Tests.{each, all, any}
@@ -93,7 +93,8 @@ computed c =
     && (withinScopes (sheetOf (c .sheet)) (c .instance) && same (holds (sheetOf (c .sheet)) (c .instance), c .satisfied))
 
 all-computed : all computed cases ≡ true
-unfolding all any each reading counted scoped declared nodesFine shaped rooted walkable table shapeStep freeStep visitsStep rowOf symbolOf treeStep firstCell withinScopes rounds valueOf truthOf marksHold holds
+unfolding all any each reading counted scoped declared nodesFine shaped rooted walkable table shapeStep freeStep visitsStep rowOf
+    symbolOf treeStep firstCell withinScopes rounds valueOf truthOf marksHold holds
 all-computed = refl
 
 -- every row says what the meaning says
