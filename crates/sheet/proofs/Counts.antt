@@ -5,16 +5,8 @@ use Prim.Native.Nat.{ℕ, _≤_}
 use lib.Dec.{leb}
 use borrow.Author.Tests.{leb-true}
 use Rattle.prelude.specs.Tests.{between}
+use Rattle.sheet.specs.Facts.{Counts}
 use Rattle.prelude.proofs.Laws.{and-left, and-right, between-low, between-high}
-
-pub record Counts (sorts variables relations nodes : ℕ) : Type 0 where
-  pub some-sorts : 1 ≤ sorts
-  pub few-sorts : sorts ≤ 8
-  pub few-variables : variables ≤ 4
-  pub some-relations : 1 ≤ relations
-  pub few-relations : relations ≤ 16
-  pub some-nodes : 1 ≤ nodes
-  pub few-nodes : nodes ≤ 200
 
 pub counts : (s x r n : ℕ) → (between 1 8 s && (leb x 4 && (between 1 16 r && between 1 200 n))) ≡ true → Counts s x r n
 counts s x r n e =

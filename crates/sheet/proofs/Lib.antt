@@ -4,4 +4,5 @@ mod FillingLaws
 mod Visits
 mod Verdicts
 mod Counts
+pub mod Acceptance
 mod Parts

@@ -3,3 +3,4 @@ pub mod Shapes
 pub mod Tables
 pub mod Reading
 pub mod Filling
+pub mod Facts

@@ -9,7 +9,8 @@ use Rattle.refusal.specs.declared.Refusal.{Refusal}
 use Rattle.sheet.specs.declared.Reading.{Reading}
 use Rattle.sheet.specs.Blocks.{Sheet, fourBlocks}
 use Rattle.sheet.specs.Reading.{counted, scoped, declared, nodesFine, wholeJudged, countJudged, scopeJudged, declarationJudged, nodeJudged, walkJudged}
-use Rattle.sheet.proofs.Counts.{Counts, counts}
+use Rattle.sheet.specs.Facts.{Counts}
+use Rattle.sheet.proofs.Counts.{counts}
 use Rattle.sheet.proofs.Verdicts.{refuse, pass}
 use borrow.Author.Needs.{needs}
 use Rattle.sheet.proofs.judge.judge_blocks.Statement.{statement}
