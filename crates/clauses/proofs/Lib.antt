@@ -1,0 +1,4 @@
+pub mod Values
+pub mod Gate
+pub mod Build
+pub mod Connect
