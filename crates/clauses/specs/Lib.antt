@@ -1,0 +1,4 @@
+pub mod Builder
+pub mod Gates
+pub mod Translation
+pub mod Whole
