@@ -11,7 +11,7 @@ use Rattle.literal.specs.Literals.{Literal, positive, negative, opposite}
 use Rattle.clauses.specs.Builder.{Gate, Built, Builder, return, _>>=_, _<$>_, each}
 use Rattle.clauses.specs.Gates.{gateOf, or, and, iff}
 use Rattle.clauses.proofs.Values.{value, AllIn, value-opposite, in-opposite}
-use Rattle.clauses.proofs.Gate.{same, length-snoc, get-here}
+use Rattle.clauses.proofs.Gate.{length-snoc, get-here}
 use Rattle.clauses.proofs.Build.{Extends, extends-trans, Right, Means, Pairwise, nothing, more, Mean, One, means-extends, right-return, right-map, right-bind}
 
 -- the bits of a list, all or some of them
@@ -99,18 +99,11 @@ pub right-and-two : (a : List Bool) {x y : Bool} {p q : Literal} → One a → M
     → Right a (and (p ∷ q ∷ []) (length a)) (Means (x && y))
 right-and-two a {x} {y} b mp mq = rw (← every-two x y) (right-and a b (more mp (more mq nothing)))
 
-pub both-implied : (m k : Bool) → ((not m || k) && (not k || m)) ≡ same m k
-both-implied true true = refl
-both-implied true false = refl
-both-implied false true = refl
-both-implied false false = refl
-
 pub right-iff : (a : List Bool) {x y : Bool} {p q : Literal} → One a → Means x a p → Means y a q
-    → Right a (iff p q (length a)) (Means (same x y))
+    → Right a (iff p q (length a)) (Means ((not x || y) && (not y || x)))
 right-iff a {x} {y} {p} {q} b mp mq =
-    rw (← both-implied x y)
-    (right-bind a (or (opposite p ∷ q ∷ [])) (λ l. or (opposite q ∷ p ∷ []) >>= λ k. and (l ∷ k ∷ [])) (Means (not x || y)) _
+    right-bind a (or (opposite p ∷ q ∷ [])) (λ l. or (opposite q ∷ p ∷ []) >>= λ k. and (l ∷ k ∷ [])) (Means (not x || y)) _
     (right-or-two a b (means-opposite mp) mq)
     λ c e l ml. right-bind c (or (opposite q ∷ p ∷ [])) (λ k. and (l ∷ k ∷ [])) (Means (not y || x)) _
     (right-or-two c (means-extends e b) (means-opposite (means-extends e mq)) (means-extends e mp))
-    λ d f k mk. right-and-two d (means-extends (extends-trans e f) b) (means-extends f ml) mk)
+    λ d f k mk. right-and-two d (means-extends (extends-trans e f) b) (means-extends f ml) mk
