@@ -5,4 +5,5 @@ pub mod Connect
 pub mod Operators
 pub mod Counts
 pub mod Walk
+pub mod Rows
 pub mod Cases

@@ -27,19 +27,19 @@ rowClauses zero row = []
 rowClauses (suc zero) row = map pairClause (pairs row)
 rowClauses (suc (suc m)) row = map pairClause (pairs row) ++ (row ∷ [])
 
+-- "the marks, relation by relation, row by row", over the literals of the cells
+module _ (sheet : Sheet) (cells : List Literal) where
+  abbrev pub rowLiterals : ℕ → ℕ → List Literal
+  rowLiterals r i = map (literalAt sheet cells) (from (cell sheet r i 0) (rowLength sheet r))
+
+  unfoldable pub markClauses : List Clause
+  markClauses = series (relationCount sheet) λ r. series (rowCount sheet r) λ i. rowClauses (multiplicity sheet r) (rowLiterals r i)
+
 module _ (sheet : Sheet) where
   -- "Variable 1 is the constant true. Cells come next: relation by relation, row by row, column by column. So the variable of a
   -- cell is 2, plus all cells of earlier relations, plus row times the cells in one row, plus column"
   abbrev pub cellLiterals : List Literal
   cellLiterals = map (λ (i : ℕ). positive (i + 2)) (upto (cellCount sheet))
-
-  -- the literals of row i of relation r
-  abbrev pub rowLiterals : ℕ → ℕ → List Literal
-  rowLiterals r i = map (literalAt sheet cellLiterals) (from (cell sheet r i 0) (rowLength sheet r))
-
-  -- "the marks, relation by relation, row by row"
-  unfoldable pub markClauses : List Clause
-  markClauses = series (relationCount sheet) λ r. series (rowCount sheet r) λ i. rowClauses (multiplicity sheet r) (rowLiterals r i)
 
   -- "the root's walk", after the variables of the cells
   abbrev pub firstGate : ℕ
@@ -52,7 +52,7 @@ module _ (sheet : Sheet) where
   unfoldable pub clauses : List Clause
   clauses =
       (positive 1 ∷ []) ∷
-      (markClauses ++ (gatesClauses firstGate (rootWalk .gates) ++ ((rootWalk .value ∷ []) ∷ [])))
+      (markClauses sheet cellLiterals ++ (gatesClauses firstGate (rootWalk .gates) ++ ((rootWalk .value ∷ []) ∷ [])))
 
   -- "The list lies in a lent slice of 32-bit words, each clause headed by its literal count."
   unfoldable pub words : List ℤ
