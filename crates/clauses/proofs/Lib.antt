@@ -6,4 +6,6 @@ pub mod Operators
 pub mod Counts
 pub mod Walk
 pub mod Rows
+pub mod Ranges
+pub mod Parts
 pub mod Cases

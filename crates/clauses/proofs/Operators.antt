@@ -127,8 +127,8 @@ module _ (a : List Bool) (o : One a) (m n : Matrix Bool) (ls ks : List Literal) 
   right-join-cells =
       right-list (λ t. each both (middles absent (sized m ls) (sized n ks) t) >>= or) (λ t. any e.both (middles false m n t)) a
       (λ b f t.
-        right-join-cell b (means-extends f o) (middles absent (sized m ls) (sized n ks) t) (middles false m n t)
-        (middles-mean b (means-extends f o) m n ls ks (mean-extends f p) (mean-extends f q) t))
+      right-join-cell b (means-extends f o) (middles absent (sized m ls) (sized n ks) t) (middles false m n t)
+      (middles-mean b (means-extends f o) m n ls ks (mean-extends f p) (mean-extends f q) t))
       (joinPlaces m n)
 
   right-binary-sized : (k : Binary) → Right a (translateBinary k (sized m ls) (sized n ks) (length a)) (MeansMatrix (e.valueBinary k m n))
@@ -138,12 +138,12 @@ module _ (a : List Bool) (o : One a) (m n : Matrix Bool) (ls ks : List Literal) 
   right-binary-sized join =
       right-map a (joinSize (sized m ls) (sized n ks)) (joinCells (sized m ls) (sized n ks)) (Mean (e.joinCells m n)) _ right-join-cells
       λ b f cells r.
-        record {
-          sizes =
+      record {
+        sizes =
             join-sized m n ls ks cells (e.joinCells m n)
             ∙ ap (sized (joinSize m n (e.joinCells m n))) (sym (join-cells (sized m ls) (sized n ks) cells));
-          cells = rw (join-cells m n (e.joinCells m n), join-cells (sized m ls) (sized n ks) cells) r;
-        }
+        cells = rw (join-cells m n (e.joinCells m n), join-cells (sized m ls) (sized n ks) cells) r;
+      }
   right-binary-sized product =
       right-map a (productSize (sized m ls) (sized n ks)) (each both (crossed absent (sized m ls) (sized n ks))) (Mean (map e.both (crossed false m n))) _
       (right-twos both e.both right-both a o (crossed-mean a o m n ls ks p q)) λ b f cells r. record { sizes = refl; cells = r }

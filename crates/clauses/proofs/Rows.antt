@@ -58,5 +58,5 @@ module _ (sheet : Sheet) (instance : List ℕ) where
     marks-mean =
         satisfied-series a (relationCount sheet) _
         ∙ each-cong _ _ (relationCount sheet) (λ r below.
-          satisfied-series a (rowCount sheet r) _
-          ∙ each-cong _ _ (rowCount sheet r) (λ i low. row-mean (multiplicity sheet r) a (row-literals r i)))
+        satisfied-series a (rowCount sheet r) _
+        ∙ each-cong _ _ (rowCount sheet r) (λ i low. row-mean (multiplicity sheet r) a (row-literals r i)))

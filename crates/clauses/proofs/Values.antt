@@ -58,6 +58,10 @@ pub clauses-in-append : (n : ℕ) (cs ds : List Clause) → ClausesIn n cs → C
 clauses-in-append n [] ds i j = j
 clauses-in-append n (c ∷ cs) ds i j = (i .0, clauses-in-append n cs ds (i .1) j)
 
+pub clauses-in-split : (n : ℕ) (cs ds : List Clause) → ClausesIn n (cs ++ ds) → ClausesIn n cs × ClausesIn n ds
+clauses-in-split n [] ds i = (tt, i)
+clauses-in-split n (c ∷ cs) ds i = let r = clauses-in-split n cs ds (i .1) in ((i .0, r .0), r .1)
+
 -- what comes later does not change the value of a literal
 pub value-extends : (a b : List Bool) (l : Literal) → In (length a) l → value (a ++ b) l ≡ value a l
 value-extends a b (positive v) i = List·getD-append a b false v (i .high)

@@ -81,6 +81,7 @@ module _ (sheet : Sheet) (instance : List ℕ) (cells : List Literal) where
 
   mutual
     unfolding translate valueOf
+
     pub right-translate : (t : Expression) (env : Environment) (a : List Bool) → Ready a
         → Right a (translate sheet cells t env (length a)) (MeansMatrix (valueOf sheet instance t env))
     right-translate (leaf l k) env a r = right-return a _ (MeansMatrix (valueLeaf sheet instance l k env)) (means-leaf l k env r)
