@@ -8,4 +8,6 @@ pub mod Walk
 pub mod Rows
 pub mod Ranges
 pub mod Parts
+pub mod Bytes
+pub mod Match
 pub mod Cases

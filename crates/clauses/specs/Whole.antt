@@ -2,7 +2,7 @@
 use mathlib.Core.List.{List, [], _∷_, _++_, map}
 use Prim.Native.Nat.{ℕ, zero, suc, pred, _+_}
 use lib.IntN.{ℤ}
-use lib.ListN.{length, getD}
+use lib.ListN.{length, take, drop}
 use Rattle.literal.specs.Literals.{Literal, positive, opposite, wordOf}
 use Rattle.clause_list.specs.ClauseList.{wordsOf}
 use Rattle.sheet.specs.Blocks.{Sheet, relationCount, multiplicity}
@@ -39,11 +39,11 @@ module _ (sheet : Sheet) where
   -- "Variable 1 is the constant true. Cells come next: relation by relation, row by row, column by column. So the variable of a
   -- cell is 2, plus all cells of earlier relations, plus row times the cells in one row, plus column"
   abbrev pub cellLiterals : List Literal
-  cellLiterals = map (λ (i : ℕ). positive (i + 2)) (upto (cellCount sheet))
+  cellLiterals = map (λ (i : ℕ). positive (2 + i)) (upto (cellCount sheet))
 
   -- "the root's walk", after the variables of the cells
   abbrev pub firstGate : ℕ
-  firstGate = cellCount sheet + 2
+  firstGate = 2 + cellCount sheet
 
   unfoldable pub rootWalk : Built Literal
   rootWalk = translateTree sheet cellLiterals (rootTree sheet) firstGate
@@ -67,3 +67,7 @@ module _ (sheet : Sheet) where
 
   abbrev pub wordTotal : ℕ
   wordTotal = length words
+
+  -- "An instance is one byte for each cell, in variable order; read-back copies the cells' values there."
+  abbrev pub readBack : List ℕ → List ℕ
+  readBack values = take (cellCount sheet) (drop 1 values)
