@@ -2,3 +2,4 @@ pub mod Builder
 pub mod Gates
 pub mod Translation
 pub mod Whole
+pub mod Answers
