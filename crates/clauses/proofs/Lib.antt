@@ -10,4 +10,5 @@ pub mod Ranges
 pub mod Parts
 pub mod Bytes
 pub mod Match
+pub mod Theorems
 pub mod Cases

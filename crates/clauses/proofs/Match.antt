@@ -11,7 +11,7 @@ use borrow.Author.Tests.{eqb-true, eq-eqb}
 use Rattle.prelude.specs.Tests.{all, any}
 use Rattle.prelude.proofs.Laws.{and-left, and-right, and-both}
 use Rattle.literal.specs.Literals.{Literal, positive, wordOf}
-use Rattle.clause_list.specs.ClauseList.{clausesOf, wordsOf, isTrue, Satisfying}
+use Rattle.clause_list.specs.ClauseList.{clausesOf, isTrue}
 use Rattle.clause_list.proofs.Laws.{clauses-words}
 use Rattle.sheet.specs.Blocks.{Sheet}
 use Rattle.relational.specs.Trees.{rootTree}
@@ -22,7 +22,8 @@ use Rattle.clauses.specs.Builder.{Built, return, _<$>_}
 use Rattle.clauses.specs.Gates.{Clause, gatesClauses}
 use Rattle.clauses.specs.Translation.{translateTree}
 use Rattle.clauses.specs.Whole.{cellLiterals, markClauses, rootWalk, clauses, words, variableTotal, readBack}
-use Rattle.clauses.proofs.Values.{value, satisfied, ClausesIn}
+use Rattle.clauses.specs.Matching.{Assignment, ReadBackOnce}
+use Rattle.clauses.proofs.Values.{satisfied, ClausesIn}
 use Rattle.clauses.proofs.Gate.{get-here}
 use Rattle.clauses.proofs.Build.{Means, Pairwise, nothing, more, Mean, One, right-return, right-map}
 use Rattle.clauses.proofs.Connect.{every}
@@ -120,9 +121,6 @@ module _ (sheet : Sheet) where
   clauses-of-words = clauses-words (map (map wordOf) (clauses sheet))
 
   -- ---- assignments, in bytes and in bits
-  abbrev pub Assignment : List ℕ → Type 0
-  Assignment a = Satisfying (variableTotal sheet) (clausesOf (words sheet)) a
-
   same-clauses : (a : List ℕ) → all isBit a ≡ true → length a ≡ variableTotal sheet
       → all (any (isTrue a)) (clausesOf (words sheet)) ≡ satisfied (false ∷ flags a) (partsClauses sheetParts)
   same-clauses a h e =
@@ -130,14 +128,14 @@ module _ (sheet : Sheet) where
       ∙ clauses-value a h (clauses sheet) (subst (λ (n : ℕ). ClausesIn (suc n) (clauses sheet)) (sym e) clauses-in)
       ∙ ap (satisfied (false ∷ flags a)) clauses-are
 
-  solves : (a : List ℕ) → Assignment a → Solves sheetParts (flags a)
+  solves : (a : List ℕ) → Assignment sheet a → Solves sheetParts (flags a)
   solves a h =
       record {
         size = length-map a (λ (b : ℕ). eqb b 1) ∙ h .size ∙ variables-are;
         holds = sym (same-clauses a (h .bits) (h .size)) ∙ h .holds;
       }
 
-  solved : (b : List Bool) → Solves sheetParts b → Assignment (bytes b)
+  solved : (b : List Bool) → Solves sheetParts b → Assignment sheet (bytes b)
   solved b h =
       let e : length (bytes b) ≡ variableTotal sheet = length-map b byteOf ∙ h .size ∙ sym variables-are in
       record {
@@ -190,19 +188,13 @@ module _ (sheet : Sheet) where
       }
 
   -- ---- the match
-  pub reads-instance : (a : List ℕ) → Assignment a → Instance (readBack sheet a)
+  pub reads-instance : (a : List ℕ) → Assignment sheet a → Instance (readBack sheet a)
   unfolding sheet-stores
   reads-instance a h =
       subst Instance (read-bytes a (h .bits))
       (instance-of (readBits (flags a)) (reads-meet sheetParts sheetDemand sheet-stores (flags a) (solves a h)))
 
-  pub record ExactlyOne (i : List ℕ) : Type 0 where
-    pub assignment : List ℕ
-    pub satisfying : Assignment assignment
-    pub reads : readBack sheet assignment ≡ i
-    pub only : (a : List ℕ) → Assignment a → readBack sheet a ≡ i → a ≡ assignment
-
-  pub exactly-one : (i : List ℕ) → Instance i → ExactlyOne i
+  pub exactly-one : (i : List ℕ) → Instance i → ReadBackOnce sheet i
   unfolding withinScopes sheet-stores
   exactly-one i h =
       let o = once sheetParts sheetDemand sheet-stores (flags i) (meets-of i h) in

@@ -3,3 +3,4 @@ pub mod Gates
 pub mod Translation
 pub mod Whole
 pub mod Answers
+pub mod Matching
