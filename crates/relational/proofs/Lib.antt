@@ -9,3 +9,7 @@ pub mod Joins
 pub mod Typing
 pub mod Evaluates
 pub mod Multiplicities
+pub mod Rows
+pub mod WellShaped
+pub mod Free
+pub mod Satisfaction
