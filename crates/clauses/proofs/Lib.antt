@@ -10,5 +10,7 @@ pub mod Ranges
 pub mod Parts
 pub mod Bytes
 pub mod Match
+pub mod Accepted
+pub mod Listed
 pub mod Theorems
 pub mod Cases

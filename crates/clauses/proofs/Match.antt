@@ -32,7 +32,7 @@ use Rattle.clauses.proofs.Rows.{marks-mean}
 use Rattle.clauses.proofs.Ranges.{marks-in}
 use Rattle.clauses.proofs.Bytes.{isBit, byteOf, bytes, flags-bytes, bytes-flags, bytes-bits, take-bits, drop-bits, take-flags, drop-flags, clauses-value, clauses-literals}
 use Rattle.clauses.proofs.Parts as p
-use Rattle.clauses.proofs.Parts.{Parts, Demand, Meets, Solves, Stores, Once, partsClauses, partsVariables, start, start-one, parts-in, reads-meet, once}
+use Rattle.clauses.proofs.Parts.{Parts, Demand, Meets, Solves, Stores, Once, partsClauses, partsVariables, start, start-one, parts-in, parts-variables, reads-meet, once}
 
 two : (n : ℕ) → 2 + n ≡ suc (suc n)
 two n = omega arith
@@ -115,6 +115,9 @@ module _ (sheet : Sheet) where
   pub clauses-in : ClausesIn (suc (variableTotal sheet)) (clauses sheet)
   clauses-in =
       subst₂ (λ (n : ℕ) (cs : List Clause). ClausesIn (suc n) cs) (sym variables-are) (sym clauses-are) (parts-in sheetParts sheetDemand sheet-stores)
+
+  pub some-variable : 1 ≤ variableTotal sheet
+  some-variable = omega (arith, variables-are, parts-variables sheetParts sheetDemand sheet-stores)
 
   pub clauses-of-words : clausesOf (words sheet) ≡ map (map wordOf) (clauses sheet)
   unfolding words

@@ -227,8 +227,8 @@ module _ (p : Parts) (q : Demand) (s : Stores p q) where
       )
       (shuffle (value a (positive 1)) (satisfied a d₁) (satisfied a c₁) (satisfied a d₂) (satisfied a c₂))
 
-  variables-are : partsVariables p ≡ suc (p .free) + length gates
-  variables-are =
+  pub parts-variables : partsVariables p ≡ suc (p .free) + length gates
+  parts-variables =
       let e : firstGate p + length gates ≡ suc (suc (p .free) + length gates) = omega arith in
       ap pred (any-made .next ∙ e)
 
@@ -236,8 +236,8 @@ module _ (p : Parts) (q : Demand) (s : Stores p q) where
   pub parts-in : ClausesIn (suc (partsVariables p)) (partsClauses p)
   parts-in =
       let n : ℕ = suc (partsVariables p) in
-      let e : walked p .next ≡ n = omega (arith, any-made .next, variables-are) in
-      let f : firstGate p + length gates ≤ n = omega (arith, variables-are) in
+      let e : walked p .next ≡ n = omega (arith, any-made .next, parts-variables) in
+      let f : firstGate p + length gates ≤ n = omega (arith, parts-variables) in
       let i = subst (λ (k : ℕ). AllIn k (stored p .value) × AllIn k (walked p .value)) e (any-made .inside) in
       let d₁ : List Clause = gatesClauses (firstGate p) (stored p .gates) in
       let d₂ : List Clause = gatesClauses (stored p .next) (walked p .gates) in
@@ -266,7 +266,7 @@ module _ (p : Parts) (q : Demand) (s : Stores p q) where
 
   split : (b : List Bool) → Solves p b → Split b
   split b h =
-      let t = apart (p .free) gates further (partsClauses p) (any-made .scoped) law b (h .size ∙ variables-are) (h .holds) in
+      let t = apart (p .free) gates further (partsClauses p) (any-made .scoped) law b (h .size ∙ parts-variables) (h .holds) in
       let x : List Bool = t .0 in
       let y : List Bool = s .decode x in
       let m : (s .allowed x && (q .agrees y && every (q .facts y))) ≡ true = sym (made x (t .1) .means) ∙ t .3 in
@@ -297,7 +297,7 @@ module _ (p : Parts) (q : Demand) (s : Stores p q) where
         assignment = true ∷ (x ++ outputs (start x) gates);
         solves =
             record {
-              size = omega (arith, length-append x (outputs (start x) gates), length-outputs (start x) gates, variables-are, o .0);
+              size = omega (arith, length-append x (outputs (start x) gates), length-outputs (start x) gates, parts-variables, o .0);
               holds = together (p .free) gates further (partsClauses p) (any-made .scoped) law x (o .0) (made x (o .0) .means ∙ m);
             };
         reads = ap (s .decode) (read-bits x (outputs (start x) gates) (o .0)) ∙ o .2;
