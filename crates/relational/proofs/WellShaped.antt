@@ -190,7 +190,7 @@ module _ (sheet : Sheet) where
   -- ---- every symbol
   module _ (declared : (r : ℕ) → r < relationCount sheet → (columns sheet r ≡ 1) ⊎ (columns sheet r ≡ 2)) where
     right-symbol : (s : Symbol) (v a : ℕ) → fieldFine sheet (rowOfSymbol s .a) v a ≡ true → {x y : Shape} {t u : Tree} → Right x t → Right y u
-        → Right (shapeBy (rowOfSymbol s .rule) sheet a x y) (treeBy s a t u)
+        → Right (shapeBy (rowOfSymbol s .rule) a (declaredShape sheet a) (sortOf sheet a) x y) (treeBy s a t u)
     right-symbol (leaf-symbol relation) v a f {t} {u} r q = right-relation a t u (declared a (ltb-true a (relationCount sheet) f))
     right-symbol (leaf-symbol variable) v a f r q =
         is-set (of-variable a (sortOf sheet a) (ltb-true a (variableCount sheet) f) refl)
