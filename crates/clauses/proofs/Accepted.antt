@@ -1,4 +1,4 @@
--- What an accepted sheet gives: none of the conditions 1 to 9 applies to it.
+-- Each row of a relation of an accepted sheet has a cell: conditions 4 and 5 of reading.
 use mathlib.Core.Path.{_≡_, refl, sym, ap, _∙_}
 use mathlib.Core.Bool.{Bool, true, false, not, _&&_, cond, false≢true}
 use mathlib.Core.List.{List}
@@ -8,61 +8,27 @@ use borrow.Author.Tests.{ltb-true}
 use Rattle.prelude.specs.Tests.{between, each}
 use Rattle.prelude.proofs.Laws.{and-left, and-right, between-low, each-at, decided}
 use Rattle.refusal.specs.declared.Refusal.{Refusal}
-use Rattle.sheet.specs.declared.Layout.{Layout}
 use Rattle.sheet.specs.declared.Reading.{Reading}
-use Rattle.sheet.specs.declared.Reading.the-variants.{Accepted, Refused}
 use Rattle.sheet.specs.Blocks.{Sheet, sheetOf, sortCount, scope, variableCount, sortOf, relationCount, columns, multiplicity, firstSort, secondSort}
-use Rattle.sheet.specs.Reading.{badVersion, badLength, counted, scoped, declared, isSort, relationDeclared, nodesFine, shaped, rooted, walkable, unless, reading}
+use Rattle.sheet.specs.Reading.{badVersion, badLength, counted, scoped, declared, isSort, relationDeclared, unless, reading}
 use Rattle.relational.specs.Cells.{isSet, rowLength}
-use Rattle.relational.proofs.Satisfaction.{Sound, sound}
+use Rattle.relational.proofs.Accepted.{isAccepted}
 
-isAccepted : Reading → Bool
-isAccepted (Accepted layout) = true
-isAccepted (Refused refusal) = false
+passed : (b : Bool) (r : Refusal) (next : Reading) → isAccepted (unless b r next) ≡ true → (b ≡ true) × (isAccepted next ≡ true)
+passed true r next e = (refl, e)
+passed false r next e = absurd (false≢true e)
 
-passed : (b : Bool) (r : Refusal) (next : Reading) (layout : Layout) → unless b r next ≡ Accepted layout → (b ≡ true) × (next ≡ Accepted layout)
-unfolding isAccepted
-passed true r next layout e = (refl, e)
-passed false r next layout e = absurd (false≢true (ap isAccepted e))
-
--- the conditions 3 to 9 of reading
-pub record Conditions (sheet : Sheet) : Type 0 where
-  pub counted : counted sheet ≡ true
-  pub scoped : scoped sheet ≡ true
-  pub declared : declared sheet ≡ true
-  pub nodesFine : nodesFine sheet ≡ true
-  pub shaped : shaped sheet ≡ true
-  pub rooted : rooted sheet ≡ true
-  pub walkable : walkable sheet ≡ true
-
-module _ (bytes : List ℕ) (layout : Layout) (accepted : reading bytes ≡ Accepted layout) where
-  pub conditions : Conditions (sheetOf bytes)
+module _ (s : List ℕ) (accepted : isAccepted (reading s) ≡ true) where
+  -- condition 4 does not apply, nor condition 5
+  pub accepted-declared : (scoped (sheetOf s) ≡ true) × (declared (sheetOf s) ≡ true)
   unfolding reading
-  conditions =
-      let sheet : Sheet = sheetOf bytes in
-      let c₁ = passed (not (badVersion bytes)) Refusal.Version _ layout accepted in
-      let c₂ = passed (not (badLength bytes)) Refusal.Length _ layout (c₁ .1) in
-      let c₃ = passed (counted sheet) Refusal.Count _ layout (c₂ .1) in
-      let c₄ = passed (scoped sheet) Refusal.Scope _ layout (c₃ .1) in
-      let c₅ = passed (declared sheet) Refusal.Declaration _ layout (c₄ .1) in
-      let c₆ = passed (nodesFine sheet) Refusal.Node _ layout (c₅ .1) in
-      let c₇ = passed (shaped sheet) Refusal.Shape _ layout (c₆ .1) in
-      let c₈ = passed (rooted sheet) Refusal.Root _ layout (c₇ .1) in
-      let c₉ = passed (walkable sheet) Refusal.Walk _ layout (c₈ .1) in
-      record {
-        counted = c₃ .0;
-        scoped = c₄ .0;
-        declared = c₅ .0;
-        nodesFine = c₆ .0;
-        shaped = c₇ .0;
-        rooted = c₈ .0;
-        walkable = c₉ .0;
-      }
-
-  pub accepted-sound : Sound (sheetOf bytes)
-  accepted-sound =
-      let c = conditions in
-      sound (sheetOf bytes) (c .scoped) (c .declared) (c .nodesFine) (c .rooted)
+  accepted-declared =
+      let sheet : Sheet = sheetOf s in
+      let versioned = passed (not (badVersion s)) Refusal.Version _ accepted in
+      let filled = passed (not (badLength s)) Refusal.Length _ (versioned .1) in
+      let right-counts = passed (counted sheet) Refusal.Count _ (filled .1) in
+      let right-scopes = passed (scoped sheet) Refusal.Scope _ (right-counts .1) in
+      (right-scopes .0, passed (declared sheet) Refusal.Declaration _ (right-scopes .1) .0)
 
 -- each row of a relation has a cell
 module _ (sheet : Sheet) (s : scoped sheet ≡ true) (d : declared sheet ≡ true) where
@@ -71,7 +37,7 @@ module _ (sheet : Sheet) (s : scoped sheet ≡ true) (d : declared sheet ≡ tru
   scope-some k h =
       between-low 1 8 (scope sheet k) (each-at (λ i. between 1 8 (scope sheet i)) (sortCount sheet) s k (ltb-true k (sortCount sheet) h))
 
-  pub row-some : (r : ℕ) → r < relationCount sheet → 1 ≤ rowLength sheet r
+  row-some : (r : ℕ) → r < relationCount sheet → 1 ≤ rowLength sheet r
   unfolding declared
   row-some r l = go (isSet sheet r) (and-right first ends (and-right (leb (multiplicity sheet r) 2) (first && ends) fields))
     where
@@ -91,3 +57,7 @@ module _ (sheet : Sheet) (s : scoped sheet ≡ true) (d : declared sheet ≡ tru
           → 1 ≤ cond b (scope sheet (firstSort sheet r)) (scope sheet (secondSort sheet r))
       go true h = scope-some (firstSort sheet r) (and-left first ends (and-right (leb (multiplicity sheet r) 2) (first && ends) fields))
       go false h = scope-some (secondSort sheet r) h
+
+pub accepted-rows : (s : List ℕ) → isAccepted (reading s) ≡ true
+    → (r : ℕ) → r < relationCount (sheetOf s) → 1 ≤ rowLength (sheetOf s) r
+accepted-rows s e = let d = accepted-declared s e in row-some (sheetOf s) (d .0) (d .1)

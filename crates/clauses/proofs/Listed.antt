@@ -9,7 +9,7 @@ use lib.ListN.{length, length-map}
 use borrow.Author.Tests.{le-leb}
 use Rattle.prelude.specs.Tests.{all}
 use Rattle.prelude.proofs.Laws.{and-both, all-append, all-map}
-use Rattle.literal.specs.Literals.{Literal, wordOf}
+use Rattle.literal.specs.Literals.{Literal, negative, wordOf}
 use Rattle.clause_list.specs.ClauseList.{isList}
 use Rattle.clause_list.proofs.Laws.{hasLiteral, words-list}
 use Rattle.sheet.specs.Blocks.{Sheet, relationCount, multiplicity}
@@ -45,7 +45,7 @@ unfolding gatesClauses all
 gates-some g [] = refl
 gates-some g (ls ∷ gates) =
     append-some (gateClauses g ls) (gatesClauses (suc g) gates)
-    (append-some (inputClauses g ls) _ (inputs-some g ls) (cons-some _ [] (some-cons _ ls) refl)) (gates-some (suc g) gates)
+    (append-some (inputClauses g ls) _ (inputs-some g ls) (cons-some (negative g ∷ ls) [] (some-cons (negative g) ls) refl)) (gates-some (suc g) gates)
 
 pairs-some : (ts : List Two) → all isSome (map pairClause ts) ≡ true
 unfolding all
@@ -67,6 +67,11 @@ length-from : (s n : ℕ) → length (from s n) ≡ n
 length-from s zero = refl
 length-from s (suc n) = ap suc (length-from (suc s) n)
 
+same-some : (cs : List Clause) → all (λ c. hasLiteral (map wordOf c)) cs ≡ all isSome cs
+unfolding all
+same-some [] = refl
+same-some (c ∷ cs) = rw (length-map c wordOf, same-some cs)
+
 module _ (sheet : Sheet) (rows : (r : ℕ) → r < relationCount sheet → 1 ≤ rowLength sheet r) where
   row-length : (r i : ℕ) → length (rowLiterals sheet (cellLiterals sheet) r i) ≡ rowLength sheet r
   row-length r i =
@@ -76,7 +81,7 @@ module _ (sheet : Sheet) (rows : (r : ℕ) → r < relationCount sheet → 1 ≤
   unfolding markClauses
   marks-some =
       series-some (relationCount sheet) _ λ r l. series-some (rowCount sheet r) _ λ i k.
-        row-some (multiplicity sheet r) (rowLiterals sheet (cellLiterals sheet) r i) (subst (λ (n : ℕ). 1 ≤ n) (sym (row-length r i)) (rows r l))
+      row-some (multiplicity sheet r) (rowLiterals sheet (cellLiterals sheet) r i) (subst (λ (n : ℕ). 1 ≤ n) (sym (row-length r i)) (rows r l))
 
   clauses-some : all isSome (clauses sheet) ≡ true
   unfolding clauses all
@@ -85,12 +90,7 @@ module _ (sheet : Sheet) (rows : (r : ℕ) → r < relationCount sheet → 1 ≤
       (append-some (gatesClauses (firstGate sheet) (rootWalk sheet .gates)) _ (gates-some (firstGate sheet) (rootWalk sheet .gates)) refl)
 
   words-some : all hasLiteral (map (map wordOf) (clauses sheet)) ≡ true
-  words-some = all-map hasLiteral (map wordOf) (clauses sheet) ∙ go (clauses sheet) ∙ clauses-some
-    where
-      go : (cs : List Clause) → all (λ c. hasLiteral (map wordOf c)) cs ≡ all isSome cs
-      unfolding all
-      go [] = refl
-      go (c ∷ cs) = rw (length-map c wordOf, go cs)
+  words-some = all-map hasLiteral (map wordOf) (clauses sheet) ∙ same-some (clauses sheet) ∙ clauses-some
 
   pub words-listed : variableTotal sheet ≤ 16000 → wordTotal sheet ≤ 2147483647 → isList (variableTotal sheet) (words sheet) ≡ true
   unfolding words

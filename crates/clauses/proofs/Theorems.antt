@@ -3,19 +3,23 @@ use mathlib.Core.Path.{_≡_, refl, sym, ap, _∙_, subst}
 use mathlib.Core.Logic.{_↔_}
 use mathlib.Core.Bool.{Bool, true, false}
 use mathlib.Core.List.{List, [], _∷_, _++_, map}
-use Prim.Native.Nat.{ℕ}
+use Prim.Native.Nat.{ℕ, _≤_}
 use lib.ListN.{length}
 use Rattle.prelude.specs.Tests.{any}
 use Rattle.literal.specs.Literals.{Literal, positive}
-use Rattle.sheet.specs.Blocks.{Sheet}
+use Rattle.clause_list.specs.ClauseList.{isList}
+use Rattle.sheet.specs.declared.Layout.{Layout}
+use Rattle.sheet.specs.declared.Reading.the-variants.{Accepted}
+use Rattle.sheet.specs.Blocks.{Sheet, sheetOf}
+use Rattle.sheet.specs.Reading.{reading}
 use Rattle.relational.specs.Trees.{Expression, Formula}
-use Rattle.relational.specs.Cells.{withinScopes}
-use Rattle.relational.specs.Meaning.{Environment, Satisfies}
-use Rattle.relational.specs.Evaluation.{holds, valueOf, truthOf}
+use Rattle.relational.specs.Meaning.{Environment}
+use Rattle.relational.specs.Evaluation.{valueOf, truthOf}
+use Rattle.relational.proofs.Accepted.{isAccepted, accepted-holds}
 use Rattle.clauses.specs.Builder.{Gate, Built}
 use Rattle.clauses.specs.Gates.{gateClauses, gatesClauses}
 use Rattle.clauses.specs.Translation.{translate, translateFormula}
-use Rattle.clauses.specs.Whole.{readBack}
+use Rattle.clauses.specs.Whole.{words, variableTotal, wordTotal, readBack}
 use Rattle.clauses.specs.Matching.{Match}
 use Rattle.clauses.proofs.Values.{value, satisfied}
 use Rattle.clauses.proofs.Gate as g
@@ -23,6 +27,8 @@ use Rattle.clauses.proofs.Gate.{outputs, Scoped, solved, solved-only, l
 use Rattle.clauses.proofs.Connect.{mean-values}
 use Rattle.clauses.proofs.Walk.{Ready, right-translate, right-translate-formula}
 use Rattle.clauses.proofs.Match.{reads-instance, exactly-one}
+use Rattle.clauses.proofs.Accepted.{accepted-rows}
+use Rattle.clauses.proofs.Listed.{words-listed}
 
 -- `gate`: the clauses of a gate hold exactly when its variable equals the OR of its inputs
 pub gate : (a : List Bool) (g : ℕ) (inputs : Gate)
@@ -62,15 +68,19 @@ module _ (sheet : Sheet) (instance : List ℕ) (cells : List Literal) (env : Env
       let r = right-translate sheet instance cells e env a ready in
       record { extends = extension a _ (r .scoped); next = r .next; meant = mean-values (r .gives .cells) }
 
--- `match`: instances within the scopes that satisfy marks and formula are read back from exactly one satisfying assignment, and
--- every satisfying assignment reads back to one
-module _ (sheet : Sheet) where
-  module _ (bridge : (i : List ℕ) → withinScopes sheet i ≡ true → (holds sheet i ≡ true) ↔ Satisfies sheet i) where
-    pub match : Match sheet
-    match =
-        record {
-          once = λ i s. exactly-one sheet i record { within = s .within; holds = bridge i (s .within) .1 (s .satisfies) };
-          reads = λ a s.
-              let r = reads-instance sheet a s in
-              record { within = r .within; satisfies = bridge (readBack sheet a) (r .within) .0 (r .holds) };
-        }
+-- `match`: for every accepted sheet, instances within the scopes that satisfy marks and formula are read back from exactly one
+-- satisfying assignment, and every satisfying assignment reads back to one
+module _ (s : List ℕ) (layout : Layout) (accepted : reading s ≡ Accepted layout) where
+  pub match : Match (sheetOf s)
+  match =
+      record {
+        once = λ i h. exactly-one (sheetOf s) i record { within = h .within; holds = accepted-holds s layout accepted i .1 (h .satisfies) };
+        reads = λ a h.
+            let r = reads-instance (sheetOf s) a h in
+            record { within = r .within; satisfies = accepted-holds s layout accepted (readBack (sheetOf s) a) .0 (r .holds) };
+      }
+
+  -- `listed`: the search takes the clauses as they are written, where they fit the limits
+  pub listed : variableTotal (sheetOf s) ≤ 16000 → wordTotal (sheetOf s) ≤ 2147483647
+      → isList (variableTotal (sheetOf s)) (words (sheetOf s)) ≡ true
+  listed = words-listed (sheetOf s) (accepted-rows s (ap isAccepted accepted))
