@@ -1,15 +1,16 @@
 -- Each row of a relation of an accepted sheet has a cell: conditions 4 and 5 of reading.
-use mathlib.Core.Path.{_≡_, refl, sym, ap, _∙_}
+use mathlib.Core.Path.{_≡_, refl}
 use mathlib.Core.Bool.{Bool, true, false, not, _&&_, cond, false≢true}
 use mathlib.Core.List.{List}
 use Prim.Native.Nat.{ℕ, _≤_, _<_}
-use lib.Dec.{eqb, leb, ltb}
+use lib.Dec.{eqb, leb}
 use borrow.Author.Tests.{ltb-true}
 use Rattle.prelude.specs.Tests.{between, each}
-use Rattle.prelude.proofs.Laws.{and-left, and-right, between-low, each-at, decided}
+use Rattle.prelude.proofs.Laws.{and-left, and-right, between-low, each-at}
 use Rattle.refusal.specs.declared.Refusal.{Refusal}
 use Rattle.sheet.specs.declared.Reading.{Reading}
-use Rattle.sheet.specs.Blocks.{Sheet, sheetOf, sortCount, scope, variableCount, sortOf, relationCount, columns, multiplicity, firstSort, secondSort}
+use Rattle.sheet.specs.Blocks.{Sheet, sheetOf, sortCount, scope, variableCount, sortOf, relationCount, columns, multiplicity, firstSort}
+use Rattle.sheet.specs.Blocks.{secondSort}
 use Rattle.sheet.specs.Reading.{badVersion, badLength, counted, scoped, declared, isSort, relationDeclared, unless, reading}
 use Rattle.relational.specs.Cells.{isSet, rowLength}
 use Rattle.relational.proofs.Accepted.{isAccepted}

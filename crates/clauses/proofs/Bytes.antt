@@ -1,17 +1,15 @@
 -- Bits and bytes: assignments and instances are lists of bytes 0 and 1; the laws of clauses are stated over bits.
-use mathlib.Core.Path.{_≡_, refl, sym, ap, _∙_, subst}
-use mathlib.Core.Bool.{Bool, true, false, not, _&&_, _||_, cond}
+use mathlib.Core.Path.{_≡_, refl, sym, ap, _∙_}
+use mathlib.Core.Bool.{Bool, true, false, not, cond}
 use mathlib.Core.List.{List, [], _∷_, map}
-use Prim.Native.Nat.{ℕ, zero, suc, pred, _≤_, _<_}
+use Prim.Native.Nat.{ℕ, zero, suc, _≤_}
 use native.Mathlib.Nat.{le-of-suc-le-suc, not-suc-le-zero}
-use native.Mathlib.Omega.{arith}
 use lib.Dec.{eqb, leb}
-use lib.IntN.{ℤ, pos, negsuc, natAbs}
-use lib.ListN.{length, getD, take, drop, length-map}
+use lib.ListN.{length, getD, take, drop}
 use borrow.Author.Tests.{leb-true}
 use Rattle.prelude.specs.Tests.{all, any}
-use Rattle.prelude.proofs.Laws.{and-left, and-right, and-both, all-at, clash}
-use Rattle.literal.specs.Literals.{Literal, positive, negative, variable, wordOf}
+use Rattle.prelude.proofs.Laws.{and-left, and-right, and-both, all-at}
+use Rattle.literal.specs.Literals.{Literal, positive, negative, wordOf}
 use Rattle.literal.proofs.Words.{word-is-literal}
 use Rattle.literal.specs.Literals.{isLiteral}
 use Rattle.clause_list.specs.ClauseList.{isTrue}

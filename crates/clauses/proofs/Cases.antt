@@ -1,10 +1,8 @@
 -- Cases of document 01, computed from the bytes of the sheet: K1, K2, K5, K6, and "r equal r".
-use mathlib.Core.Path.{_≡_, refl, sym, ap, _∙_}
-use mathlib.Core.Bool.{Bool, true, false}
-use mathlib.Core.List.{List, [], _∷_, _++_}
+use mathlib.Core.Path.{_≡_, refl, ap}
+use mathlib.Core.List.{List, [], _∷_}
 use Prim.Native.Nat.{ℕ}
-use lib.ListN.{length}
-use lib.IntN.{ℤ, pos, negsuc}
+use lib.IntN.{pos, negsuc}
 use Rattle.prelude.specs.Tests.{each}
 use Rattle.kinds.specs.Kinds.{rowOf}
 use Rattle.literal.specs.Literals.{Literal, positive, negative}
@@ -17,10 +15,10 @@ use Rattle.relational.specs.Cells.{firstCell}
 use Rattle.relational.specs.Matrices.{Matrix, rounds}
 use Rattle.clauses.specs.Builder as b
 use Rattle.clauses.specs.Builder.{return}
-use Rattle.clauses.specs.Gates.{Clause, or, inputClauses, gatesClauses}
+use Rattle.clauses.specs.Gates.{or, inputClauses, gatesClauses}
 use Rattle.clauses.specs.Translation.{afterRounds, translate, translateUnary}
 use Rattle.clauses.specs.Whole.{series, markClauses, rootWalk, clauses, words, variableTotal}
-use Rattle.clauses.specs.Answers.{Answer, fits, countAnswer}
+use Rattle.clauses.specs.Answers.{fits, countAnswer}
 
 -- one sort of two atoms, one set with a mark, two nodes: the set, and a node of the given kind and fields
 abbrev pub small : ℕ → ℕ → ℕ → ℕ → List ℕ

@@ -1,18 +1,19 @@
 -- OR, AND and IFF are right. Nothing but `right-or` looks into the rule for OR: another rule with this law changes that rule
 -- and this one proof.
-use mathlib.Core.Path.{_≡_, refl, sym, ap, _∙_, subst}
+use mathlib.Core.Path.{_≡_, refl, sym, ap, _∙_}
 use mathlib.Core.Bool.{Bool, true, false, not, _&&_, _||_, or-false}
-use mathlib.Core.List.{List, [], _∷_, _++_, map}
+use mathlib.Core.List.{List, [], _∷_, map}
 use Prim.Native.Nat.{ℕ, zero, suc}
 use native.Mathlib.Omega.{arith}
 use lib.ListN.{length, getD}
 use Rattle.prelude.specs.Tests.{all, any}
-use Rattle.literal.specs.Literals.{Literal, positive, negative, opposite}
-use Rattle.clauses.specs.Builder.{Gate, Built, Builder, return, _>>=_, _<$>_, each}
+use Rattle.literal.specs.Literals.{Literal, negative, opposite}
+use Rattle.clauses.specs.Builder.{Gate, _>>=_}
 use Rattle.clauses.specs.Gates.{gateOf, or, and, iff}
 use Rattle.clauses.proofs.Values.{value, AllIn, value-opposite, in-opposite}
 use Rattle.clauses.proofs.Gate.{length-snoc, get-here}
-use Rattle.clauses.proofs.Build.{Extends, extends-trans, Right, Means, Pairwise, nothing, more, Mean, One, means-extends, right-return, right-map, right-bind}
+use Rattle.clauses.proofs.Build.{extends-trans, Right, Means, nothing, more, Mean, One, means-extends, right-return, right-map}
+use Rattle.clauses.proofs.Build.{right-bind}
 
 -- the bits of a list, all or some of them
 abbrev pub every : List Bool → Bool

@@ -1,9 +1,9 @@
 -- How many of a list's flags are true: some, none, at most one (by pairs), exactly one.
-use mathlib.Core.Path.{_≡_, refl, sym, ap, _∙_, subst}
-use mathlib.Core.Bool.{Bool, true, false, not, _&&_, _||_, and-assoc}
+use mathlib.Core.Path.{_≡_, refl, sym, ap, _∙_}
+use mathlib.Core.Bool.{Bool, true, false, not, _&&_, _||_}
 use mathlib.Core.List.{List, [], _∷_, _++_, map}
 use Prim.Native.Nat.{ℕ, zero, suc}
-use lib.Dec.{eqb, leb, leb·zero, leb·suc-zero, leb·suc-suc, eqb·zero-suc, eqb·suc-zero, eqb·suc-suc}
+use lib.Dec.{eqb, leb, leb·zero, leb·suc-zero, leb·suc-suc, eqb·suc-zero, eqb·suc-suc}
 use lib.ListN.{length}
 use Rattle.prelude.specs.Tests.{all, any}
 use Rattle.prelude.proofs.Laws.{all-append, all-map}
@@ -11,10 +11,9 @@ use Rattle.literal.specs.Literals.{Literal, opposite}
 use Rattle.relational.specs.Trees.{Test, some, none, lone}
 use Rattle.relational.specs.Matrices.{pairs}
 use Rattle.relational.specs.Evaluation.{count, truthTest}
-use Rattle.clauses.specs.Builder.{Builder, _>>=_, _<$>_, each}
-use Rattle.clauses.specs.Gates.{or, and}
+use Rattle.clauses.specs.Gates.{or}
 use Rattle.clauses.specs.Translation.{Two, apart, translateTest}
-use Rattle.clauses.proofs.Build.{Extends, Right, Means, Pairwise, nothing, more, Mean, One, means-extends, right-map}
+use Rattle.clauses.proofs.Build.{Right, Means, Pairwise, nothing, more, Mean, One, right-map}
 use Rattle.clauses.proofs.Connect as c
 use Rattle.clauses.proofs.Connect.{means-opposite, right-or, right-or-two}
 use Rattle.clauses.proofs.Operators.{Both, RightTwo, right-all}

@@ -1,17 +1,17 @@
 -- The clauses of gates: of one (`gate`), and of a list, which over each assignment below have exactly one solution.
-use mathlib.Core.Path.{_≡_, refl, sym, ap, _∙_, subst}
+use mathlib.Core.Path.{_≡_, refl, sym, ap, _∙_}
 use mathlib.Core.Bool.{Bool, true, false, not, _&&_, _||_}
 use mathlib.Core.Logic.{_↔_}
 use mathlib.Core.List.{List, [], _∷_, _++_, append-assoc, append-nil}
-use Prim.Native.Nat.{ℕ, zero, suc, _+_, _≤_, _<_}
+use Prim.Native.Nat.{ℕ, suc, _+_}
 use native.Mathlib.Omega.{arith}
 use native.Mathlib.Nat.{add-zero}
 use lib.ListN.{length, getD, length-append}
 use Rattle.prelude.specs.Tests.{all, any}
 use Rattle.prelude.proofs.Laws.{and-left, and-right, and-both}
-use Rattle.literal.specs.Literals.{Literal, positive, negative, opposite}
+use Rattle.literal.specs.Literals.{Literal, positive, negative}
 use Rattle.clauses.specs.Builder.{Gate}
-use Rattle.clauses.specs.Gates.{Clause, inputClauses, gateClauses, gatesClauses}
+use Rattle.clauses.specs.Gates.{inputClauses, gateClauses, gatesClauses}
 use Rattle.clauses.proofs.Values.{value, satisfied, satisfied-append, value-opposite, AllIn, any-extends}
 
 -- two bits are the same

@@ -1,8 +1,8 @@
 -- The search takes the list as it is written: number 12 does not apply to the words of an accepted sheet that fits the limits.
 use mathlib.Core.Path.{_≡_, refl, sym, ap, _∙_, subst}
-use mathlib.Core.Bool.{Bool, true, false, _&&_}
+use mathlib.Core.Bool.{Bool, true}
 use mathlib.Core.List.{List, [], _∷_, _++_, map}
-use Prim.Native.Nat.{ℕ, zero, suc, _+_, _≤_, _<_}
+use Prim.Native.Nat.{ℕ, zero, suc, _≤_, _<_}
 use native.Mathlib.Omega.{arith}
 use lib.Dec.{leb}
 use lib.ListN.{length, length-map}
@@ -13,12 +13,13 @@ use Rattle.literal.specs.Literals.{Literal, negative, wordOf}
 use Rattle.clause_list.specs.ClauseList.{isList}
 use Rattle.clause_list.proofs.Laws.{hasLiteral, words-list}
 use Rattle.sheet.specs.Blocks.{Sheet, relationCount, multiplicity}
-use Rattle.relational.specs.Cells.{rowCount, rowLength, cell, cellCount}
+use Rattle.relational.specs.Cells.{rowCount, rowLength, cell}
 use Rattle.relational.specs.Matrices.{from, pairs}
 use Rattle.clauses.specs.Builder.{Gate}
 use Rattle.clauses.specs.Gates.{Clause, inputClauses, gateClauses, gatesClauses}
 use Rattle.clauses.specs.Translation.{Two, literalAt}
-use Rattle.clauses.specs.Whole.{series, pairClause, rowClauses, rowLiterals, markClauses, cellLiterals, firstGate, rootWalk, clauses, words, variableTotal, wordTotal}
+use Rattle.clauses.specs.Whole.{series, pairClause, rowClauses, rowLiterals, markClauses, cellLiterals, firstGate, rootWalk, clauses}
+use Rattle.clauses.specs.Whole.{words, variableTotal, wordTotal}
 use Rattle.clauses.proofs.Bytes.{clauses-literals}
 use Rattle.clauses.proofs.Match.{clauses-in, some-variable}
 

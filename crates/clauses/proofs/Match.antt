@@ -1,12 +1,11 @@
 -- The match for the clauses of a sheet, against the boolean evaluation.
 use mathlib.Core.Path.{_≡_, refl, sym, ap, _∙_, subst, subst₂}
-use mathlib.Core.Bool.{Bool, true, false, not, _&&_, cond, and-true}
+use mathlib.Core.Bool.{Bool, true, false}
 use mathlib.Core.List.{List, [], _∷_, _++_, map, append-assoc}
-use Prim.Native.Nat.{ℕ, zero, suc, pred, _+_, _≤_, _<_}
+use Prim.Native.Nat.{ℕ, suc, pred, _+_, _≤_}
 use native.Mathlib.Omega.{arith}
-use lib.Dec.{eqb, leb}
-use lib.IntN.{ℤ}
-use lib.ListN.{length, getD, take, drop, length-append, length-map, length-take, length-drop}
+use lib.Dec.{eqb}
+use lib.ListN.{length, getD, take, drop, length-append, length-map}
 use borrow.Author.Tests.{eqb-true, eq-eqb}
 use Rattle.prelude.specs.Tests.{all, any}
 use Rattle.prelude.proofs.Laws.{and-left, and-right, and-both}
@@ -18,21 +17,21 @@ use Rattle.relational.specs.Trees.{rootTree}
 use Rattle.relational.specs.Cells.{cellCount, withinScopes}
 use Rattle.relational.specs.Matrices.{from, upto}
 use Rattle.relational.specs.Evaluation.{marksHold, truthOfTree, holds}
-use Rattle.clauses.specs.Builder.{Built, return, _<$>_}
+use Rattle.clauses.specs.Builder.{return, _<$>_}
 use Rattle.clauses.specs.Gates.{Clause, gatesClauses}
 use Rattle.clauses.specs.Translation.{translateTree}
 use Rattle.clauses.specs.Whole.{cellLiterals, markClauses, rootWalk, clauses, words, variableTotal, readBack}
 use Rattle.clauses.specs.Matching.{Assignment, ReadBackOnce}
 use Rattle.clauses.proofs.Values.{satisfied, ClausesIn}
 use Rattle.clauses.proofs.Gate.{get-here}
-use Rattle.clauses.proofs.Build.{Means, Pairwise, nothing, more, Mean, One, right-return, right-map}
-use Rattle.clauses.proofs.Connect.{every}
+use Rattle.clauses.proofs.Build.{Means, nothing, more, Mean, One, right-return, right-map}
 use Rattle.clauses.proofs.Walk.{flags, Ready, right-tree}
 use Rattle.clauses.proofs.Rows.{marks-mean}
 use Rattle.clauses.proofs.Ranges.{marks-in}
-use Rattle.clauses.proofs.Bytes.{isBit, byteOf, bytes, flags-bytes, bytes-flags, bytes-bits, take-bits, drop-bits, take-flags, drop-flags, clauses-value, clauses-literals}
-use Rattle.clauses.proofs.Parts as p
-use Rattle.clauses.proofs.Parts.{Parts, Demand, Meets, Solves, Stores, Once, partsClauses, partsVariables, start, start-one, parts-in, parts-variables, reads-meet, once}
+use Rattle.clauses.proofs.Bytes.{isBit, byteOf, bytes, flags-bytes, bytes-flags, bytes-bits, take-bits, drop-bits, take-flags}
+use Rattle.clauses.proofs.Bytes.{drop-flags, clauses-value}
+use Rattle.clauses.proofs.Parts.{Parts, Demand, Meets, Solves, Stores, partsClauses, partsVariables, start, parts-in}
+use Rattle.clauses.proofs.Parts.{parts-variables, reads-meet, once}
 
 two : (n : ℕ) → 2 + n ≡ suc (suc n)
 two n = omega arith

@@ -1,20 +1,25 @@
 -- Each operator's gates are right: over matrices of literals that mean matrices of flags, what they give means what the evaluation gives.
 use mathlib.Core.Path.{_≡_, refl, sym, ap, _∙_, subst, subst₂}
-use mathlib.Core.Bool.{Bool, true, false, not, _&&_, _||_, cond}
-use mathlib.Core.List.{List, [], _∷_, _++_, map}
+use mathlib.Core.Bool.{Bool, true, false, _||_, cond}
+use mathlib.Core.List.{List, [], _∷_, map}
 use Prim.Native.Nat.{ℕ, zero, suc, _+_, _*_}
-use lib.Dec.{eqb, leb}
+use lib.Dec.{eqb}
 use lib.ListN.{length, getD}
 use Rattle.prelude.specs.Tests.{all, any}
 use Rattle.prelude.proofs.Laws.{all-map}
-use Rattle.literal.specs.Literals.{Literal, opposite}
-use Rattle.relational.specs.Trees.{Binary, union, intersection, difference, join, product, Unary, inverse, closure, Comparison, equal, within, Test, some, none, lone, Connective, conjunction, disjunction, implication, equivalence, Quantifier, for-all, for-some}
-use Rattle.relational.specs.Matrices.{upto, Place, places, rounds, Matrix, setOf, relationOf, size, sameSize, joinColumns, joinPlaces, joinSize, productPlaces, productSize, cellAt, matched, middles, crossed, inverted}
+use Rattle.literal.specs.Literals.{Literal}
+use Rattle.relational.specs.Trees.{Binary, union, intersection, difference, join, product, Unary, inverse, closure, Comparison, equal}
+use Rattle.relational.specs.Trees.{within, some, Connective, conjunction, disjunction, implication, equivalence, Quantifier, for-all}
+use Rattle.relational.specs.Trees.{for-some}
+use Rattle.relational.specs.Matrices.{upto, Place, places, rounds, Matrix, setOf, relationOf, size, sameSize, joinColumns, joinPlaces}
+use Rattle.relational.specs.Matrices.{joinSize, productPlaces, productSize, matched, middles, crossed, inverted}
 use Rattle.relational.specs.Evaluation as e
-use Rattle.clauses.specs.Builder.{Builder, return, _>>=_, _<$>_, each}
-use Rattle.clauses.specs.Gates.{or, and, iff}
-use Rattle.clauses.specs.Translation.{Two, absent, either, both, without, implies, same, joinCells, translateBinary, roundOf, afterRounds, translateUnary, translateComparison, translateConnective, translateQuantifier}
-use Rattle.clauses.proofs.Build.{Extends, extends-refl, Right, Means, Pairwise, nothing, more, Mean, One, means-extends, mean-extends, right-return, right-map, right-bind, right-each, right-list}
+use Rattle.clauses.specs.Builder.{Builder, _>>=_, _<$>_, each}
+use Rattle.clauses.specs.Gates.{or, and}
+use Rattle.clauses.specs.Translation.{Two, absent, either, both, without, implies, same, joinCells, translateBinary, roundOf}
+use Rattle.clauses.specs.Translation.{afterRounds, translateUnary, translateComparison, translateConnective, translateQuantifier}
+use Rattle.clauses.proofs.Build.{Extends, extends-refl, Right, Means, Pairwise, nothing, more, Mean, One, means-extends}
+use Rattle.clauses.proofs.Build.{mean-extends, right-return, right-map, right-bind, right-each, right-list}
 use Rattle.clauses.proofs.Connect as c
 use Rattle.clauses.proofs.Connect.{every, means-opposite, means-at, right-or, right-and, right-or-two, right-and-two, right-iff}
 

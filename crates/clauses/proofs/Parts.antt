@@ -1,22 +1,21 @@
 -- The one-to-one match, over any way to store the cells, any rules over them, any list of facts and any fixed units.
 -- The sheet's own list is one such (proofs/Match): another way of storing cells, fixed cells or further facts is another.
 use mathlib.Core.Path.{_≡_, refl, sym, ap, _∙_, subst}
-use mathlib.Core.Logic.{_↔_}
-use mathlib.Core.Bool.{Bool, true, false, _&&_, _||_, or-false, and-assoc, false≢true}
+use mathlib.Core.Bool.{Bool, true, false, _&&_, _||_, or-false, false≢true}
 use mathlib.Core.List.{List, [], _∷_, _++_, map}
-use Prim.Native.Nat.{ℕ, zero, suc, pred, _+_, _≤_, _<_}
+use Prim.Native.Nat.{ℕ, suc, pred, _+_, _≤_}
 use native.Mathlib.Omega.{arith}
-use native.Mathlib.Nat.{add-zero}
-use lib.ListN.{length, getD, take, drop, length-append, length-take, length-drop, take-append-drop, replicate, length-replicate}
+use lib.ListN.{length, take, drop, length-append, length-take, length-drop, take-append-drop, replicate, length-replicate}
 use lib.Seq.{take-append-seam}
 use Rattle.prelude.specs.Tests.{all, any}
 use Rattle.prelude.proofs.Laws.{and-left, and-right, and-both}
-use Rattle.literal.specs.Literals.{Literal, positive, negative, opposite}
+use Rattle.literal.specs.Literals.{Literal, positive}
 use Rattle.clauses.specs.Builder.{Gate, Built, Builder}
 use Rattle.clauses.specs.Gates.{Clause, gatesClauses}
-use Rattle.clauses.proofs.Values.{value, satisfied, satisfied-append, In, AllIn, ClausesIn, clauses-in-append, clauses-in-split}
-use Rattle.clauses.proofs.Gate.{outputs, run, Scoped, solved, solved-only, length-run, length-outputs, run-append, scoped-append, gates-append}
-use Rattle.clauses.proofs.Build.{Extends, extends-run, extends-trans, Right, Means, Pairwise, nothing, more, Mean, One, means-extends, mean-extends}
+use Rattle.clauses.proofs.Values.{value, satisfied, satisfied-append, AllIn, ClausesIn, clauses-in-append, clauses-in-split}
+use Rattle.clauses.proofs.Gate.{outputs, run, Scoped, solved, solved-only, length-run, length-outputs, run-append, scoped-append}
+use Rattle.clauses.proofs.Gate.{gates-append}
+use Rattle.clauses.proofs.Build.{Extends, extends-run, extends-trans, Right, nothing, more, Mean, One, means-extends, mean-extends}
 use Rattle.clauses.proofs.Connect.{every, mean-inside}
 use Rattle.clauses.proofs.Ranges.{gates-in}
 

@@ -1,10 +1,10 @@
 -- Every literal of the clauses is a literal of the variables 1 to n - 1.
 use mathlib.Core.Path.{_≡_, refl}
 use mathlib.Core.List.{List, [], _∷_, _++_, map}
-use Prim.Native.Nat.{ℕ, zero, suc, _+_, _≤_, _<_}
+use Prim.Native.Nat.{ℕ, zero, suc, _+_, _≤_}
 use native.Mathlib.Omega.{arith}
 use lib.ListN.{length, getD}
-use Rattle.literal.specs.Literals.{Literal, positive, negative, opposite}
+use Rattle.literal.specs.Literals.{Literal, positive, negative}
 use Rattle.sheet.specs.Blocks.{Sheet, relationCount, multiplicity}
 use Rattle.relational.specs.Cells.{rowCount, rowLength, cell}
 use Rattle.relational.specs.Matrices.{from, pairs}

@@ -1,22 +1,21 @@
 -- The marks' clauses say that the marks hold.
-use mathlib.Core.Path.{_≡_, refl, sym, ap, _∙_, subst}
-use mathlib.Core.Bool.{Bool, true, false, not, _&&_, _||_, or-false, and-true}
+use mathlib.Core.Path.{_≡_, refl, _∙_}
+use mathlib.Core.Bool.{Bool, or-false, and-true}
 use mathlib.Core.List.{List, [], _∷_, _++_, map}
-use Prim.Native.Nat.{ℕ, zero, suc, _≤_, _<_}
-use lib.Dec.{leb, eqb}
-use lib.ListN.{length}
+use Prim.Native.Nat.{ℕ, zero, suc}
+use lib.Dec.{eqb}
 use Rattle.prelude.specs.Tests.{each, all, any}
-use Rattle.prelude.proofs.Laws.{all-append, all-map, each-cong}
-use Rattle.literal.specs.Literals.{Literal, opposite}
+use Rattle.prelude.proofs.Laws.{each-cong}
+use Rattle.literal.specs.Literals.{Literal}
 use Rattle.sheet.specs.Blocks.{Sheet, relationCount, multiplicity}
 use Rattle.relational.specs.Cells.{rowCount, rowLength, cell}
 use Rattle.relational.specs.Matrices.{from, pairs}
-use Rattle.relational.specs.Evaluation.{count, flagAt, rowHolds, rowCells, marksHold}
+use Rattle.relational.specs.Evaluation.{count, rowHolds, rowCells, marksHold}
 use Rattle.clauses.specs.Gates.{Clause}
-use Rattle.clauses.specs.Translation.{Two, literalAt}
+use Rattle.clauses.specs.Translation.{Two}
 use Rattle.clauses.specs.Whole.{series, pairClause, rowClauses, rowLiterals, markClauses}
-use Rattle.clauses.proofs.Values.{value, satisfied, satisfied-append, In, AllIn, ClausesIn, in-opposite, clauses-in-append}
-use Rattle.clauses.proofs.Build.{Means, Pairwise, nothing, more, Mean}
+use Rattle.clauses.proofs.Values.{value, satisfied, satisfied-append}
+use Rattle.clauses.proofs.Build.{Pairwise, nothing, more, Mean}
 use Rattle.clauses.proofs.Connect.{means-opposite, mean-some}
 use Rattle.clauses.proofs.Operators.{Both, pairwise-maps}
 use Rattle.clauses.proofs.Counts.{notBoth, pairs-mean, pairs-count, some-count, exactly-one}

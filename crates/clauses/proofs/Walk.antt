@@ -1,5 +1,5 @@
 -- The walk is right: for every tree and environment its literals mean the values of the evaluation.
-use mathlib.Core.Path.{_≡_, refl, sym, ap, _∙_, subst}
+use mathlib.Core.Path.{_≡_, refl, subst}
 use mathlib.Core.Bool.{Bool, true, false, not}
 use mathlib.Core.List.{List, [], _∷_, map}
 use Prim.Native.Nat.{ℕ, zero, suc}
@@ -7,16 +7,21 @@ use lib.Dec.{eqb}
 use lib.ListN.{length, getD}
 use Rattle.literal.specs.Literals.{Literal, opposite}
 use Rattle.sheet.specs.Blocks.{Sheet, byte, scope, sortOf}
-use Rattle.relational.specs.Trees.{Leaf, relation, variable, atoms, identity, Expression, leaf, binary, unary, comprehension, Formula, comparison, test, negation, connective, quantified, Tree, expression, formula, broken}
+use Rattle.relational.specs.Trees.{Leaf, relation, variable, atoms, identity, Expression, leaf, binary, unary, comprehension, Formula}
+use Rattle.relational.specs.Trees.{comparison, test, negation, connective, quantified, Tree, expression, formula, broken}
 use Rattle.relational.specs.Cells.{firstCell, cellsOf}
 use Rattle.relational.specs.Meaning.{Environment, bind}
 use Rattle.relational.specs.Matrices.{from, upto, places, Place, Matrix, setOf, leafMatrix}
-use Rattle.relational.specs.Evaluation.{flagAt, valueLeaf, atomsOf, valueOf, truthOf, truthOfTree, valueBinary, valueUnary, truthComparison, truthTest, truthConnective, truthQuantifier}
-use Rattle.clauses.specs.Builder.{Builder, return, _>>=_, _<$>_, each}
-use Rattle.clauses.specs.Translation.{constant, absent, literalAt, translate, translateFormula, translateTree, translateBinary, translateUnary, translateComparison, translateTest, translateConnective, translateQuantifier}
-use Rattle.clauses.proofs.Build.{Extends, Right, Means, Mean, One, means-extends, mean-extends, right-return, right-map, right-bind, right-two, right-list}
+use Rattle.relational.specs.Evaluation.{flagAt, valueLeaf, atomsOf, valueOf, truthOf, truthOfTree, valueBinary, valueUnary, truthComparison}
+use Rattle.relational.specs.Evaluation.{truthTest, truthConnective, truthQuantifier}
+use Rattle.clauses.specs.Builder.{Builder, _>>=_, each}
+use Rattle.clauses.specs.Translation.{constant, absent, literalAt, translate, translateFormula, translateTree, translateBinary}
+use Rattle.clauses.specs.Translation.{translateUnary, translateComparison, translateTest, translateConnective, translateQuantifier}
+use Rattle.clauses.proofs.Build.{Extends, Right, Means, Mean, One, means-extends, mean-extends, right-return, right-map, right-bind}
+use Rattle.clauses.proofs.Build.{right-two, right-list}
 use Rattle.clauses.proofs.Connect.{means-opposite, means-at}
-use Rattle.clauses.proofs.Operators.{MeansMatrix, matrix-extends, pairwise-maps, right-binary, right-unary, right-comparison, right-connective, right-quantifier}
+use Rattle.clauses.proofs.Operators.{MeansMatrix, matrix-extends, pairwise-maps, right-binary, right-unary, right-comparison}
+use Rattle.clauses.proofs.Operators.{right-connective, right-quantifier}
 use Rattle.clauses.proofs.Counts.{right-test}
 
 -- an instance as flags: a byte 1 is true

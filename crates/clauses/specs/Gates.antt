@@ -2,7 +2,7 @@
 use mathlib.Core.List.{List, [], _∷_, _++_, map}
 use Prim.Native.Nat.{ℕ, suc}
 use Rattle.literal.specs.Literals.{Literal, positive, negative, opposite}
-use Rattle.clauses.specs.Builder.{Gate, Built, Builder, return, _>>=_, _<$>_}
+use Rattle.clauses.specs.Builder.{Gate, Builder, return, _>>=_, _<$>_}
 
 abbrev pub Clause : Type 0
 Clause = List Literal

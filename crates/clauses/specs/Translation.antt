@@ -7,9 +7,13 @@ use Prim.Native.Nat.{ℕ, zero, suc}
 use lib.ListN.{getD}
 use Rattle.literal.specs.Literals.{Literal, positive, negative, opposite}
 use Rattle.sheet.specs.Blocks.{Sheet, scope, sortOf}
-use Rattle.relational.specs.Trees.{Leaf, Binary, union, intersection, difference, join, product, Unary, inverse, closure, Comparison, equal, within, Test, some, none, lone, Connective, conjunction, disjunction, implication, equivalence, Quantifier, for-all, for-some, Expression, leaf, binary, unary, comprehension, Formula, comparison, test, negation, connective, quantified, Tree, expression, formula, broken}
+use Rattle.relational.specs.Trees.{Binary, union, intersection, difference, join, product, Unary, inverse, closure, Comparison, equal}
+use Rattle.relational.specs.Trees.{within, Test, some, none, lone, Connective, conjunction, disjunction, implication, equivalence}
+use Rattle.relational.specs.Trees.{Quantifier, for-all, for-some, Expression, leaf, binary, unary, comprehension, Formula, comparison, test}
+use Rattle.relational.specs.Trees.{negation, connective, quantified, Tree, expression, formula, broken}
 use Rattle.relational.specs.Meaning.{Environment, bind}
-use Rattle.relational.specs.Matrices.{upto, rounds, pairs, Matrix, setOf, leafMatrix, sameSize, joinPlaces, joinSize, productSize, matched, middles, crossed, inverted}
+use Rattle.relational.specs.Matrices.{upto, rounds, pairs, Matrix, setOf, leafMatrix, sameSize, joinPlaces, joinSize, productSize, matched}
+use Rattle.relational.specs.Matrices.{middles, crossed, inverted}
 use Rattle.clauses.specs.Builder.{Builder, return, _>>=_, _<$>_, each}
 use Rattle.clauses.specs.Gates.{or, and, iff}
 
