@@ -88,7 +88,9 @@ right-bind a step then P Q g h =
     let k : Right b (then (r .value) (r .next)) Q = rw (g .next) (h b (extends-run a (r .gates)) (r .value) (g .gives)) in
     let s = then (r .value) (r .next) in
     record {
-      scoped = scoped-append (length a) (r .gates) (s .gates) (g .scoped) (subst (λ (n : ℕ). Scoped n (s .gates)) (length-run a (r .gates)) (k .scoped));
+      scoped =
+          scoped-append (length a) (r .gates) (s .gates) (g .scoped)
+          (subst (λ (n : ℕ). Scoped n (s .gates)) (length-run a (r .gates)) (k .scoped));
       next = rw (run-append a (r .gates) (s .gates)) (k .next);
       gives = rw (run-append a (r .gates) (s .gates)) (k .gives);
     }

@@ -52,7 +52,8 @@ pub take-bits : (n : ℕ) (xs : List ℕ) → all isBit xs ≡ true → all isBi
 unfolding all
 take-bits zero xs h = refl
 take-bits (suc n) [] h = refl
-take-bits (suc n) (x ∷ xs) h = and-both (isBit x) (all isBit (take n xs)) (and-left (isBit x) (all isBit xs) h) (take-bits n xs (and-right (isBit x) (all isBit xs) h))
+take-bits (suc n) (x ∷ xs) h =
+    and-both (isBit x) (all isBit (take n xs)) (and-left (isBit x) (all isBit xs) h) (take-bits n xs (and-right (isBit x) (all isBit xs) h))
 
 pub drop-bits : (n : ℕ) (xs : List ℕ) → all isBit xs ≡ true → all isBit (drop n xs) ≡ true
 unfolding all
@@ -112,4 +113,5 @@ pub clauses-literals : (v : ℕ) (cs : List Clause) → ClausesIn (suc v) cs →
 unfolding all
 clauses-literals v [] i = refl
 clauses-literals v (c ∷ cs) i =
-    and-both (all (isLiteral v) (map wordOf c)) (all (all (isLiteral v)) (map (map wordOf) cs)) (clause-literals v c (i .0)) (clauses-literals v cs (i .1))
+    and-both (all (isLiteral v) (map wordOf c)) (all (all (isLiteral v)) (map (map wordOf) cs))
+    (clause-literals v c (i .0)) (clauses-literals v cs (i .1))

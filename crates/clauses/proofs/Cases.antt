@@ -90,7 +90,8 @@ k6-clauses = refl
 
 pub k6-answer : countAnswer k6-sheet ≡ fits 2 2 4
 unfolding countAnswer reading counted scoped declared nodesFine shaped rooted walkable each rowOf shapeStep freeStep visitsStep
-    variableTotal words wordsOf clauses markClauses rootWalk series translate table treeStep symbolOf firstCell afterRounds rounds or inputClauses gatesClauses
+    variableTotal words wordsOf clauses markClauses rootWalk series translate table treeStep symbolOf firstCell afterRounds rounds
+    or inputClauses gatesClauses
 k6-answer = refl
 
 -- "r equal r": gates hold a variable with both signs

@@ -46,7 +46,8 @@ unfolding gatesClauses all
 gates-some g [] = refl
 gates-some g (ls ∷ gates) =
     append-some (gateClauses g ls) (gatesClauses (suc g) gates)
-    (append-some (inputClauses g ls) _ (inputs-some g ls) (cons-some (negative g ∷ ls) [] (some-cons (negative g) ls) refl)) (gates-some (suc g) gates)
+    (append-some (inputClauses g ls) _ (inputs-some g ls) (cons-some (negative g ∷ ls) [] (some-cons (negative g) ls) refl))
+    (gates-some (suc g) gates)
 
 pairs-some : (ts : List Two) → all isSome (map pairClause ts) ≡ true
 unfolding all
@@ -57,7 +58,8 @@ row-some : (m : ℕ) (row : List Literal) → 1 ≤ length row → all isSome (r
 unfolding all
 row-some zero row h = refl
 row-some (suc zero) row h = pairs-some (pairs row)
-row-some (suc (suc m)) row h = append-some (map pairClause (pairs row)) (row ∷ []) (pairs-some (pairs row)) (cons-some row [] (le-leb 1 (length row) h) refl)
+row-some (suc (suc m)) row h =
+    append-some (map pairClause (pairs row)) (row ∷ []) (pairs-some (pairs row)) (cons-some row [] (le-leb 1 (length row) h) refl)
 
 series-some : (n : ℕ) (f : ℕ → List Clause) → ((i : ℕ) → i < n → all isSome (f i) ≡ true) → all isSome (series n f) ≡ true
 unfolding series all
@@ -76,7 +78,8 @@ same-some (c ∷ cs) = rw (length-map c wordOf, same-some cs)
 module _ (sheet : Sheet) (rows : (r : ℕ) → r < relationCount sheet → 1 ≤ rowLength sheet r) where
   row-length : (r i : ℕ) → length (rowLiterals sheet (cellLiterals sheet) r i) ≡ rowLength sheet r
   row-length r i =
-      length-map (from (cell sheet r i 0) (rowLength sheet r)) (literalAt sheet (cellLiterals sheet)) ∙ length-from (cell sheet r i 0) (rowLength sheet r)
+      length-map (from (cell sheet r i 0) (rowLength sheet r)) (literalAt sheet (cellLiterals sheet))
+      ∙ length-from (cell sheet r i 0) (rowLength sheet r)
 
   marks-some : all isSome (markClauses sheet (cellLiterals sheet)) ≡ true
   unfolding markClauses

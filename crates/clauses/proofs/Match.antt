@@ -113,7 +113,8 @@ module _ (sheet : Sheet) where
 
   pub clauses-in : ClausesIn (suc (variableTotal sheet)) (clauses sheet)
   clauses-in =
-      subst₂ (λ (n : ℕ) (cs : List Clause). ClausesIn (suc n) cs) (sym variables-are) (sym clauses-are) (parts-in sheetParts sheetDemand sheet-stores)
+      subst₂ (λ (n : ℕ) (cs : List Clause). ClausesIn (suc n) cs) (sym variables-are) (sym clauses-are)
+      (parts-in sheetParts sheetDemand sheet-stores)
 
   pub some-variable : 1 ≤ variableTotal sheet
   some-variable = omega (arith, variables-are, parts-variables sheetParts sheetDemand sheet-stores)
@@ -186,7 +187,8 @@ module _ (sheet : Sheet) where
         agrees = refl;
         facts =
             rw (bytes-flags i b)
-            (and-both (truthOfTree sheet i (rootTree sheet)) true (and-right (marksHold sheet i) (truthOfTree sheet i (rootTree sheet)) (h .holds)) refl);
+            (and-both (truthOfTree sheet i (rootTree sheet)) true
+            (and-right (marksHold sheet i) (truthOfTree sheet i (rootTree sheet)) (h .holds)) refl);
       }
 
   -- ---- the match

@@ -150,11 +150,13 @@ module _ (a : List Bool) (o : One a) (m n : Matrix Bool) (ls ks : List Literal) 
         cells = rw (join-cells m n (e.joinCells m n), join-cells (sized m ls) (sized n ks) cells) r;
       }
   right-binary-sized product =
-      right-map a (productSize (sized m ls) (sized n ks)) (each both (crossed absent (sized m ls) (sized n ks))) (Mean (map e.both (crossed false m n))) _
+      right-map a (productSize (sized m ls) (sized n ks)) (each both (crossed absent (sized m ls) (sized n ks)))
+      (Mean (map e.both (crossed false m n))) _
       (right-twos both e.both right-both a o (crossed-mean a o m n ls ks p q)) λ b f cells r. record { sizes = refl; cells = r }
 
 -- ---- the laws, one for each group of operators
-pub right-binary : (k : Binary) (a : List Bool) → One a → (m n : Matrix Bool) (p q : Matrix Literal) → MeansMatrix m a p → MeansMatrix n a q
+pub right-binary : (k : Binary) (a : List Bool) → One a → (m n : Matrix Bool) (p q : Matrix Literal)
+    → MeansMatrix m a p → MeansMatrix n a q
     → Right a (translateBinary k p q (length a)) (MeansMatrix (e.valueBinary k m n))
 right-binary k a o m n p q g h =
     subst₂ (λ (x y : Matrix Literal). Right a (translateBinary k x y (length a)) (MeansMatrix (e.valueBinary k m n)))
@@ -187,7 +189,8 @@ pub right-unary : (k : Unary) (a : List Bool) → One a → (m : Matrix Bool) (p
     → Right a (translateUnary k p (length a)) (MeansMatrix (e.valueUnary k m))
 right-unary inverse a o m p h =
     right-return a (inverted absent p) (MeansMatrix (inverted false m))
-    (subst (λ (x : Matrix Literal). MeansMatrix (inverted false m) a (inverted absent x)) (sym (h .sizes)) (inverted-means a o m (p .cells) (h .cells)))
+    (subst (λ (x : Matrix Literal). MeansMatrix (inverted false m) a (inverted absent x)) (sym (h .sizes))
+    (inverted-means a o m (p .cells) (h .cells)))
 right-unary closure a o m p h =
     subst (λ (n : ℕ). Right a (afterRounds (rounds n) p (length a)) (MeansMatrix (e.valueUnary closure m)))
     (sym (ap (λ (x : Matrix Literal). x .rows) (h .sizes))) (right-rounds (rounds (m .rows)) a o m p h)
@@ -200,12 +203,14 @@ right-all step f r a o {ts} {us} h =
     (right-bind a (each step ts) and (Mean (map f us)) (Means (every (map f us))) (right-twos step f r a o h)
     λ b g ls q. right-and b (means-extends g o) q)
 
-right-comparison-sized : (k : Comparison) (a : List Bool) → One a → (m n : Matrix Bool) (ls ks : List Literal) → Mean (m .cells) a ls → Mean (n .cells) a ks
+right-comparison-sized : (k : Comparison) (a : List Bool) → One a → (m n : Matrix Bool) (ls ks : List Literal)
+    → Mean (m .cells) a ls → Mean (n .cells) a ks
     → Right a (translateComparison k (sized m ls) (sized n ks) (length a)) (Means (e.truthComparison k m n))
 right-comparison-sized equal a o m n ls ks p q = right-all same e.same right-same a o (matched-mean a o m n ls ks p q)
 right-comparison-sized within a o m n ls ks p q = right-all implies e.implies right-implies a o (matched-mean a o m n ls ks p q)
 
-pub right-comparison : (k : Comparison) (a : List Bool) → One a → (m n : Matrix Bool) (p q : Matrix Literal) → MeansMatrix m a p → MeansMatrix n a q
+pub right-comparison : (k : Comparison) (a : List Bool) → One a → (m n : Matrix Bool) (p q : Matrix Literal)
+    → MeansMatrix m a p → MeansMatrix n a q
     → Right a (translateComparison k p q (length a)) (Means (e.truthComparison k m n))
 right-comparison k a o m n p q g h =
     subst₂ (λ (x y : Matrix Literal). Right a (translateComparison k x y (length a)) (Means (e.truthComparison k m n)))

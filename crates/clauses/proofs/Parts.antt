@@ -107,7 +107,8 @@ units-in n (l ∷ ls) h = ((h .0, tt), units-in n ls (h .1))
 
 -- ---- the match of bits, for any list that says: 1, the gates, and further clauses, in any order
 module _ (k : ℕ) (gates : List Gate) (further list : List Clause) (scoped : Scoped (suc (suc k)) gates)
-    (law : (a : List Bool) → satisfied a list ≡ (value a (positive 1) && (satisfied a (gatesClauses (suc (suc k)) gates) && satisfied a further))) where
+    (law : (a : List Bool)
+    → satisfied a list ≡ (value a (positive 1) && (satisfied a (gatesClauses (suc (suc k)) gates) && satisfied a further))) where
   apart : (b : List Bool) → length b ≡ suc k + length gates → satisfied (false ∷ b) list ≡ true
       → (x : List Bool) × (length x ≡ k) × (b ≡ true ∷ (x ++ outputs (start x) gates)) × (satisfied (run (start x) gates) further ≡ true)
   apart [] e h = absurd (omega arith)
@@ -205,7 +206,8 @@ module _ (p : Parts) (q : Demand) (s : Stores p q) where
   shuffle false d₁ r d₂ u = refl
 
   -- the clauses of the gates, in their two places
-  apart-gates : gatesClauses (firstGate p) gates ≡ gatesClauses (firstGate p) (stored p .gates) ++ gatesClauses (stored p .next) (walked p .gates)
+  apart-gates : gatesClauses (firstGate p) gates
+      ≡ gatesClauses (firstGate p) (stored p .gates) ++ gatesClauses (stored p .next) (walked p .gates)
   apart-gates = gates-append (firstGate p) (stored p .gates) (walked p .gates) ∙ rw (← any-made .next₁)
 
   law : (a : List Bool)

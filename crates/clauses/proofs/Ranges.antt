@@ -46,7 +46,8 @@ pairs-in : (n : ℕ) (ls : List Literal) → AllIn n ls → ClausesIn n (map pai
 pairs-in n [] h = tt
 pairs-in n (l ∷ ls) h =
     rw (map-append pairClause (map {B = Two} (λ k. (l, k)) ls) (pairs ls))
-    (clauses-in-append n (map pairClause (map {B = Two} (λ k. (l, k)) ls)) (map pairClause (pairs ls)) (with-each-in n l ls (h .0) (h .1)) (pairs-in n ls (h .1)))
+    (clauses-in-append n (map pairClause (map {B = Two} (λ k. (l, k)) ls)) (map pairClause (pairs ls))
+    (with-each-in n l ls (h .0) (h .1)) (pairs-in n ls (h .1)))
 
 row-in : (m n : ℕ) (row : List Literal) → AllIn n row → ClausesIn n (rowClauses m row)
 row-in zero n row h = tt
