@@ -12,5 +12,6 @@ pub mod Bytes
 pub mod Match
 pub mod Accepted
 pub mod Listed
+pub mod Answered
 pub mod Theorems
 pub mod Cases

@@ -20,7 +20,7 @@ use Rattle.clauses.specs.Builder.{Gate, Built}
 use Rattle.clauses.specs.Gates.{gateClauses, gatesClauses}
 use Rattle.clauses.specs.Translation.{translate, translateFormula}
 use Rattle.clauses.specs.Whole.{words, variableTotal, wordTotal, readBack}
-use Rattle.clauses.specs.Matching.{Match}
+use Rattle.clauses.specs.Matching.{Solution, Assignment, Match}
 use Rattle.clauses.proofs.Values.{value, satisfied}
 use Rattle.clauses.proofs.Gate as g
 use Rattle.clauses.proofs.Gate.{outputs, Scoped, solved, solved-only, length-outputs}
@@ -79,6 +79,13 @@ module _ (s : List ℕ) (layout : Layout) (accepted : reading s ≡ Accepted lay
             let r = reads-instance (sheetOf s) a h in
             record { within = r .within; satisfies = accepted-holds s layout accepted (readBack (sheetOf s) a) .0 (r .holds) };
       }
+
+  -- no satisfying assignment exactly when no instance satisfies
+  pub none : ((a : List ℕ) → Assignment (sheetOf s) a → ⊥) ↔ ((i : List ℕ) → Solution (sheetOf s) i → ⊥)
+  none = (
+    (λ h i p. let o = match .once i p in h (o .assignment) (o .satisfying)),
+    λ h a p. h (readBack (sheetOf s) a) (match .reads a p),
+  )
 
   -- `listed`: the search takes the clauses as they are written, where they fit the limits
   pub listed : variableTotal (sheetOf s) ≤ 16000 → wordTotal (sheetOf s) ≤ 2147483647

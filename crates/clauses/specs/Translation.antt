@@ -100,7 +100,7 @@ abbrev pub translateQuantifier : Quantifier → List Literal → Builder Literal
 translateQuantifier for-all = and
 translateQuantifier for-some = or
 
--- ---- the walk, over the literals of the cells
+-- ---- the walk, over the literals of the cells: "kind 12 puts the body's literal in the cell", "Not is the opposite literal"
 module _ (sheet : Sheet) (cells : List Literal) where
   abbrev pub literalAt : ℕ → Literal
   literalAt i = getD cells i absent
