@@ -13,7 +13,8 @@ use borrow.Author.Tests.{not-true, eqb-true, eq-eqb, ne-eqb}
 use Rattle.prelude.specs.Tests.{all, any}
 use Rattle.clause_list.specs.ClauseList.{isTrue}
 use Rattle.search.specs.Rules.{Truth, falsified, satisfied, unassigned, truthOf, negated, literal, isFalsified, isSatisfied, conflict, openOf, sameLiteral, only, unitOf, firstUnit, Entry, propagated, decided, State, wordOf, byteOf, placeOf, valuesOf}
-use Rattle.search.proofs.Booleans.{not-both, and-true, or-true}
+use Rattle.prelude.proofs.Laws.{clash, or-cases}
+use Rattle.search.proofs.Booleans.{and-true}
 
 abbrev pub Assignment : Type 0
 Assignment = ℕ → Bool
@@ -86,21 +87,21 @@ module _ (values : List ℕ) (a : Assignment) (agrees : (i : ℕ) → Agrees (tr
     where
       by : (t : Truth) → literal values l ≡ t → isFalsified t ≡ true → holds a l ≡ false
       by falsified d e = falsified-false l d
-      by satisfied d e = unfold isFalsified in absurd (not-both false e refl)
-      by unassigned d e = unfold isFalsified in absurd (not-both false e refl)
+      by satisfied d e = unfold isFalsified in absurd (clash false e refl)
+      by unassigned d e = unfold isFalsified in absurd (clash false e refl)
 
   false-clause : (clause : List ℤ) → all (λ l. isFalsified (literal values l)) clause ≡ true → Holds a clause → ⊥
   unfolding Holds all
   false-clause [] e h = h
   false-clause (l ∷ clause) e h =
-      let b = and-true _ _ e in ⊎-elim (λ q. not-both _ q (only-false l (b .0))) (false-clause clause (b .1)) h
+      let b = and-true _ _ e in ⊎-elim (λ q. clash _ q (only-false l (b .0))) (false-clause clause (b .1)) h
 
   -- no conflict where a model agrees
   pub conflict-not : (clauses : List (List ℤ)) → Model a clauses → conflict values clauses ≡ true → ⊥
   unfolding Model conflict any
-  conflict-not [] h e = not-both false e refl
+  conflict-not [] h e = clash false e refl
   conflict-not (clause ∷ clauses) h e =
-      ⊎-elim (λ q. false-clause clause q (h .0)) (λ q. conflict-not clauses (h .1) (unfold conflict in q)) (or-true _ _ e)
+      ⊎-elim (λ q. false-clause clause q (h .0)) (λ q. conflict-not clauses (h .1) (unfold conflict in q)) (or-cases _ _ e)
 
   -- where no literal is satisfied, one that holds is open
   open-step : (k l : ℤ) (clause : List ℤ) (t : Truth) → literal values l ≡ t
@@ -109,8 +110,8 @@ module _ (values : List ℕ) (a : Assignment) (agrees : (i : ℕ) → Agrees (tr
       → (any (λ l. isSatisfied (literal values l)) clause ≡ false → all (sameLiteral k) (openOf values clause) ≡ true → Holds a clause → holds a k ≡ true)
       → (holds a l ≡ true) ⊎ Holds a clause → holds a k ≡ true
   unfolding isSatisfied all
-  open-step k l clause falsified d s e p h = ⊎-elim (λ q. absurd (not-both _ q (falsified-false l d))) (p s e) h
-  open-step k l clause satisfied d s e p h = absurd (not-both true refl s)
+  open-step k l clause falsified d s e p h = ⊎-elim (λ q. absurd (clash _ q (falsified-false l d))) (p s e) h
+  open-step k l clause satisfied d s e p h = absurd (clash true refl s)
   open-step k l clause unassigned d s e p h =
       let b = and-true _ _ e in ⊎-elim (λ q. rw (same-true k l (b .0)) q) (p s (b .1)) h
 
@@ -187,8 +188,8 @@ true-holds a (negsuc n) e = ap not (ne-eqb (getD a n 2) 1 (λ d. let z = eqb-tru
 
 clause-true : (a : List ℕ) (clause : List ℤ) → any (isTrue a) clause ≡ true → Holds (assignment a) clause
 unfolding any Holds
-clause-true a [] e = not-both false e refl
-clause-true a (l ∷ clause) e = ⊎-elim (λ q. inl (true-holds a l q)) (λ q. inr (clause-true a clause q)) (or-true _ _ e)
+clause-true a [] e = clash false e refl
+clause-true a (l ∷ clause) e = ⊎-elim (λ q. inl (true-holds a l q)) (λ q. inr (clause-true a clause q)) (or-cases _ _ e)
 
 pub model-of : (a : List ℕ) (clauses : List (List ℤ)) → all (any (isTrue a)) clauses ≡ true → Model (assignment a) clauses
 unfolding all Model

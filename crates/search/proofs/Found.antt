@@ -15,7 +15,8 @@ use Rattle.clause_list.specs.ClauseList.{isTrue, Satisfying}
 use Rattle.search.specs.Inner.{InRange, AllIn}
 use Rattle.search.specs.Rules.{Truth, falsified, satisfied, unassigned, truthOf, negated, literal, isFalsified, conflict, Entry, propagated, decided, State, byteOf, placeOf, wordOf, valuesOf, Next, endNone, endFound, step, next}
 use Rattle.search.specs.Answers.{settle}
-use Rattle.search.proofs.Booleans.{or-false, or-right}
+use Rattle.prelude.proofs.Laws.{or-right}
+use Rattle.search.proofs.Booleans.{or-false}
 use Rattle.search.proofs.Ranges.{Ranged}
 use Rattle.search.proofs.Steps.{Full, Step, ends-none, ends-found, backtracks, propagates, decides, view}
 use Rattle.search.proofs.Invariant.{length-values, literal-open}

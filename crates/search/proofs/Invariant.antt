@@ -13,7 +13,8 @@ use lib.ListN.{length, getD, length-set, length-replicate}
 use Rattle.prelude.specs.Tests.{all, any}
 use Rattle.search.specs.Inner.{InRange, AllIn}
 use Rattle.search.specs.Rules.{Truth, falsified, satisfied, unassigned, truthOf, negated, literal, openOf, only, unitOf, firstUnit, isSatisfied, Entry, propagated, decided, State, wordOf, byteOf, placeOf, valuesOf, Kind, propagation, decision, backtrack, Next, endNone, endFound, step, turn, next}
-use Rattle.search.proofs.Booleans.{not-both, not-false-true, and-true}
+use Rattle.prelude.proofs.Laws.{clash}
+use Rattle.search.proofs.Booleans.{not-false-true, and-true}
 use Rattle.search.proofs.Assignments.{Assignment, holds, Model, Has, Follows, values-agree, conflict-not, first-unit-holds}
 use Rattle.search.proofs.Ranges.{Ranged}
 use Rattle.search.proofs.Steps.{Lowest, Step, ends-none, ends-found, backtracks, propagates, decides, view}

@@ -7,3 +7,6 @@ pub mod Found
 pub mod Reached
 pub mod Theorems
 pub mod Cases
+mod Words
+mod Scans
+mod ScanLoops

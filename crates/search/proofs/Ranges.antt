@@ -12,7 +12,8 @@ use Rattle.prelude.specs.Tests.{between, all}
 use Rattle.literal.specs.Literals.{isLiteral}
 use Rattle.clause_list.specs.ClauseList.{cut, clausesOf, isCount, wellCut, isList}
 use Rattle.search.specs.Inner.{InRange, AllIn, FineIn, Fine}
-use Rattle.search.proofs.Booleans.{not-both, and-true}
+use Rattle.prelude.proofs.Laws.{clash}
+use Rattle.search.proofs.Booleans.{and-true}
 
 -- each literal of each clause
 unfoldable pub Ranged : ℕ → List (List ℤ) → Type 0
@@ -29,7 +30,7 @@ all-in v (l ∷ ls) e = let b = and-true _ _ e in (between-in 1 v (natAbs l) (b 
 
 is-count : (n : ℕ) (w : ℤ) → isCount n w ≡ true → (w ≡ pos (natAbs w)) × (natAbs w ≤ n)
 is-count n (pos w) e = (refl, between-in 1 n w e .1)
-is-count n (negsuc w) e = absurd (not-both false e refl)
+is-count n (negsuc w) e = absurd (clash false e refl)
 
 fine-of : (v rounds : ℕ) (ws : List ℤ) → length ws ≤ rounds → wellCut v rounds ws ≡ true → FineIn v rounds ws
 unfolding wellCut FineIn

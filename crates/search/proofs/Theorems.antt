@@ -17,7 +17,8 @@ use Rattle.clause_list.specs.ClauseList.{clausesOf, isList, isTrue, Satisfying}
 use Rattle.search.specs.Rules.{State, Kind, Next, endNone, endFound, step, valuesOf, next}
 use Rattle.search.specs.Run.{Tally, zeros, total, count, End, wasNone, wasFound, wasSpent, run, after, EndedWithin}
 use Rattle.search.specs.Answers.{settle}
-use Rattle.search.proofs.Booleans.{and-true, or-true}
+use Rattle.prelude.proofs.Laws.{or-cases}
+use Rattle.search.proofs.Booleans.{and-true}
 use Rattle.search.proofs.Assignments.{Follows, assignment, model-of}
 use Rattle.search.proofs.Ranges.{Ranged, Listed, listed, ranged}
 use Rattle.search.proofs.Steps.{Ends, run-ends, total-count}

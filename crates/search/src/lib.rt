@@ -1,2 +1,3 @@
-// The search.
+// The search (document 01, "Search").
 pub mod answer;
+mod scan;
