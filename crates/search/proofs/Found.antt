@@ -18,7 +18,7 @@ use Rattle.search.specs.Answers.{settle}
 use Rattle.prelude.proofs.Laws.{or-right}
 use Rattle.search.proofs.Booleans.{or-false}
 use Rattle.search.proofs.Ranges.{Ranged}
-use Rattle.search.proofs.Steps.{Full, Step, ends-none, ends-found, backtracks, propagates, decides, view}
+use Rattle.search.proofs.StepView.{Full, Step, ends-none, ends-found, backtracks, propagates, decides, view}
 use Rattle.search.proofs.Invariant.{length-values, literal-open}
 
 -- every value is 0, 1, 2 or 3

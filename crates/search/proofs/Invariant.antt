@@ -11,13 +11,13 @@ use native.Mathlib.Numerals.{sub-one}
 use lib.IntN.{ℤ, pos, negsuc, natAbs}
 use lib.ListN.{length, getD, length-set, length-replicate}
 use Rattle.prelude.specs.Tests.{all, any}
-use Rattle.search.specs.Inner.{InRange, AllIn}
+use Rattle.search.specs.Inner.{InRange, AllIn, WasOpen}
 use Rattle.search.specs.Rules.{Truth, falsified, satisfied, unassigned, truthOf, negated, literal, openOf, only, unitOf, firstUnit, isSatisfied, Entry, propagated, decided, State, wordOf, byteOf, placeOf, valuesOf, Kind, propagation, decision, backtrack, Next, endNone, endFound, step, turn, next}
 use Rattle.prelude.proofs.Laws.{clash}
 use Rattle.search.proofs.Booleans.{not-false-true, and-true}
 use Rattle.search.proofs.Assignments.{Assignment, holds, Model, Has, Follows, values-agree, conflict-not, first-unit-holds}
 use Rattle.search.proofs.Ranges.{Ranged}
-use Rattle.search.proofs.Steps.{Lowest, Step, ends-none, ends-found, backtracks, propagates, decides, view}
+use Rattle.search.proofs.StepView.{Lowest, Step, ends-none, ends-found, backtracks, propagates, decides, view}
 
 pub length-values : (v : ℕ) (state : State) → length (valuesOf v state) ≡ v
 unfolding valuesOf
@@ -55,11 +55,6 @@ module _ (clauses : List (List ℤ)) (v : ℕ) (a : Assignment) (model : Model a
   pub follows-not-none : (state : State) → Follows a state → next clauses v state ≡ endNone → ⊥
   unfolding Keeps
   follows-not-none state f e = rw e at (step-keeps state (next clauses v state) (view clauses v state) f)
-
--- each literal is one of the v variables', and its variable was open when it was set
-unfoldable pub WasOpen : ℕ → State → Type 0
-WasOpen v [] = Unit {0}
-WasOpen v (e ∷ state) = InRange v (wordOf e) × (getD (valuesOf v state) (placeOf (wordOf e)) 2 ≡ 2) × WasOpen v state
 
 -- each decision took the lowest open variable
 unfoldable pub LowestFirst : ℕ → State → Type 0

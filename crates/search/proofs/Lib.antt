@@ -1,7 +1,7 @@
 pub mod Booleans
 pub mod Ranges
 pub mod Assignments
-pub mod Steps
+pub mod StepView
 pub mod Invariant
 pub mod Found
 pub mod Reached
@@ -10,3 +10,7 @@ pub mod Cases
 mod Words
 mod Scans
 mod ScanLoops
+mod Slices
+mod Lowest
+mod StepCode
+mod RunCode

@@ -9,7 +9,7 @@ use native.Mathlib.Nat.{zero-add, suc-add, add-zero, add-suc}
 use lib.IntN.{ℤ}
 use Rattle.search.specs.Rules.{State, Kind, Next, endNone, endFound, step, next}
 use Rattle.search.specs.Run.{Tally, total, count, End, wasNone, wasFound, wasSpent, run, after, EndedWithin}
-use Rattle.search.proofs.Steps.{Ends, run-ends, total-count}
+use Rattle.search.proofs.StepView.{Ends, run-ends, total-count}
 
 module _ (clauses : List (List ℤ)) (v : ℕ) where
   -- m + n steps are m steps and then n

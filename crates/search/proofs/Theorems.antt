@@ -21,7 +21,7 @@ use Rattle.prelude.proofs.Laws.{or-cases}
 use Rattle.search.proofs.Booleans.{and-true}
 use Rattle.search.proofs.Assignments.{Follows, assignment, model-of}
 use Rattle.search.proofs.Ranges.{Ranged, Listed, listed, ranged}
-use Rattle.search.proofs.Steps.{Ends, run-ends, total-count}
+use Rattle.search.proofs.StepView.{Ends, run-ends, total-count}
 use Rattle.search.proofs.Invariant.{follows-keeps, follows-not-none}
 use Rattle.search.proofs.Found.{found-satisfying}
 use Rattle.search.proofs.Reached.{spending, spent-not-ended, ended-or-spent}

@@ -131,3 +131,29 @@ module _ (vs : List ℕ) (z l : ℤ) (p x : ℕ) (e : z ≡ l) (r : InRange (len
   pub says-true-below : ltZ (pos 0) z ≡ false → (x ≡ 1 → ⊥) → (x ≡ 2 → ⊥) → 1 ≡ truthCode (literal vs l)
   unfolding negated truthCode
   says-true-below t q s = sym (ap truthCode (literal-below t ∙ ap negated (truth-false x q s)))
+
+-- the literal that says that the variable at place i is false, as `-(i as i32 + 1)` makes it
+pub record Denial (i : ℕ) : Type 0 where
+  pub sum : SFits w32 (toZ w32 i +ℤ pos 1)
+  pub opposite : SFits w32 (pos 0 -ℤ toZ w32 (ofZ w32 (toZ w32 i +ℤ pos 1)))
+  pub is : toZ w32 (ofZ w32 (pos 0 -ℤ toZ w32 (ofZ w32 (toZ w32 i +ℤ pos 1)))) ≡ negsuc i
+
+pub denial : (i : ℕ) → i < lastVariable → Denial i
+denial i h =
+    let a : toZ w32 i ≡ pos i = toZ-ofZ {w = w32} {z = pos i} (record { sfits = omega arith }) in
+    let b : SFits w32 (pos (i + 1)) = record { sfits = omega arith } in
+    let d : SFits w32 (toZ w32 i +ℤ pos 1) = rw a b in
+    let e : toZ w32 (ofZ w32 (toZ w32 i +ℤ pos 1)) ≡ pos (suc i) = toZ-ofZ d ∙ ap (λ z. z +ℤ pos 1) a ∙ ap pos (add-one i) in
+    let g : pos 0 -ℤ toZ w32 (ofZ w32 (toZ w32 i +ℤ pos 1)) ≡ negsuc i = ap (λ z. pos 0 -ℤ z) e ∙ +ℤ-idl (negsuc i) in
+    let k : SFits w32 (pos 0 -ℤ toZ w32 (ofZ w32 (toZ w32 i +ℤ pos 1))) = rw g (record { sfits = omega arith }) in
+    record { sum = d; opposite = k; is = toZ-ofZ k ∙ g }
+
+-- the byte of a propagated literal, by its sign
+module _ (v : ℕ) (z l : ℤ) (e : z ≡ l) (r : InRange v l) where
+  pub byte-above : ltZ (pos 0) z ≡ true → byteOf (propagated l) ≡ 1
+  unfolding byteOf
+  byte-above t = rw (is-above v z l e r t .1) refl
+
+  pub byte-below : ltZ (pos 0) z ≡ false → byteOf (propagated l) ≡ 0
+  unfolding byteOf
+  byte-below t = rw (is-below v z l e r t .1) refl

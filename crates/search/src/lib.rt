@@ -1,3 +1,5 @@
 // The search (document 01, "Search").
 pub mod answer;
+mod run;
 mod scan;
+mod steps;

@@ -46,6 +46,10 @@ lows k (suc zero ∷ values) = low-next 1 k values (λ d. omega arith) refl (low
 lows k (suc (suc zero) ∷ values) = inr (0, record { within = omega arith; is-open = refl; below = λ j h d. omega arith }, rw (add-zero k) refl)
 lows k (suc (suc (suc n)) ∷ values) = low-next (suc (suc (suc n))) k values (λ d. omega arith) refl (lows (suc k) values)
 
+-- all variables are set, or one is the lowest that is not
+pub low-cases : (values : List ℕ) → ((lowestOpen 0 values ≡ none) × Full values) ⊎ ((i : ℕ) × Lowest values i × (lowestOpen 0 values ≡ some i))
+low-cases values = ⊎-elim inl (λ h. inr (h .0, h .1, h .2 ∙ ap some (zero-add (h .0)))) (lows 0 values)
+
 -- an end or a step, with its reason
 pub data Step (clauses : List (List ℤ)) (v : ℕ) (state : State) : Next → Type 0 where
   ends-none : {x : Next} → x ≡ endNone → conflict (valuesOf v state) clauses ≡ true → turn state ≡ endNone → Step clauses v state x
@@ -75,13 +79,13 @@ module _ (clauses : List (List ℤ)) (v : ℕ) where
       values : List ℕ
       values = valuesOf v state
 
-      low : conflict values clauses ≡ false → firstUnit values clauses ≡ none → Low 0 values → Step clauses v state (decide state (lowestOpen 0 values))
-      low c u (inl (d, f)) = ends-found (ap (decide state) d) c u f
-      low c u (inr (i, p, d)) = decides (ap (decide state) (d ∙ ap some (zero-add i))) c u p
+      low : conflict values clauses ≡ false → firstUnit values clauses ≡ none → Step clauses v state (decide state (lowestOpen 0 values))
+      low c u =
+          ⊎-elim (λ h. ends-found (ap (decide state) (h .0)) c u (h .1)) (λ h. decides (ap (decide state) (h .2)) c u (h .1)) (low-cases values)
 
       unit : (u : Option ℤ) → firstUnit values clauses ≡ u → conflict values clauses ≡ false
           → Step clauses v state (elim u as (λ _. Next) [ some l ↦ step propagation (propagated l ∷ state) | none ↦ decide state (lowestOpen 0 values) ])
-      unit none u c = low c u (lows 0 values)
+      unit none u c = low c u
       unit (some l) u c = propagates refl c u
 
       by : (b : Bool) → conflict values clauses ≡ b
