@@ -9,8 +9,8 @@ use Rattle.refusal.specs.Refusals.{numberOf}
 use Rattle.clause_list.specs.ClauseList.{clausesOf, isList}
 use Rattle.search.specs.declared.answer.Search.{Search}
 use Rattle.search.specs.declared.answer.Search.the-variants.{Found, None, Spent, Refused}
-use Rattle.search.specs.Rules.{State, valuesOf, trailOf}
-use Rattle.search.specs.Run.{zeros, total, End, wasNone, wasFound, wasSpent, run}
+use Rattle.search_rules.specs.Rules.{State, valuesOf, trailOf}
+use Rattle.search_rules.specs.Run.{zeros, total, End, wasNone, wasFound, wasSpent, run}
 
 -- the paper's answers: "found", "none" or "spent" with the steps done, or a number
 pub data Answer : Type 0 where
@@ -28,10 +28,6 @@ unfoldable pub answerAt : End → Answer
 answerAt (wasNone t) = none (total t)
 answerAt (wasFound t state) = found (total t)
 answerAt (wasSpent t state) = spent (total t)
-
--- "3s become 0"
-abbrev pub settle : ℕ → ℕ
-settle b = cond (eqb b 3) 0 b
 
 -- ""none", with values all 2 and trail all 0"; "found", where "3s become 0"; "spent", where "the state stays"
 unfoldable pub valuesAt : ℕ → End → List ℕ

@@ -1,5 +1,2 @@
--- What the search does: its rules, their run, and what a call answers and leaves.
-pub mod Rules
-pub mod Run
+-- What a call of the search answers and leaves.
 pub mod Answers
-pub mod Inner
