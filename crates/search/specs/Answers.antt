@@ -9,7 +9,7 @@ use Rattle.refusal.specs.Refusals.{numberOf}
 use Rattle.clause_list.specs.ClauseList.{clausesOf, isList}
 use Rattle.search.specs.declared.answer.Search.{Search}
 use Rattle.search.specs.declared.answer.Search.the-variants.{Found, None, Spent, Refused}
-use Rattle.search_rules.specs.Rules.{State, valuesOf, trailOf}
+use Rattle.search_rules.specs.Rules.{valuesOf, trailOf, settle}
 use Rattle.search_rules.specs.Run.{zeros, total, End, wasNone, wasFound, wasSpent, run}
 
 -- the paper's answers: "found", "none" or "spent" with the steps done, or a number
