@@ -1,2 +1,4 @@
+pub mod Theorems
+pub mod Cases
+pub mod Outcomes
 mod Settled
-mod Outcomes
