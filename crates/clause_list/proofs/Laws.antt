@@ -1,17 +1,17 @@
 -- Laws of clause lists: how a list is cut, what a list that number 12 lets pass gives, and the words of a list of clauses.
-use mathlib.Core.Path.{_≡_, refl, sym, ap, _∙_, subst}
-use mathlib.Core.Bool.{Bool, true, false, _&&_, cond}
+use mathlib.Core.Path.{_≡_, refl, sym, ap, _∙_}
+use mathlib.Core.Bool.{Bool, true, false, _&&_}
 use mathlib.Core.List.{List, [], _∷_, _++_, append-assoc, append-nil}
-use Prim.Native.Nat.{ℕ, zero, suc, _+_, _-_, _<_, _≤_}
-use native.Mathlib.Nat.{not-suc-le-zero, le-of-suc-le-suc, le-refl, suc-add}
+use Prim.Native.Nat.{ℕ, zero, suc, _+_, _<_, _≤_}
+use native.Mathlib.Nat.{not-suc-le-zero, le-refl, suc-add}
 use native.Mathlib.Omega.{arith}
 use lib.Dec.{leb}
 use lib.IntN.{ℤ, pos, negsuc, natAbs}
 use lib.ListN.{length, getD, take, drop, length-append, length-take, length-drop, take-append-drop}
-use lib.Seq.{drop-cons, take-append-seam, drop-append-seam, drop-drop, length-take-le}
+use lib.Seq.{drop-cons, take-append-seam, drop-append-seam, drop-drop, length-take-le, getD-take, getD-drop}
 use borrow.Author.Tests.{leb-true, le-leb, lt-leb}
 use Rattle.prelude.specs.Tests.{between, all}
-use Rattle.prelude.proofs.Laws.{clash, and-left, and-right, and-both, and-rest, and-not-left, and-not-right}
+use Rattle.prelude.proofs.Laws.{clash, all-at, and-left, and-right, and-both, and-rest, and-not-left, and-not-right}
 use Rattle.prelude.proofs.Laws.{between-low, between-high, is-between, below-not-between, above-not-between}
 use Rattle.literal.specs.Literals.{isLiteral}
 use Rattle.clause_list.specs.ClauseList.{cut, clausesOf, wordsOf, isCount, wellCut, isList}
@@ -114,6 +114,24 @@ module _ (v : ℕ) (ws : List ℤ) (at : ℕ) (h : at < length ws) (e : wellCutW
         clauses = ap clausesOf d ∙ clauses-cons count tail ∙ ap (λ (l : List ℤ). take n tail ∷ clausesOf l) m;
         rest = rw m at (and-right (all (isLiteral v) (take n tail)) _ r);
       }
+
+-- a literal of the clause at a place
+pub literal-at : (v : ℕ) (ws : List ℤ) (at n : ℕ) → ClauseAt v ws at n → (i : ℕ) → i < n → isLiteral v (getD ws (suc at + i) (pos 0)) ≡ true
+literal-at v ws at n c i h =
+    let tail = drop (suc at) ws in
+    let f : i < length (take n tail) = omega (arith, c .fits, length-take n tail, length-drop (suc at) ws) in
+    ap (isLiteral v) (sym (getD-take n tail i (pos 0) h ∙ getD-drop (suc at) ws i (pos 0)))
+    ∙ all-at (isLiteral v) (take n tail) (c .literals) i (pos 0) f
+
+-- each clause takes a word at least
+pub cut-few : (r : ℕ) (ws : List ℤ) → length (cut r ws) ≤ r
+unfolding cut
+cut-few zero ws = omega arith
+cut-few (suc r) [] = omega arith
+cut-few (suc r) (count ∷ ws) = omega (arith, cut-few r (drop (natAbs count) ws))
+
+pub clauses-few : (ws : List ℤ) → length (clausesOf ws) ≤ length ws
+clauses-few ws = cut-few (length ws) ws
 
 -- each clause has a literal, and each literal is one of the variables 1 to v
 abbrev pub hasLiteral : List ℤ → Bool

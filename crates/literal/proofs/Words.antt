@@ -1,13 +1,12 @@
 -- Words against the numbers and literals that they hold: no bits here.
-use mathlib.Core.Path.{_≡_, refl, sym, ap, _∙_, subst}
-use mathlib.Core.Bool.{Bool, true, false, cond}
-use Prim.Native.Nat.{ℕ, zero, suc, pred, min, _<_, _≤_}
+use mathlib.Core.Path.{_≡_, refl, ap}
+use mathlib.Core.Bool.{true, false}
+use Prim.Native.Nat.{ℕ, zero, suc, min, _≤_}
 use native.Mathlib.Nat.{min-eq-left}
 use native.Mathlib.Omega.{arith}
-use lib.Dec.{leb, ltb}
+use lib.Dec.{ltb}
 use lib.IntN.{ℤ, pos, negsuc, negℤ, natAbs}
-use lib.Signed.{ltZ}
-use borrow.Author.Tests.{ltb-true, ltb-false, lt-ltb, le-ltb, le-leb}
+use borrow.Author.Tests.{lt-ltb, le-leb}
 use Rattle.prelude.proofs.Laws.{clash, between-low, between-high, is-between}
 use Rattle.literal.specs.Literals.{Literal, positive, negative, wordOf, opposite, variable, literalOf}
 use Rattle.literal.specs.Literals.{isLiteral, lastVariable, isPositive, oppositeWord, positiveWord, countOf}

@@ -1,12 +1,12 @@
 -- Laws of elements stored one after the other (specs/Stores).
 use mathlib.Core.Path.{_≡_, refl, sym, ap, _∙_}
 use mathlib.Core.List.{List, [], _∷_, _++_, append-nil, append-assoc}
-use Prim.Native.Nat.{ℕ, zero, suc, _+_, _-_, _<_, _≤_}
+use Prim.Native.Nat.{ℕ, zero, suc, _+_, _-_, _≤_}
 use native.Mathlib.Nat.{add-zero, not-suc-le-zero, le-of-suc-le-suc}
 use native.Mathlib.Numerals.{add-one}
 use native.Mathlib.Omega.{arith}
-use lib.ListN.{length, getD, set, take, drop, length-set, length-drop, drop-of-length-le}
-use lib.Seq.{set-out, take-all, sets, sets-eq, getD-set-other}
+use lib.ListN.{length, set, take, drop, length-set, length-drop, drop-of-length-le}
+use lib.Seq.{set-out, take-all, sets, sets-eq}
 use Rattle.prelude.specs.Stores.{putAll}
 
 module _ {A : Type 0} where

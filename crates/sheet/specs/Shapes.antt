@@ -6,7 +6,7 @@ use Rattle.kinds.specs.declared.Rule.{Rule}
 use Rattle.kinds.specs.declared.Rule.the-variants.{Unknown, OfRelation, OfVariable, OfSort, OfIdentity, Same, Join, Product, Inverse, Closure, Comprehension, Comparison, Test, Negation, Connective, Quantifier}
 use Rattle.sheet.specs.declared.shapes.Shape.{Shape}
 use Rattle.sheet.specs.declared.shapes.Shape.the-variants.{Ill, Formula, SetOf, RelationOf}
-use Rattle.sheet.specs.Blocks.{Sheet, sortOf, columns, firstSort, secondSort}
+use Rattle.sheet.specs.Blocks.{Sheet, columns, firstSort, secondSort}
 
 -- "An expression is a set of sort S or a relation from S to T"; Ill stands for a shape that the kind does not take.
 -- s where the test holds
@@ -102,21 +102,22 @@ abbrev pub declaredShape : Sheet → ℕ → Shape
 declaredShape sheet r =
     cond (eqb (columns sheet r) 1) (SetOf (firstSort sheet r)) (RelationOf (firstSort sheet r) (secondSort sheet r))
 
--- the shape that a rule gives: a is the node's field, x and y are the shapes of the nodes that its fields name
-abbrev pub shapeBy : Rule → Sheet → ℕ → Shape → Shape → Shape
-shapeBy Unknown sheet a x y = Ill
-shapeBy OfRelation sheet a x y = declaredShape sheet a
-shapeBy OfVariable sheet a x y = SetOf (sortOf sheet a)
-shapeBy OfSort sheet a x y = SetOf a
-shapeBy OfIdentity sheet a x y = RelationOf a a
-shapeBy Same sheet a x y = only (equalShape x y) x
-shapeBy Join sheet a x y = joinShape x y
-shapeBy Product sheet a x y = productShape x y
-shapeBy Inverse sheet a x y = inverseShape x
-shapeBy Closure sheet a x y = closureShape x
-shapeBy Comprehension sheet a x y = only (isFormula y) (SetOf (sortOf sheet a))
-shapeBy Comparison sheet a x y = only (equalShape x y) Formula
-shapeBy Test sheet a x y = only (isExpression x) Formula
-shapeBy Negation sheet a x y = only (isFormula x) Formula
-shapeBy Connective sheet a x y = only (isFormula x && isFormula y) Formula
-shapeBy Quantifier sheet a x y = only (isFormula y) Formula
+-- the shape that a rule gives, from the node's field a, the shape of relation a, the sort of variable a,
+-- and the shapes x and y of the nodes that the fields name
+abbrev pub shapeBy : Rule → ℕ → Shape → ℕ → Shape → Shape → Shape
+shapeBy Unknown a relation sort x y = Ill
+shapeBy OfRelation a relation sort x y = relation
+shapeBy OfVariable a relation sort x y = SetOf sort
+shapeBy OfSort a relation sort x y = SetOf a
+shapeBy OfIdentity a relation sort x y = RelationOf a a
+shapeBy Same a relation sort x y = only (equalShape x y) x
+shapeBy Join a relation sort x y = joinShape x y
+shapeBy Product a relation sort x y = productShape x y
+shapeBy Inverse a relation sort x y = inverseShape x
+shapeBy Closure a relation sort x y = closureShape x
+shapeBy Comprehension a relation sort x y = only (isFormula y) (SetOf sort)
+shapeBy Comparison a relation sort x y = only (equalShape x y) Formula
+shapeBy Test a relation sort x y = only (isExpression x) Formula
+shapeBy Negation a relation sort x y = only (isFormula x) Formula
+shapeBy Connective a relation sort x y = only (isFormula x && isFormula y) Formula
+shapeBy Quantifier a relation sort x y = only (isFormula y) Formula

@@ -11,7 +11,7 @@ use Rattle.sheet.specs.declared.shapes.Shape.{Shape}
 use Rattle.sheet.specs.declared.shapes.Shape.the-variants.{Ill}
 use Rattle.sheet.specs.Blocks.{Sheet, scope, sortOf, kind, fieldA, fieldB, nodeCount}
 use Rattle.kinds.specs.Kinds.{rowOf}
-use Rattle.sheet.specs.Shapes.{shapeBy}
+use Rattle.sheet.specs.Shapes.{declaredShape, shapeBy}
 
 -- "Operands that are nodes have lower numbers than their parent.": the entries of the first n nodes, each made from those before
 unfoldable pub table : {A : Type 0} → (ℕ → List A → A) → ℕ → List A
@@ -48,7 +48,8 @@ module _ (sheet : Sheet) where
   -- each node's shape
   unfoldable pub shapeStep : ℕ → List Shape → Shape
   shapeStep v shapes =
-      shapeBy (rowOf (kind sheet v) .rule) sheet (fieldA sheet v)
+      shapeBy (rowOf (kind sheet v) .rule) (fieldA sheet v)
+      (declaredShape sheet (fieldA sheet v)) (sortOf sheet (fieldA sheet v))
       (getD shapes (fieldA sheet v) Ill) (getD shapes (fieldB sheet v) Ill)
 
   abbrev pub shapes : List Shape

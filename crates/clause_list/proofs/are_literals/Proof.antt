@@ -1,12 +1,9 @@
 -- `clause_list::are_literals` meets its contract. The loop's invariant: what is asked of all the words is asked of those not yet passed.
 use mathlib.Core.Path.{_≡_, refl, sym, ap, _∙_}
-use mathlib.Core.Bool.{Bool, true, false, _&&_}
-use mathlib.Core.List.{List}
-use Prim.Native.Nat.{ℕ, _≤_, _<_, _-_, _+_, min}
+use Prim.Native.Nat.{_≤_, _-_, _+_, min}
 use native.Mathlib.Omega.{arith}
-use lib.IntN.{ℤ, pos}
+use lib.IntN.{pos}
 use lib.ListN.{length, getD, drop}
-use mir.Syntax.{w32}
 use borrow.Author.Needs.{needs}
 use borrow.Author.Tests.{not-true, not-false}
 use Rattle.prelude.specs.Tests.{all}
@@ -16,9 +13,6 @@ use Rattle.literal.proofs.Signs.{back}
 use Rattle.literal.proofs.Words.{within-words}
 use Rattle.clause_list.proofs.are_literals.Statement.{statement}
 use Rattle.clause_list.proofs.are_literals.Tie as tie
-use Rattle.clause_list.proofs.are_literals.Reads as reads
-use Rattle.clause_list.proofs.are_literals.Lts as lts
-use Rattle.literal.proofs.is_literal.Reads as is-literal-reads
 
 abbrev Inv-loop : tie.InvT-loop
 Inv-loop words v i₀ i = (i ≤ length words) × (all (isLiteral v) words ≡ all (isLiteral v) (drop i words))

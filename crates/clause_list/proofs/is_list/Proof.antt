@@ -1,7 +1,6 @@
 -- `clause_list::is_list` meets its contract. The loop's invariant: the list is well cut exactly when what is not yet passed is.
 use mathlib.Core.Path.{_≡_, refl, sym, ap, _∙_}
-use mathlib.Core.Bool.{true, false}
-use Prim.Native.Nat.{ℕ, _≤_, _<_, _+_, _-_}
+use Prim.Native.Nat.{ℕ, _≤_, _+_, _-_}
 use native.Mathlib.Omega.{arith}
 use lib.ListN.{length, drop, drop-of-length-le, length-drop}
 use lib.Seq.{drop-drop, take-all}
@@ -11,9 +10,6 @@ use Rattle.clause_list.proofs.Laws.{wellCutWords, well-cut-nil, no-vari
 use Rattle.clause_list.proofs.Fronts.{front-cut, front-none}
 use Rattle.clause_list.proofs.is_list.Statement.{statement}
 use Rattle.clause_list.proofs.is_list.Tie as tie
-use Rattle.clause_list.proofs.is_list.Reads as reads
-use Rattle.clause_list.proofs.is_list.Lts as lts
-use Rattle.clause_list.proofs.clause_words.Reads as clause-words-reads
 
 abbrev Inv-loop : tie.InvT-loop
 Inv-loop list v at₀ at = (at ≤ length list) × (wellCutWords v list ≡ wellCutWords v (drop at list))

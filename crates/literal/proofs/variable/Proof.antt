@@ -1,5 +1,5 @@
 -- `literal::variable` meets its contract.
-use mathlib.Core.Path.{_≡_, sym, ap, _∙_}
+use mathlib.Core.Path.{sym, ap, _∙_}
 use Prim.Native.Nat.{_<_}
 use lib.IntN.{natAbs}
 use borrow.Author.Needs.{needs}

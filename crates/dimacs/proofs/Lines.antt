@@ -1,0 +1,106 @@
+-- The text of a clause list, line by line, and its length: the text never passes the room that is asked for it.
+use mathlib.Core.Path.{_≡_, refl, ap}
+use mathlib.Core.Bool.{true, false}
+use mathlib.Core.List.{List, [], _∷_, _++_}
+use Prim.Native.Nat.{ℕ, suc, _+_, _*_, _<_, _≤_}
+use native.Mathlib.Omega.{arith}
+use lib.Dec.{ltb}
+use lib.IntN.{ℤ, pos, negsuc, natAbs}
+use lib.ListN.{length, getD, drop, drop-of-length-le, length-append}
+use lib.Seq.{drop-cons}
+use borrow.Author.Tests.{lt-ltb}
+use Rattle.prelude.specs.Tests.{all}
+use Rattle.prelude.proofs.Laws.{clash, and-left, and-right}
+use Rattle.literal.specs.Literals.{isLiteral, isPositive}
+use Rattle.literal.proofs.Words.{literal-high}
+use Rattle.clause_list.specs.ClauseList.{clausesOf, wordsOf, isList}
+use Rattle.clause_list.proofs.Laws.{list-clauses, list-literals, list-most-variables}
+use Rattle.dimacs.specs.Text.{decimal, literalText, clauseLine, clauseLines, header, textOf, textRoom}
+use Rattle.dimacs.proofs.Decimals.{decimal-few, decimal-short}
+
+-- a literal by its sign
+pub positive-text : (l : ℤ) → isPositive l ≡ true → literalText l ≡ decimal (natAbs l)
+unfolding literalText
+positive-text (pos n) e = refl
+positive-text (negsuc n) e = clash false e refl
+
+pub negative-text : (l : ℤ) → isPositive l ≡ false → 1 ≤ natAbs l → literalText l ≡ 45 ∷ decimal (natAbs l)
+unfolding literalText
+negative-text (pos n) e h = clash (ltb 0 n) (lt-ltb 0 n h) e
+negative-text (negsuc n) e h = refl
+
+-- a clause from a literal on
+pub line-from : (clause : List ℤ) (i : ℕ) → i < length clause
+    → clauseLine (drop i clause) ≡ literalText (getD clause i (pos 0)) ++ (32 ∷ clauseLine (drop (suc i) clause))
+unfolding clauseLine
+line-from clause i h = rw (drop-cons clause i (pos 0) h)
+
+pub line-end : (clause : List ℤ) (i : ℕ) → length clause ≤ i → clauseLine (drop i clause) ≡ 48 ∷ 10 ∷ []
+unfolding clauseLine
+line-end clause i h = rw (drop-of-length-le clause h)
+
+pub lines-none : clauseLines [] ≡ []
+unfolding clauseLines
+lines-none = refl
+
+pub lines-more : (clause : List ℤ) (clauses : List (List ℤ)) → clauseLines (clause ∷ clauses) ≡ clauseLine clause ++ clauseLines clauses
+unfolding clauseLines
+lines-more clause clauses = refl
+
+-- a sign, five digits and a space at most
+literal-short : (v : ℕ) (l : ℤ) → v ≤ 16000 → isLiteral v l ≡ true → length (literalText l) ≤ 6
+unfolding literalText
+literal-short v (pos n) h e = omega (arith, literal-high v (pos n) e, decimal-short 4 n (omega (arith, literal-high v (pos n) e)))
+literal-short v (negsuc n) h e =
+    omega (arith, literal-high v (negsuc n) e, decimal-short 4 (suc n) (omega (arith, literal-high v (negsuc n) e)))
+
+line-short : (v : ℕ) (clause : List ℤ) → v ≤ 16000 → all (isLiteral v) clause ≡ true → length (clauseLine clause) ≤ 7 * length clause + 2
+unfolding clauseLine all
+line-short v [] h e = omega arith
+line-short v (l ∷ ls) h e =
+    omega (
+      arith,
+      length-append (literalText l) (32 ∷ clauseLine ls),
+      literal-short v l h (and-left (isLiteral v l) (all (isLiteral v) ls) e),
+      line-short v ls h (and-right (isLiteral v l) (all (isLiteral v) ls) e),
+    )
+
+-- the word of each count pays for the closing 0 of its clause and leaves five bytes
+lines-short : (v : ℕ) (clauses : List (List ℤ)) → v ≤ 16000 → all (all (isLiteral v)) clauses ≡ true
+    → length (clauseLines clauses) + 5 * length clauses ≤ 7 * length (wordsOf clauses)
+unfolding clauseLines wordsOf all
+lines-short v [] h e = omega arith
+lines-short v (clause ∷ clauses) h e =
+    omega (
+      arith,
+      length-append (clauseLine clause) (clauseLines clauses),
+      length-append clause (wordsOf clauses),
+      line-short v clause h (and-left (all (isLiteral v) clause) (all (all (isLiteral v)) clauses) e),
+      lines-short v clauses h (and-right (all (isLiteral v) clause) (all (all (isLiteral v)) clauses) e),
+    )
+
+pub header-length : (v c : ℕ) → length (header v c) ≡ length (decimal v) + length (decimal c) + 8
+unfolding header
+header-length v c =
+    omega (arith, length-append (decimal v) (32 ∷ (decimal c ++ (10 ∷ []))), length-append (decimal c) (10 ∷ []))
+
+pub text-parts : (v : ℕ) (ws : List ℤ) → header v (length (clausesOf ws)) ++ clauseLines (clausesOf ws) ≡ textOf v ws
+unfolding textOf
+text-parts v ws = refl
+
+-- the text never passes its room
+pub text-fits : (v : ℕ) (ws : List ℤ) → isList v ws ≡ true → length (textOf v ws) ≤ textRoom ws
+unfolding textOf textRoom
+text-fits v ws e =
+    let cs = clausesOf ws in
+    let most = list-most-variables v ws e in
+    let lines = lines-short v cs most (list-literals v ws e) in
+    omega (
+      arith,
+      length-append (header v (length cs)) (clauseLines cs),
+      header-length v (length cs),
+      decimal-short 4 v (omega (arith, most)),
+      decimal-few (length cs),
+      lines,
+      ap length (list-clauses v ws e),
+    )

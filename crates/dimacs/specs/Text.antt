@@ -1,0 +1,51 @@
+-- The text of a clause list in the DIMACS CNF format (document 01, "The finder program", case K1).
+use mathlib.Core.Bool.{true, false}
+use mathlib.Core.List.{List, [], _∷_, _++_}
+use Prim.Native.Nat.{ℕ, zero, suc, _+_, _*_, _/_, _%_}
+use lib.Dec.{leb}
+use lib.IntN.{ℤ, pos, negsuc}
+use lib.ListN.{length}
+use Rattle.prelude.specs.Texts.{bytesOf}
+use Rattle.clause_list.specs.ClauseList.{clausesOf}
+
+-- the byte of a digit: 0 is byte 48
+abbrev pub digit : ℕ → ℕ
+digit d = 48 + d
+
+-- a number in decimal: the digits of its tenth, then its last digit, with no leading zero
+unfoldable pub digits : ℕ → ℕ → List ℕ
+digits zero n = []
+digits (suc rounds) n =
+    elim (leb n 9) [
+      | true ↦ digit n ∷ []
+      | false ↦ digits rounds (n / 10) ++ (digit (n % 10) ∷ [])
+    ]
+
+-- a number has fewer digits than one more than itself, so that as many rounds give them all
+unfoldable pub decimal : ℕ → List ℕ
+decimal n = digits (suc n) n
+
+-- a literal: its variable, after a minus where it says that the variable is false
+unfoldable pub literalText : ℤ → List ℕ
+literalText (pos n) = decimal n
+literalText (negsuc n) = bytesOf "-" ++ decimal (suc n)
+
+-- a clause: its literals, separated by single spaces, closed by 0
+unfoldable pub clauseLine : List ℤ → List ℕ
+clauseLine [] = bytesOf "0\n"
+clauseLine (l ∷ ls) = literalText l ++ (bytesOf " " ++ clauseLine ls)
+
+unfoldable pub clauseLines : List (List ℤ) → List ℕ
+clauseLines [] = []
+clauseLines (clause ∷ clauses) = clauseLine clause ++ clauseLines clauses
+
+-- `p cnf v c`: the number of variables, then the number of clauses
+unfoldable pub header : ℕ → ℕ → List ℕ
+header v c = bytesOf "p cnf " ++ (decimal v ++ (bytesOf " " ++ (decimal c ++ bytesOf "\n")))
+
+unfoldable pub textOf : ℕ → List ℤ → List ℕ
+textOf v ws = header v (length (clausesOf ws)) ++ clauseLines (clausesOf ws)
+
+-- "Clause text needs 7 times the list's words, plus 32 bytes"
+unfoldable pub textRoom : List ℤ → ℕ
+textRoom ws = 7 * length ws + 32

@@ -1,0 +1,142 @@
+// Clause text in the DIMACS CNF format (document 01): its size, and the text itself.
+use refusal::Refusal;
+ghost use mathlib.Core.Path.{_≡_};
+ghost use Prim.Native.Nat.{_≤_};
+ghost use lib.IntN.{natAbs};
+ghost use lib.ListN.{length};
+ghost use Rattle.clause_list.specs.ClauseList.{clausesOf};
+ghost use Rattle.dimacs.specs.Text.{decimal, literalText, clauseLine, clauseLines, header};
+ghost use Rattle.dimacs.specs.Answers.{answerOf, sizeAnswer, writeAnswer, textAfter};
+ghost use Rattle.dimacs.specs.Private.{Room, Put, Proper, Listed};
+
+pub enum TextSize {
+    Bytes(usize),
+    Refused(Refusal),
+}
+
+// Puts a number in decimal, and answers where it ends: the digits of its tenth first, then its last digit.
+fn put_decimal(text: &mut [u8], at: usize, n: usize) -> usize
+    requires { ⌜ Room (now text) at (decimal n) ⌝ }
+    ensures { λ r. ⌜ Put (now (text .entry)) at (decimal n) (now (text .exit)) r ⌝ }
+{
+    if n <= 9 {
+        text[at] = 48 + n as u8;
+        return at + 1;
+    }
+    let last = put_decimal(text, at, n / 10);
+    text[last] = 48 + (n % 10) as u8;
+    last + 1
+}
+
+// Puts a literal: a minus where it says that its variable is false, then the variable.
+fn put_literal(text: &mut [u8], at: usize, l: i32) -> usize
+    requires { ⌜ 1 ≤ natAbs l ⌝ }
+    requires { ⌜ Room (now text) at (literalText l) ⌝ }
+    ensures { λ r. ⌜ Put (now (text .entry)) at (literalText l) (now (text .exit)) r ⌝ }
+{
+    let n = literal::variable(l) as usize;
+    if literal::is_positive(l) {
+        return put_decimal(text, at, n);
+    }
+    text[at] = b'-';
+    put_decimal(text, at + 1, n)
+}
+
+// Puts the line of a clause.
+fn put_clause(text: &mut [u8], at: usize, clause: &[i32]) -> usize
+    requires { ⌜ Proper (now clause) ⌝ }
+    requires { ⌜ Room (now text) at (clauseLine (now clause)) ⌝ }
+    ensures { λ r. ⌜ Put (now (text .entry)) at (clauseLine (now (clause .entry))) (now (text .exit)) r ⌝ }
+{
+    let mut end = at;
+    let mut i = 0;
+    while i < clause.len() {
+        let l = clause[i];
+        end = put_literal(text, end, l);
+        text[end] = b' ';
+        end += 1;
+        i += 1;
+    }
+    text[end] = b'0';
+    text[end + 1] = b'\n';
+    end + 2
+}
+
+// The number of clauses of a list.
+fn clause_count(list: &[i32]) -> usize
+    requires { ⌜ Listed (now list) ⌝ }
+    ensures { λ r. ⌜ r ≡ length (clausesOf (now (list .entry))) ⌝ }
+{
+    let mut clauses: usize = 0;
+    let mut i = 0;
+    while i < list.len() {
+        let head = list[i];
+        i += 1 + literal::count(head) as usize;
+        clauses += 1;
+    }
+    clauses
+}
+
+// Puts the line of every clause of a list.
+fn put_clauses(text: &mut [u8], at: usize, list: &[i32]) -> usize
+    requires { ⌜ Listed (now list) ⌝ }
+    requires { ⌜ Room (now text) at (clauseLines (clausesOf (now list))) ⌝ }
+    ensures { λ r. ⌜ Put (now (text .entry)) at (clauseLines (clausesOf (now (list .entry)))) (now (text .exit)) r ⌝ }
+{
+    let mut end = at;
+    let mut i = 0;
+    while i < list.len() {
+        let head = list[i];
+        let first = i + 1;
+        let next = first + literal::count(head) as usize;
+        end = put_clause(text, end, &list[first..next]);
+        i = next;
+    }
+    end
+}
+
+// Puts the header from the start of the text.
+fn put_header(text: &mut [u8], v: usize, clauses: usize) -> usize
+    requires { ⌜ Room (now text) 0 (header v clauses) ⌝ }
+    ensures { λ r. ⌜ Put (now (text .entry)) 0 (header v clauses) (now (text .exit)) r ⌝ }
+{
+    text[0] = b'p';
+    text[1] = b' ';
+    text[2] = b'c';
+    text[3] = b'n';
+    text[4] = b'f';
+    text[5] = b' ';
+    let space = put_decimal(text, 6, v);
+    text[space] = b' ';
+    let feed = put_decimal(text, space + 1, clauses);
+    text[feed] = b'\n';
+    feed + 1
+}
+
+// The bytes to lend for the text of a list with v variables.
+pub fn size(list: &[i32], v: u32) -> TextSize
+    ensures { λ r. ⌜ answerOf r ≡ sizeAnswer v (now (list .entry)) ⌝ }
+{
+    if !clause_list::is_list(list, v) {
+        return TextSize::Refused(Refusal::List);
+    }
+    TextSize::Bytes(7 * list.len() + 32)
+}
+
+// Writes the text of a list with v variables, and answers its bytes.
+pub fn write(list: &[i32], v: u32, text: &mut [u8]) -> TextSize
+    ensures { λ r. ⌜ answerOf r ≡ writeAnswer v (now (list .entry)) (now (text .entry)) ⌝ }
+    ensures { λ r. ⌜ now (text .exit) ≡ textAfter v (now (list .entry)) (now (text .entry)) ⌝ }
+{
+    let room = size(list, v);
+    let TextSize::Bytes(needed) = room else {
+        return room;
+    };
+    if text.len() < needed {
+        return TextSize::Refused(Refusal::Short);
+    }
+    let clauses = clause_count(list);
+    let start = put_header(text, v as usize, clauses);
+    let end = put_clauses(text, start, list);
+    TextSize::Bytes(end)
+}

@@ -1,0 +1,17 @@
+pub mod Places
+pub mod Rounds
+pub mod Flags
+pub mod Counts
+pub mod Paths
+pub mod Stands
+pub mod Operators
+pub mod Joins
+pub mod Typing
+pub mod Evaluates
+pub mod Multiplicities
+pub mod Rows
+pub mod WellShaped
+pub mod Free
+pub mod Satisfaction
+pub mod Accepted
+pub mod Cases

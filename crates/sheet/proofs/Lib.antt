@@ -1,0 +1,7 @@
+mod Loops
+pub mod TableLaws
+mod FillingLaws
+mod Visits
+mod Verdicts
+mod Counts
+mod Parts
