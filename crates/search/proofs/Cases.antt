@@ -8,7 +8,7 @@ use Rattle.clause_list.specs.ClauseList.{cut, wellCut, isList}
 use Rattle.search_rules.specs.Rules.{truthOf, negated, literal, isFalsified, isSatisfied, conflict, openOf, sameLiteral, only, unitOf}
 use Rattle.search_rules.specs.Rules.{firstUnit, lowestOpen, wordOf, byteOf, placeOf, valuesOf, trailOf, turn, decide, next}
 use Rattle.search_rules.specs.Run.{total, count, run}
-use Rattle.search.specs.Answers.{Answer, found, none, spent, refused, answerAt, valuesAt, trailAt, Outcome, outcome}
+use Rattle.search.specs.Answers.{Answer, found, none, spent, refused, answerAt, valuesAt, trailAt, outcome}
 
 -- what is lent is one byte and one word longer than v asks for
 record Row : Type 0 where

@@ -1,17 +1,16 @@
 -- The outcome of a call, case by case, and the end of a run as the answer that it gives.
-use mathlib.Core.Path.{_≡_, refl, sym, _∙_, ap}
+use mathlib.Core.Path.{_≡_, refl, _∙_, ap}
 use mathlib.Core.Bool.{Bool, true, false, cond, _&&_}
-use mathlib.Core.Logic.{_⊎_, inl, inr, ⊎-elim}
-use mathlib.Core.List.{List, [], _∷_, _++_, map}
-use Prim.Native.Nat.{ℕ, zero, suc, _+_, _<_, _≤_, _^_}
+use mathlib.Core.List.{List, _++_, map}
+use Prim.Native.Nat.{ℕ, _+_, _<_, _≤_}
 use native.Mathlib.Omega.{arith}
 use lib.Dec.{leb}
 use lib.IntN.{ℤ}
 use lib.ListN.{length, drop}
 use borrow.Author.Tests.{le-leb, lt-leb}
-use Rattle.prelude.proofs.Laws.{and-both, and-not-left, and-not-right, decided}
+use Rattle.prelude.proofs.Laws.{and-both, and-not-left, and-not-right}
 use Rattle.clause_list.specs.ClauseList.{isList}
-use Rattle.search_rules.specs.Rules.{State, valuesOf, trailOf, settle}
+use Rattle.search_rules.specs.Rules.{State, settle}
 use Rattle.search_rules.specs.Run.{Tally, total, End, wasNone, wasFound, wasSpent, run}
 use Rattle.search_rules.proofs.StepView.{Ends, run-ends}
 use Rattle.search_core.specs.declared.run.End.the-variants.{None, Found, Spent}
@@ -24,7 +23,8 @@ module _ (list : List ℤ) (v : ℕ) (values : List ℕ) (trail : List ℤ) (bud
   long = leb v (length values) && leb v (length trail)
 
   by-tests : (b c : Bool) → isList v list ≡ b → long ≡ c
-      → outcome list v values trail budget ≡ cond b (cond c (finish v values trail (searchRun list v budget)) (refuse 13 values trail)) (refuse 12 values trail)
+      → outcome list v values trail budget ≡ cond b (cond c (finish v values trail (searchRun list v budget)) (refuse 13 values trail))
+          (refuse 12 values trail)
   unfolding outcome
   by-tests b c p q =
       ap (λ x. cond x (cond long (finish v values trail (searchRun list v budget)) (refuse 13 values trail)) (refuse 12 values trail)) p

@@ -3,9 +3,9 @@
 use mathlib.Core.Path.{_≡_, refl, sym, _∙_, ap}
 use mathlib.Core.Bool.{Bool, true, false}
 use mathlib.Core.Logic.{_⊎_, inl, inr, ⊎-elim, _↔_}
-use mathlib.Core.List.{List, [], _∷_, _++_, map}
-use mathlib.Core.Option.{Option, some}
-use Prim.Native.Nat.{ℕ, _+_, _<_, _≤_}
+use mathlib.Core.List.{List, [], _++_, map}
+use mathlib.Core.Option.{some}
+use Prim.Native.Nat.{ℕ, _≤_}
 use native.Mathlib.Omega.{arith}
 use native.Mathlib.Nat.{zero-add}
 use lib.Dec.{leb}
@@ -13,12 +13,11 @@ use lib.IntN.{ℤ}
 use lib.ListN.{length, take, drop, length-map}
 use lib.Seq.{take-at}
 use borrow.Author.Tests.{leb-true, leb-false}
-use Rattle.prelude.proofs.Laws.{decided}
 use Rattle.clause_list.specs.ClauseList.{clausesOf, isList, Satisfying}
 use Rattle.search_rules.specs.Rules.{State, valuesOf, trailOf, settle}
-use Rattle.search_rules.specs.Run.{Tally, zeros, total, End, wasNone, wasFound, wasSpent, run, after, EndedWithin}
+use Rattle.search_rules.specs.Run.{Tally, zeros, total, End, wasNone, wasFound, wasSpent, after, EndedWithin}
 use Rattle.search_rules.proofs.Invariant.{length-values}
-use Rattle.search_rules.proofs.Ranges.{Listed, listed, ranged}
+use Rattle.search_rules.proofs.Ranges.{fine-list, ranged}
 use Rattle.search_rules.proofs.Theorems as rules
 use Rattle.search.specs.Answers.{Answer, found, none, spent, refused, answerAt, valuesAt, trailAt, Outcome, refuse, finish, searchRun, outcome}
 use Rattle.search.proofs.Outcomes.{no-list, short-values, short-trail, runs}
@@ -36,7 +35,13 @@ module _ (list : List ℤ) (v : ℕ) (values : List ℕ) (trail : List ℤ) (bud
   Called = ((n : ℕ) × (call ≡ refuse n values trail)) ⊎ Runs
 
   called : Called
-  called = ⊎-elim (λ p. ⊎-elim (λ h. ⊎-elim (λ k. inr (record { is-list = p; ends = runs list v values trail budget p (leb-true _ _ h) (leb-true _ _ k) })) (λ k. inl (13, short-trail list v values trail budget p (leb-false _ _ k))) (decided (leb v (length trail)))) (λ h. inl (13, short-values list v values trail budget p (leb-false _ _ h))) (decided (leb v (length values)))) (λ p. inl (12, no-list list v values trail budget p)) (decided (isList v list))
+  called = by (isList v list) (leb v (length values)) (leb v (length trail)) refl refl refl
+    where
+      by : (p h k : Bool) → isList v list ≡ p → leb v (length values) ≡ h → leb v (length trail) ≡ k → Called
+      by false h k d e f = inl (12, no-list list v values trail budget d)
+      by true false k d e f = inl (13, short-values list v values trail budget d (leb-false _ _ e))
+      by true true false d e f = inl (13, short-trail list v values trail budget d (leb-false _ _ f))
+      by true true true d e f = inr (record { is-list = d; ends = runs list v values trail budget d (leb-true _ _ e) (leb-true _ _ f) })
 
   -- an answer that is no refusal is that of the run
   answered : (a : Answer) → ((n : ℕ) → refused n ≡ a → ⊥) → call .answer ≡ a → Runs × (answerAt (searchRun list v budget) ≡ a)
@@ -73,9 +78,10 @@ module _ (list : List ℤ) (v : ℕ) (values : List ℕ) (trail : List ℤ) (bud
   found-satisfies steps e =
       let r = answered (found steps) (λ n d. let z : _≡_ {A = ℕ} 0 1 = cc in omega arith) e in
       let w = was-found (searchRun list v budget) steps (r .1) in
-      let s = rules.found-satisfies (clausesOf list) v (ranged v list (listed v list (r .0 .is-list) .fine)) budget zeros (w .0) [] (w .1) (w .2) in
+      let s = rules.found-satisfies (clausesOf list) v (ranged v list (fine-list v list (r .0 .is-list))) budget zeros (w .0) [] (w .1) (w .2) in
       let m : length (map settle (valuesOf v (w .1))) ≡ v = length-map (valuesOf v (w .1)) settle ∙ length-values v (w .1) in
-      let q : call .values ≡ map settle (valuesOf v (w .1)) ++ drop v values = ap (λ o. o .values) (r .0 .ends) ∙ ap (λ x. valuesAt v x ++ drop v values) (w .2) in
+      let q : call .values ≡ map settle (valuesOf v (w .1)) ++ drop v values =
+            ap (λ o. o .values) (r .0 .ends) ∙ ap (λ x. valuesAt v x ++ drop v values) (w .2) in
       rw (q, take-at (map settle (valuesOf v (w .1))) (drop v values) v m) s
 
   -- "spent", of a call that is not refused, exactly when no end is reached after at most the budget's steps

@@ -1,10 +1,10 @@
 -- The run of the code is the run of the rules.
 use mathlib.Core.Path.{_≡_, refl, sym, _∙_, ap}
 use mathlib.Core.Bool.{Bool, true, false, _||_}
-use mathlib.Core.Logic.{_⊎_, inl, inr, ⊎-elim}
+use mathlib.Core.Logic.{⊎-elim}
 use mathlib.Core.List.{List, [], _∷_}
-use mathlib.Core.Option.{Option, none, some, Option·getD}
-use Prim.Native.Nat.{ℕ, zero, suc, _+_, _-_, _<_, _≤_, _^_}
+use mathlib.Core.Option.{Option·getD}
+use Prim.Native.Nat.{ℕ, zero, suc, _+_, _-_, _<_, _≤_}
 use native.Mathlib.Omega.{arith}
 use native.Mathlib.Numerals.{add-one}
 use lib.Dec.{eqb}
@@ -17,13 +17,12 @@ use Rattle.prelude.proofs.Laws.{clash, or-left, or-right, or-rest}
 use Rattle.search_core.specs.declared.steps.StepKind.{StepKind}
 use Rattle.search_core.specs.declared.steps.Moved.the-variants.{NoneLeft, AllSet, To}
 use Rattle.search_core.specs.declared.run.Position.{Position}
-use Rattle.search_core.specs.declared.run.End.{End}
 use Rattle.search_core.specs.declared.run.End.the-variants.{None, Found, Spent}
-use Rattle.search_core.specs.declared.run.Ran.{Ran}
 use Rattle.search_rules.specs.Inner.{WasOpen}
 use Rattle.search_scan.specs.Seen.{conflicting, unit, neither, seen}
 use Rattle.search_core.specs.Inner.{Stored, Turned, kindAs, kindOf, Stepped, tallyOf, Advanced, endAfter, Ended}
-use Rattle.search_rules.specs.Rules.{lowestOpen, Entry, propagated, decided, State, wordOf, byteOf, placeOf, valuesOf, Kind, propagation, decision, backtrack, Next, endNone, endFound, step, turn, decide, next}
+use Rattle.search_rules.specs.Rules.{lowestOpen, propagated, decided, State, wordOf, byteOf, placeOf, valuesOf, Kind, propagation}
+use Rattle.search_rules.specs.Rules.{decision, backtrack, Next, endNone, endFound, step, turn, decide, next}
 use Rattle.search_rules.specs.Run.{Tally, total, count, wasNone, wasFound, wasSpent, run}
 use Rattle.search_rules.proofs.Found.{place-below}
 use Rattle.search_rules.proofs.Invariant.{length-values}

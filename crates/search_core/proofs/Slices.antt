@@ -5,7 +5,7 @@ use Prim.Native.Nat.{ℕ, zero, suc, _+_, _-_, _<_, _≤_}
 use native.Mathlib.Omega.{arith}
 use native.Mathlib.Nat.{zero-add}
 use native.Mathlib.Numerals.{add-one}
-use lib.IntN.{ℤ, pos, negsuc, natAbs, _-ℤ_}
+use lib.IntN.{ℤ, pos, negsuc, _-ℤ_}
 use lib.ListN.{length, getD, take, set, replicate, length-set, length-replicate, getD-replicate}
 use lib.Seq.{getD-set-same, getD-set-other, set-set, set-getD, take-suc-set, take-all}
 use mir.Syntax.{w32}
@@ -13,7 +13,8 @@ use mir.Val.{SFits}
 use Rattle.literal.specs.Literals.{lastVariable}
 use Rattle.search_rules.specs.Inner.{InRange, WasOpen}
 use Rattle.search_core.specs.Inner.{Stored, Turned}
-use Rattle.search_rules.specs.Rules.{Entry, propagated, decided, State, wordOf, byteOf, placeOf, valuesOf, trailOf, Next, endNone, endFound, step, backtrack, turn}
+use Rattle.search_rules.specs.Rules.{Entry, propagated, decided, State, wordOf, byteOf, placeOf, valuesOf, trailOf}
+use Rattle.search_rules.specs.Rules.{step, backtrack, turn}
 use Rattle.search_rules.proofs.Found.{place-below}
 use Rattle.search_rules.proofs.Invariant.{length-values}
 
@@ -166,7 +167,8 @@ turn-other (propagated l) state h = refl
 turn-other (decided i) state h = absurd (h refl)
 
 -- the entry of a turned decision
-turned-entry : (i : ℕ) → (wordOf (propagated (pos (suc i))) ≡ pos (suc i)) × (placeOf (wordOf (propagated (pos (suc i)))) ≡ i) × (byteOf (propagated (pos (suc i))) ≡ 1)
+turned-entry : (i : ℕ) → (wordOf (propagated (pos (suc i))) ≡ pos (suc i)) × (placeOf (wordOf (propagated (pos (suc i)))) ≡ i) ×
+    (byteOf (propagated (pos (suc i))) ≡ 1)
 unfolding wordOf placeOf byteOf
 turned-entry i = (refl, refl, refl)
 
@@ -193,7 +195,8 @@ module _ (v : ℕ) (state : State) (values : List ℕ) (trail : List ℤ) (n : �
       let q : getD (trailOf v (t .rest)) (length (t .rest)) (pos 0) ≡ pos 0 =
       past v (t .rest) (length (t .rest)) (omega arith) (let b = t .below in let m = t .index in omega arith) in
       record {
-        values-are = values-over 2 ∙ ap (set (valuesOf v (t .rest)) (placeOf (wordOf (t .e)))) (sym was-open-here) ∙ set-getD (valuesOf v (t .rest)) _ 2;
+        values-are = values-over 2 ∙ ap (set (valuesOf v (t .rest)) (placeOf (wordOf (t .e)))) (sym was-open-here)
+            ∙ set-getD (valuesOf v (t .rest)) _ 2;
         trail-is = trail-over (pos 0) ∙ ap (set (trailOf v (t .rest)) (length (t .rest))) (sym q) ∙ set-getD (trailOf v (t .rest)) _ (pos 0);
         length-is = t .index;
         was-open = rest-open;
@@ -230,7 +233,9 @@ pub went-none : (v : ℕ) (state : State) (values : List ℕ) (trail : List ℤ)
 went-none v state values trail n w h = by (w .now-at) (w .stored) (w .alike)
   where
     by : (s : State) → Stored v s values trail n → turn s ≡ turn state → Turned v (turn state) 0 values trail
-    by [] i e = rw (← e) (turn-nil v values trail (record { values-are = i .values-are; trail-is = i .trail-is; length-is = refl; was-open = i .was-open }))
+    by [] i e =
+        let s = record { values-are = i .values-are; trail-is = i .trail-is; length-is = refl; was-open = i .was-open } in
+        rw (← e) (turn-nil v values trail s)
     by (x ∷ s) i e = absurd (let l : n ≡ suc (length s) = i .length-is in omega arith)
 
 -- the opposite of a decision's word, as the machine has it

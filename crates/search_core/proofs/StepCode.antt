@@ -1,13 +1,13 @@
 -- A step of the code is a step of the rules.
-use mathlib.Core.Path.{_≡_, refl, sym, _∙_, ap}
+use mathlib.Core.Path.{_≡_, refl, _∙_, ap}
 use mathlib.Core.Bool.{Bool, true, false}
-use mathlib.Core.Logic.{_⊎_, inl, inr, ⊎-elim}
-use mathlib.Core.List.{List, [], _∷_}
+use mathlib.Core.Logic.{⊎-elim}
+use mathlib.Core.List.{List, _∷_}
 use mathlib.Core.Option.{Option, none, some, Option·getD}
 use Prim.Native.Nat.{ℕ, suc, _+_, _<_, _≤_}
 use native.Mathlib.Omega.{arith}
 use native.Mathlib.Numerals.{add-one}
-use lib.IntN.{ℤ, pos, negsuc, natAbs}
+use lib.IntN.{ℤ, pos, negsuc}
 use lib.ListN.{length, getD, set}
 use mir.Syntax.{w32}
 use mir.Val.{SFits}
@@ -17,12 +17,12 @@ use Rattle.search_core.specs.declared.steps.Moved.the-variants.{NoneLeft
 use Rattle.search_rules.specs.Inner.{InRange}
 use Rattle.search_scan.specs.Seen.{Sight, conflicting, unit, neither, seen}
 use Rattle.search_core.specs.Inner.{Stored, Turned, Stepped}
-use Rattle.search_rules.specs.Rules.{conflict, firstUnit, lowestOpen, Entry, propagated, decided, State, wordOf, byteOf, placeOf, valuesOf, trailOf, Kind, propagation, decision, backtrack, Next, endNone, endFound, step, turn, decide, next}
+use Rattle.search_rules.specs.Rules.{conflict, firstUnit, lowestOpen, propagated, decided, State, wordOf, byteOf, placeOf, valuesOf}
+use Rattle.search_rules.specs.Rules.{trailOf, Kind, propagation, backtrack, Next, endNone, endFound, step, turn, decide, next}
 use Rattle.search_rules.proofs.Found.{place-below}
-use Rattle.search_rules.proofs.Invariant.{OpenIn, first-unit-open}
-use Rattle.search_rules.proofs.Ranges.{Ranged}
+use Rattle.search_rules.proofs.Invariant.{OpenIn}
 use Rattle.search_core.proofs.Slices.{room, put-top, size-values, size-trail}
-use Rattle.search_rules.proofs.StepView.{Full, Lowest, low-cases, turns-of}
+use Rattle.search_rules.proofs.StepView.{Lowest, low-cases, turns-of}
 
 -- what a look shows, rule by rule
 module _ (values : List ℕ) (clauses : List (List ℤ)) where

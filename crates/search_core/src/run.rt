@@ -83,7 +83,8 @@ fn any_decision(values: &[u8]) -> bool
 fn ends(list: &[i32], values: &[u8]) -> End
     requires { ⌜ Fine (length (now values)) (now list) ⌝ }
     requires { ⌜ length (now values) ≤ lastVariable ⌝ }
-    ensures { λ r. ⌜ ((state : State) → WasOpen (length (now (values .entry))) state → now (values .entry) ≡ valuesOf (length (now (values .entry))) state
+    ensures { λ r. ⌜ ((state : State) → WasOpen (length (now (values .entry))) state
+        → now (values .entry) ≡ valuesOf (length (now (values .entry))) state
         → r ≡ endAfter (next (clausesOf (now (list .entry))) (length (now (values .entry))) state)) ⌝ }
 {
     let seen = scan(list, values);

@@ -12,7 +12,9 @@ use lib.ListN.{getD, set, replicate}
 use borrow.Author.Tests.{not-true, eqb-true, eq-eqb, ne-eqb}
 use Rattle.prelude.specs.Tests.{all, any}
 use Rattle.clause_list.specs.ClauseList.{isTrue}
-use Rattle.search_rules.specs.Rules.{Truth, falsified, satisfied, unassigned, truthOf, negated, literal, isFalsified, isSatisfied, conflict, openOf, sameLiteral, only, unitOf, firstUnit, Entry, propagated, decided, State, wordOf, byteOf, placeOf, valuesOf}
+use Rattle.search_rules.specs.Rules.{Truth, falsified, satisfied, unassigned, truthOf, negated, literal, isFalsified, isSatisfied}
+use Rattle.search_rules.specs.Rules.{conflict, openOf, sameLiteral, only, unitOf, firstUnit, Entry, propagated, decided, State}
+use Rattle.search_rules.specs.Rules.{wordOf, byteOf, placeOf, valuesOf}
 use Rattle.prelude.proofs.Laws.{clash, or-cases}
 use Rattle.search_rules.proofs.Booleans.{and-true}
 
@@ -106,8 +108,11 @@ module _ (values : List ℕ) (a : Assignment) (agrees : (i : ℕ) → Agrees (tr
   -- where no literal is satisfied, one that holds is open
   open-step : (k l : ℤ) (clause : List ℤ) (t : Truth) → literal values l ≡ t
       → isSatisfied t || any (λ l. isSatisfied (literal values l)) clause ≡ false
-      → all (sameLiteral k) (elim t as (λ _. List ℤ) [ falsified ↦ openOf values clause | satisfied ↦ openOf values clause | unassigned ↦ l ∷ openOf values clause ]) ≡ true
-      → (any (λ l. isSatisfied (literal values l)) clause ≡ false → all (sameLiteral k) (openOf values clause) ≡ true → Holds a clause → holds a k ≡ true)
+      → all (sameLiteral k)
+        (elim t as (λ _. List ℤ)
+          [ falsified ↦ openOf values clause | satisfied ↦ openOf values clause | unassigned ↦ l ∷ openOf values clause ]) ≡ true
+      → (any (λ l. isSatisfied (literal values l)) clause ≡ false → all (sameLiteral k) (openOf values clause) ≡ true
+        → Holds a clause → holds a k ≡ true)
       → (holds a l ≡ true) ⊎ Holds a clause → holds a k ≡ true
   unfolding isSatisfied all
   open-step k l clause falsified d s e p h = ⊎-elim (λ q. absurd (clash _ q (falsified-false l d))) (p s e) h

@@ -1,19 +1,20 @@
 -- Where the rules end with "found", the settled values satisfy every clause.
-use mathlib.Core.Path.{_≡_, refl, sym, _∙_, ap}
-use mathlib.Core.Bool.{Bool, true, false, _&&_, _||_}
-use mathlib.Core.Logic.{_⊎_, inl, inr, ⊎-elim}
+use mathlib.Core.Path.{_≡_, refl, _∙_}
+use mathlib.Core.Bool.{true, false, _&&_, _||_}
 use mathlib.Core.List.{List, [], _∷_, map}
 use Prim.Native.Nat.{ℕ, zero, suc, pred, _<_, _≤_}
 use native.Mathlib.Omega.{arith}
 use native.Mathlib.Numerals.{sub-one}
-use lib.Dec.{leb, eqb}
-use lib.IntN.{ℤ, pos, negsuc, natAbs}
+use lib.Dec.{leb}
+use lib.IntN.{ℤ, pos, negsuc}
 use lib.ListN.{length, getD, set, replicate, length-map, List·getD-map}
 use borrow.Author.Tests.{le-leb, eq-eqb}
 use Rattle.prelude.specs.Tests.{all, any}
 use Rattle.clause_list.specs.ClauseList.{isTrue, Satisfying}
 use Rattle.search_rules.specs.Inner.{InRange, AllIn}
-use Rattle.search_rules.specs.Rules.{Truth, falsified, satisfied, unassigned, truthOf, negated, literal, isFalsified, conflict, Entry, propagated, decided, State, byteOf, placeOf, wordOf, valuesOf, Next, endNone, endFound, step, next}
+use Rattle.search_rules.specs.Rules.{Truth, falsified, satisfied, unassigned, truthOf, negated, literal, isFalsified, conflict, Entry}
+use Rattle.search_rules.specs.Rules.{propagated, decided, State, byteOf, placeOf, wordOf, valuesOf, Next, endFound}
+use Rattle.search_rules.specs.Rules.{next}
 use Rattle.search_rules.specs.Rules.{settle}
 use Rattle.prelude.proofs.Laws.{or-right}
 use Rattle.search_rules.proofs.Booleans.{or-false}

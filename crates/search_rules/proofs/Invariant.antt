@@ -1,23 +1,22 @@
 -- What every step keeps: each literal that is no decision follows from the clauses and the literals before it,
 -- each literal's variable was open when it was set, and each decision took the lowest open variable.
-use mathlib.Core.Path.{_≡_, refl, sym, _∙_, ap}
-use mathlib.Core.Bool.{Bool, true, false, not, cond, _&&_, _||_}
-use mathlib.Core.Logic.{_⊎_, inl, inr, ⊎-elim}
+use mathlib.Core.Path.{_≡_, refl, _∙_}
+use mathlib.Core.Bool.{Bool, true, false, cond}
 use mathlib.Core.List.{List, [], _∷_}
 use mathlib.Core.Option.{Option, none, some}
-use Prim.Native.Nat.{ℕ, zero, suc, pred, _<_, _≤_}
+use Prim.Native.Nat.{ℕ, zero, suc, _<_}
 use native.Mathlib.Omega.{arith}
-use native.Mathlib.Numerals.{sub-one}
-use lib.IntN.{ℤ, pos, negsuc, natAbs}
+use lib.IntN.{ℤ, pos, negsuc}
 use lib.ListN.{length, getD, length-set, length-replicate}
 use Rattle.prelude.specs.Tests.{all, any}
 use Rattle.search_rules.specs.Inner.{InRange, AllIn, WasOpen}
-use Rattle.search_rules.specs.Rules.{Truth, falsified, satisfied, unassigned, truthOf, negated, literal, openOf, only, unitOf, firstUnit, isSatisfied, Entry, propagated, decided, State, wordOf, byteOf, placeOf, valuesOf, Kind, propagation, decision, backtrack, Next, endNone, endFound, step, turn, next}
-use Rattle.prelude.proofs.Laws.{clash}
-use Rattle.search_rules.proofs.Booleans.{not-false-true, and-true}
+use Rattle.search_rules.specs.Rules.{Truth, falsified, satisfied, unassigned, truthOf, negated, literal, openOf, only, unitOf}
+use Rattle.search_rules.specs.Rules.{firstUnit, isSatisfied, propagated, decided, State, wordOf, placeOf, valuesOf}
+use Rattle.search_rules.specs.Rules.{Kind, backtrack, Next, endNone, endFound, step, turn, next}
+use Rattle.search_rules.proofs.Booleans.{not-false-true}
 use Rattle.search_rules.proofs.Assignments.{Assignment, holds, Model, Has, Follows, values-agree, conflict-not, first-unit-holds}
 use Rattle.search_rules.proofs.Ranges.{Ranged}
-use Rattle.search_rules.proofs.StepView.{Lowest, Step, ends-none, ends-found, backtracks, propagates, decides, view}
+use Rattle.search_rules.proofs.StepView.{Step, ends-none, ends-found, backtracks, propagates, decides, view}
 
 pub length-values : (v : ℕ) (state : State) → length (valuesOf v state) ≡ v
 unfolding valuesOf
@@ -95,7 +94,8 @@ OpenIn v values l = InRange v l × (getD values (placeOf l) 2 ≡ 2)
 module _ (v : ℕ) (values : List ℕ) where
   -- the first of a clause's open literals
   open-step : (k l : ℤ) (clause ls : List ℤ) → InRange v l → (t : Truth) → literal values l ≡ t
-      → elim t as (λ _. List ℤ) [ falsified ↦ openOf values clause | satisfied ↦ openOf values clause | unassigned ↦ l ∷ openOf values clause ] ≡ k ∷ ls
+      → elim t as (λ _. List ℤ) [ falsified ↦ openOf values clause | satisfied ↦ openOf values clause | unassigned ↦ l ∷ openOf values clause ]
+          ≡ k ∷ ls
       → (openOf values clause ≡ k ∷ ls → OpenIn v values k) → OpenIn v values k
   open-step k l clause ls r falsified d e p = p e
   open-step k l clause ls r satisfied d e p = p e

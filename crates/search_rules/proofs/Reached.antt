@@ -1,11 +1,11 @@
 -- The states that a run comes through, and what that says of its end.
-use mathlib.Core.Path.{_≡_, refl, sym, _∙_, ap}
+use mathlib.Core.Path.{_≡_, refl, sym, _∙_}
 use mathlib.Core.Logic.{_⊎_, inl, inr, ⊎-elim}
-use mathlib.Core.List.{List, [], _∷_}
+use mathlib.Core.List.{List}
 use mathlib.Core.Option.{Option, none, some}
-use Prim.Native.Nat.{ℕ, zero, suc, _+_, _-_, _<_, _≤_}
+use Prim.Native.Nat.{ℕ, zero, suc, _+_, _-_, _≤_}
 use native.Mathlib.Omega.{arith}
-use native.Mathlib.Nat.{zero-add, suc-add, add-zero, add-suc}
+use native.Mathlib.Nat.{zero-add, suc-add}
 use lib.IntN.{ℤ}
 use Rattle.search_rules.specs.Rules.{State, Kind, Next, endNone, endFound, step, next}
 use Rattle.search_rules.specs.Run.{Tally, total, count, End, wasNone, wasFound, wasSpent, run, after, EndedWithin}
@@ -93,7 +93,8 @@ module _ (clauses : List (List ℤ)) (v : ℕ) where
       → EndedWithin clauses v n start → ⊥
   goes-not-ended n start s kind s' a g w =
       let m : w .steps + (n - w .steps) ≡ n = (let l = w .within in omega arith) in
-      let d : after clauses v (n - w .steps) (w .state) ≡ some s = sym (after-add (w .steps) (n - w .steps) start (w .state) (w .reached)) ∙ (rw m a) in
+      let d : after clauses v (n - w .steps) (w .state) ≡ some s = sym (after-add (w .steps) (n - w .steps) start (w .state) (w .reached))
+          ∙ (rw m a) in
       let q : w .state ≡ s = after-end (n - w .steps) (w .state) s (w .ends) d .1 in
       let x : (next clauses v s ≡ endNone) ⊎ (next clauses v s ≡ endFound) = rw q at (w .ends) in
       ⊎-elim (λ y. let z : _≡_ {A = ℕ} 0 1 = cc in omega arith) (λ y. let z : _≡_ {A = ℕ} 0 1 = cc in omega arith) x

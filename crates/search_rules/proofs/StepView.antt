@@ -1,5 +1,5 @@
 -- A step of the rules with its reason, and one induction on the run: what each step keeps holds at the end.
-use mathlib.Core.Path.{_≡_, refl, sym, _∙_, ap}
+use mathlib.Core.Path.{_≡_, refl, _∙_, ap}
 use mathlib.Core.Bool.{Bool, true, false}
 use mathlib.Core.Logic.{_⊎_, inl, inr, ⊎-elim}
 use mathlib.Core.List.{List, [], _∷_}
@@ -7,9 +7,11 @@ use mathlib.Core.Option.{Option, none, some}
 use Prim.Native.Nat.{ℕ, zero, suc, _+_, _<_, _≤_}
 use native.Mathlib.Omega.{arith}
 use native.Mathlib.Nat.{zero-add, add-zero, suc-add, add-suc}
-use lib.IntN.{ℤ, pos, negsuc}
+use lib.IntN.{ℤ, pos}
 use lib.ListN.{length, getD}
-use Rattle.search_rules.specs.Rules.{Truth, falsified, satisfied, unassigned, truthOf, conflict, firstUnit, lowestOpen, Entry, propagated, decided, State, valuesOf, Kind, propagation, decision, backtrack, Next, endNone, endFound, step, turn, decide, next}
+use Rattle.search_rules.specs.Rules.{truthOf, conflict, firstUnit, lowestOpen}
+use Rattle.search_rules.specs.Rules.{propagated, decided, State, valuesOf, Kind, propagation, decision, backtrack, Next, endNone}
+use Rattle.search_rules.specs.Rules.{endFound, step, turn, decide, next}
 use Rattle.search_rules.specs.Run.{Tally, total, count, End, wasNone, wasFound, wasSpent, run}
 
 -- no value is open
@@ -84,12 +86,14 @@ module _ (clauses : List (List ℤ)) (v : ℕ) where
           ⊎-elim (λ h. ends-found (ap (decide state) (h .0)) c u (h .1)) (λ h. decides (ap (decide state) (h .2)) c u (h .1)) (low-cases values)
 
       unit : (u : Option ℤ) → firstUnit values clauses ≡ u → conflict values clauses ≡ false
-          → Step clauses v state (elim u as (λ _. Next) [ some l ↦ step propagation (propagated l ∷ state) | none ↦ decide state (lowestOpen 0 values) ])
+          → Step clauses v state
+            (elim u as (λ _. Next) [ some l ↦ step propagation (propagated l ∷ state) | none ↦ decide state (lowestOpen 0 values) ])
       unit none u c = low c u
       unit (some l) u c = propagates refl c u
 
       by : (b : Bool) → conflict values clauses ≡ b
-          → Step clauses v state (elim b as (λ _. Next) [ true ↦ turn state | false ↦ elim (firstUnit values clauses) as (λ _. Next) [ some l ↦ step propagation (propagated l ∷ state) | none ↦ decide state (lowestOpen 0 values) ] ])
+          → Step clauses v state (elim b as (λ _. Next) [ true ↦ turn state | false ↦ elim (firstUnit values clauses) as (λ _. Next)
+              [ some l ↦ step propagation (propagated l ∷ state) | none ↦ decide state (lowestOpen 0 values) ] ])
       by true c = ⊎-elim (λ d. ends-none d c d) (λ d. backtracks (d .1) c (d .1)) (turns-of state)
       by false c = unit (firstUnit values clauses) refl c
 

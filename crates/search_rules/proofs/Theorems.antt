@@ -1,27 +1,19 @@
 -- What the answers of a search mean: none-unsatisfiable, found-satisfies, spent-exactly and resume.
 -- Each is stated over a run of the rules first, and then, as far as it speaks of a call, over the outcome that `search` ensures.
-use mathlib.Core.Path.{_≡_, refl, sym, _∙_, ap}
-use mathlib.Core.Bool.{Bool, true, false, not, cond, _&&_, _||_}
-use mathlib.Core.Logic.{_⊎_, inl, inr, ⊎-elim, _↔_}
-use mathlib.Core.List.{List, [], _∷_, _++_, map}
-use mathlib.Core.Option.{Option, none, some}
-use Prim.Native.Nat.{ℕ, zero, suc, pred, _+_, _-_, _<_, _≤_}
-use native.Mathlib.Omega.{arith}
-use native.Mathlib.Nat.{zero-add, suc-add, add-zero}
-use lib.Dec.{leb, eqb}
-use lib.IntN.{ℤ, pos, negsuc}
-use lib.ListN.{length, getD, take, drop}
-use borrow.Author.Tests.{eqb-true, ne-eqb}
-use Rattle.prelude.specs.Tests.{all, any}
-use Rattle.clause_list.specs.ClauseList.{clausesOf, isList, isTrue, Satisfying}
+use mathlib.Core.Path.{_≡_, refl}
+use mathlib.Core.Logic.{⊎-elim, _↔_}
+use mathlib.Core.List.{List, [], map}
+use mathlib.Core.Option.{some}
+use Prim.Native.Nat.{ℕ, zero, suc, _+_}
+use native.Mathlib.Nat.{zero-add, suc-add}
+use lib.IntN.{ℤ}
+use Rattle.clause_list.specs.ClauseList.{Satisfying}
 use Rattle.search_rules.specs.Rules.{State, Kind, Next, endNone, endFound, step, valuesOf, next}
 use Rattle.search_rules.specs.Run.{Tally, zeros, total, count, End, wasNone, wasFound, wasSpent, run, after, EndedWithin}
 use Rattle.search_rules.specs.Rules.{settle}
-use Rattle.prelude.proofs.Laws.{or-cases}
-use Rattle.search_rules.proofs.Booleans.{and-true}
 use Rattle.search_rules.proofs.Assignments.{Follows, assignment, model-of}
-use Rattle.search_rules.proofs.Ranges.{Ranged, Listed, listed, ranged}
-use Rattle.search_rules.proofs.StepView.{Ends, run-ends, total-count}
+use Rattle.search_rules.proofs.Ranges.{Ranged}
+use Rattle.search_rules.proofs.StepView.{Ends, run-ends}
 use Rattle.search_rules.proofs.Invariant.{follows-keeps, follows-not-none}
 use Rattle.search_rules.proofs.Found.{found-satisfying}
 use Rattle.search_rules.proofs.Reached.{spending, spent-not-ended, ended-or-spent}
@@ -69,7 +61,8 @@ module _ (clauses : List (List ℤ)) (v : ℕ) where
   resume zero n t state = rw (zero-add n) (by n (next clauses v state) refl)
     where
       by : (n : ℕ) (x : Next) → next clauses v state ≡ x
-          → run clauses v n t state ≡ again n (elim x as (λ _. End) [ endNone ↦ wasNone t | endFound ↦ wasFound t state | step kind s ↦ wasSpent t state ])
+          → run clauses v n t state
+            ≡ again n (elim x as (λ _. End) [ endNone ↦ wasNone t | endFound ↦ wasFound t state | step kind s ↦ wasSpent t state ])
       by zero endNone e = rw (e, run)
       by zero endFound e = rw (e, run)
       by zero (step kind s) e = refl

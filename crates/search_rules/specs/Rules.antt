@@ -1,6 +1,6 @@
 -- The state of a search and its step rules (document 01, "Search").
 -- The paper's force, choice and turn are called propagation, decision and backtrack here.
-use mathlib.Core.Bool.{Bool, true, false, cond, _&&_}
+use mathlib.Core.Bool.{Bool, true, false, cond}
 use mathlib.Core.List.{List, [], _∷_}
 use mathlib.Core.Option.{Option, none, some}
 use Prim.Native.Nat.{ℕ, zero, suc, pred}

@@ -5,7 +5,7 @@ use mathlib.Core.List.{List}
 use mathlib.Core.Option.{Option, none, some}
 use Prim.Native.Nat.{ℕ, zero, suc, _+_, _≤_}
 use lib.IntN.{ℤ}
-use Rattle.search_rules.specs.Rules.{State, Kind, propagation, decision, backtrack, Next, endNone, endFound, step, next}
+use Rattle.search_rules.specs.Rules.{State, Kind, propagation, decision, backtrack, endNone, endFound, step, next}
 
 -- "Force, choice and turn count one step each": the steps done, by kind
 pub record Tally : Type 0 where

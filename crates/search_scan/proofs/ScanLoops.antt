@@ -8,14 +8,13 @@ use native.Mathlib.Omega.{arith}
 use native.Mathlib.Nat.{zero-add, suc-add}
 use native.Mathlib.Numerals.{add-one}
 use lib.Dec.{T}
-use lib.IntN.{ℤ, pos, negsuc, natAbs}
+use lib.IntN.{ℤ, pos, natAbs}
 use lib.ListN.{length, getD, take, drop, length-drop, drop-of-length-le}
 use lib.Seq.{drop-cons, drop-drop, slice, slice-cons, slice-empty, take-nil}
 use lib.Signed.{nonNeg}
 use mir.Syntax.{w32, w64}
 use mir.Val.{SFits, Fits, toZ, ofZ}
 use mir.Facts.{toZ-ofZ, fits-natAbs}
-use Rattle.literal.specs.Literals.{lastVariable}
 use Rattle.literal.proofs.Signs.{same-word}
 use Rattle.clause_list.specs.ClauseList.{cut, clausesOf}
 use Rattle.search_rules.specs.Inner.{InRange, AllIn, FineIn, Fine}
@@ -60,7 +59,8 @@ pub pass-conflict : (vs : List ℕ) (s : Sight) (c : List ℤ) (cs : List (List 
 unfolding pass
 pass-conflict vs s c cs d = rw (d, pass)
 
-pub pass-unit : (vs : List ℕ) (s : Sight) (c : List ℤ) (cs : List (List ℤ)) (k : ℤ) → look vs allFalse c ≡ sole k → pass vs s (c ∷ cs) ≡ pass vs (keep s k) cs
+pub pass-unit : (vs : List ℕ) (s : Sight) (c : List ℤ) (cs : List (List ℤ)) (k : ℤ) → look vs allFalse c ≡ sole k → pass vs s (c ∷ cs)
+    ≡ pass vs (keep s k) cs
 unfolding pass
 pass-unit vs s c cs k d = rw (d, pass)
 
@@ -210,7 +210,8 @@ unfolding look
 stays-several vs [] = inl refl
 stays-several vs (l ∷ ls) = several-step vs l ls (stays-several vs ls) (truths (literal vs l))
 
-open-step : (vs : List ℕ) (s : Clause) (l : ℤ) (ls : List ℤ) → (s ≡ allFalse → ⊥) → (look vs s ls ≡ allFalse → ⊥) → (look vs (meet s l) ls ≡ allFalse → ⊥) → Truths (literal vs l) → look vs s (l ∷ ls) ≡ allFalse → ⊥
+open-step : (vs : List ℕ) (s : Clause) (l : ℤ) (ls : List ℤ) → (s ≡ allFalse → ⊥) → (look vs s ls ≡ allFalse → ⊥)
+    → (look vs (meet s l) ls ≡ allFalse → ⊥) → Truths (literal vs l) → look vs s (l ∷ ls) ≡ allFalse → ⊥
 open-step vs s l ls n p q (inl d) e = p (sym (look-false vs s l ls d) ∙ e)
 open-step vs s l ls n p q (inr (inl d)) e = let w : isHeld ≡ allFalse = sym (look-true vs s l ls d) ∙ e in let z : _≡_ {A = ℕ} 0 1 = cc in omega arith
 open-step vs s l ls n p q (inr (inr d)) e = q (sym (look-open vs s l ls d) ∙ e)
@@ -219,7 +220,8 @@ open-step vs s l ls n p q (inr (inr d)) e = q (sym (look-open vs s l ls d) ∙ e
 stays-open : (vs : List ℕ) (s : Clause) (ls : List ℤ) → (s ≡ allFalse → ⊥) → look vs s ls ≡ allFalse → ⊥
 unfolding look
 stays-open vs s [] n e = n e
-stays-open vs s (l ∷ ls) n e = open-step vs s l ls n (stays-open vs s ls n) (stays-open vs (meet s l) ls (meet-not-false s l)) (truths (literal vs l)) e
+stays-open vs s (l ∷ ls) n e = open-step vs s l ls n (stays-open vs s ls n) (stays-open vs (meet s l) ls (meet-not-false s l))
+    (truths (literal vs l)) e
 
 module _ (ws : List ℤ) (vs : List ℕ) (i₀ at i : ℕ) (b : at ≤ length ws) (h : i < at) where
   cons : slice i at ws ≡ getD ws i (pos 0) ∷ slice (i + 1) at ws
@@ -236,7 +238,8 @@ module _ (ws : List ℤ) (vs : List ℕ) (i₀ at i : ℕ) (b : at ≤ length ws
     pub is-true : literal vs (getD ws i (pos 0)) ≡ satisfied → look vs allFalse (slice i₀ at ws) ≡ isHeld
     is-true e = sym (n .same) ∙ rw cons (look-true vs (n .so) _ _ e)
 
-    rest : literal vs (getD ws i (pos 0)) ≡ unassigned → look vs (meet (n .so) (getD ws i (pos 0))) (slice (i + 1) at ws) ≡ look vs allFalse (slice i₀ at ws)
+    rest : literal vs (getD ws i (pos 0)) ≡ unassigned → look vs (meet (n .so) (getD ws i (pos 0))) (slice (i + 1) at ws)
+        ≡ look vs allFalse (slice i₀ at ws)
     rest e = sym (look-open vs (n .so) _ _ e) ∙ (rw cons at (n .same))
 
     pub is-false : literal vs (getD ws i (pos 0)) ≡ falsified → Inner ws vs i₀ at (i + 1) o u
@@ -249,7 +252,8 @@ module _ (ws : List ℤ) (vs : List ℕ) (i₀ at i : ℕ) (b : at ≤ length ws
       same = sym (look-false vs (n .so) _ _ e) ∙ (rw cons at (n .same));
     }
 
-    pub is-open : (o' : ℕ) → u ≡ 0 → literal vs (getD ws i (pos 0)) ≡ unassigned → Found (meet (n .so) (getD ws i (pos 0))) o' → Inner ws vs i₀ at (i + 1) o' u
+    pub is-open : (o' : ℕ) → u ≡ 0 → literal vs (getD ws i (pos 0)) ≡ unassigned → Found (meet (n .so) (getD ws i (pos 0))) o'
+        → Inner ws vs i₀ at (i + 1) o' u
     is-open o' z e s = record {
       within = omega arith;
       fine = head-in _ _ (rw cons at (n .fine)) .1;
@@ -259,7 +263,8 @@ module _ (ws : List ℤ) (vs : List ℕ) (i₀ at i : ℕ) (b : at ≤ length ws
       same = rest e;
     }
 
-    pub is-several : literal vs (getD ws i (pos 0)) ≡ unassigned → meet (n .so) (getD ws i (pos 0)) ≡ several → Skips (look vs allFalse (slice i₀ at ws))
+    pub is-several : literal vs (getD ws i (pos 0)) ≡ unassigned → meet (n .so) (getD ws i (pos 0)) ≡ several
+        → Skips (look vs allFalse (slice i₀ at ws))
     is-several e d = rw (← rest e, d) (stays-several vs (slice (i + 1) at ws))
 
     pub not-conflict : literal vs (getD ws i (pos 0)) ≡ unassigned → look vs allFalse (slice i₀ at ws) ≡ allFalse → ⊥
@@ -269,7 +274,8 @@ pub enter : (ws : List ℤ) (vs : List ℕ) (at u n : ℕ) → Head ws vs at u n
 enter ws vs at u n h = record { within = omega arith; fine = h .all; once = λ z. refl; so = allFalse; seen = refl; same = refl }
 
 -- the loop over a clause is done
-pub done : (ws : List ℤ) (vs : List ℕ) (i₀ at i o u : ℕ) → at ≤ i → Inner ws vs i₀ at i o u → (s : Clause) × (look vs allFalse (slice i₀ at ws) ≡ s) × Found s o
+pub done : (ws : List ℤ) (vs : List ℕ) (i₀ at i o u : ℕ) → at ≤ i → Inner ws vs i₀ at i o u
+    → (s : Clause) × (look vs allFalse (slice i₀ at ws) ≡ s) × Found s o
 unfolding look
 done ws vs i₀ at i o u h n =
     let e : i ≡ at = let w = n .within in omega arith in
@@ -278,13 +284,19 @@ done ws vs i₀ at i o u h n =
 
 module _ (ws : List ℤ) (vs : List ℕ) (at u n : ℕ) (h : Head ws vs at u n) where
   pub on-held : look vs allFalse (slice (at + 1) (at + 1 + n) ws) ≡ isHeld → Outer ws vs (at + 1 + n) u
-  on-held e = record { within = h .within; fuel = h .fuel; fine = h .fine; so = h .so; kept = h .kept; same = sym (pass-held vs (h .so) _ _ e) ∙ h .same }
+  on-held e = record {
+    within = h .within; fuel = h .fuel; fine = h .fine; so = h .so; kept = h .kept;
+    same = sym (pass-held vs (h .so) _ _ e) ∙ h .same }
 
   pub on-several : look vs allFalse (slice (at + 1) (at + 1 + n) ws) ≡ several → Outer ws vs (at + 1 + n) u
-  on-several e = record { within = h .within; fuel = h .fuel; fine = h .fine; so = h .so; kept = h .kept; same = sym (pass-several vs (h .so) _ _ e) ∙ h .same }
+  on-several e = record {
+    within = h .within; fuel = h .fuel; fine = h .fine; so = h .so; kept = h .kept;
+    same = sym (pass-several vs (h .so) _ _ e) ∙ h .same }
 
   pub on-unit : (k : ℤ) (u' : ℕ) → look vs allFalse (slice (at + 1) (at + 1 + n) ws) ≡ sole k → Kept (keep (h .so) k) u' → Outer ws vs (at + 1 + n) u'
-  on-unit k u' e g = record { within = h .within; fuel = h .fuel; fine = h .fine; so = keep (h .so) k; kept = g; same = sym (pass-unit vs (h .so) _ _ k e) ∙ h .same }
+  on-unit k u' e g = record {
+    within = h .within; fuel = h .fuel; fine = h .fine; so = keep (h .so) k; kept = g;
+    same = sym (pass-unit vs (h .so) _ _ k e) ∙ h .same }
 
   pub on-conflict : look vs allFalse (slice (at + 1) (at + 1 + n) ws) ≡ allFalse → conflicting ≡ seen vs (clausesOf ws)
   on-conflict e = sym (pass-conflict vs (h .so) _ _ e) ∙ h .same
@@ -319,7 +331,8 @@ module _ (ws : List ℤ) (vs : List ℕ) (at u n : ℕ) (h : Head ws vs at u n) 
   pub on-skip : Skips (look vs allFalse (slice (at + 1) (at + 1 + n) ws)) → Outer ws vs (at + 1 + n) u
   on-skip = ⊎-elim on-several on-held
 
-  pub on-open : (s : Clause) → look vs allFalse (slice (at + 1) (at + 1 + n) ws) ≡ s → (look vs allFalse (slice (at + 1) (at + 1 + n) ws) ≡ allFalse → ⊥) → (u ≡ 0 → ⊥) → Outer ws vs (at + 1 + n) u
+  pub on-open : (s : Clause) → look vs allFalse (slice (at + 1) (at + 1 + n) ws) ≡ s
+      → (look vs allFalse (slice (at + 1) (at + 1 + n) ws) ≡ allFalse → ⊥) → (u ≡ 0 → ⊥) → Outer ws vs (at + 1 + n) u
   on-open allFalse q p d = absurd (p q)
   on-open (sole k) q p d = on-unit k u q (keep-kept (h .so) k (h .kept) d)
   on-open several q p d = on-several q
@@ -328,7 +341,8 @@ module _ (ws : List ℤ) (vs : List ℕ) (at u n : ℕ) (h : Head ws vs at u n) 
   pub head-cast : (z : ℤ) → z ≡ getD ws at (pos 0) → SFits w32 z → T (nonNeg z) × Fits w64 (natAbs z)
   head-cast z e f = (rw (e ∙ h .head) tt, fits-natAbs tt f)
 
-pub head-at : (ws : List ℤ) (vs : List ℕ) (at u : ℕ) → Outer ws vs at u → at < length ws → (z : ℤ) → z ≡ getD ws at (pos 0) → Head ws vs at u (natAbs z)
+pub head-at : (ws : List ℤ) (vs : List ℕ) (at u : ℕ) → Outer ws vs at u → at < length ws → (z : ℤ) → z ≡ getD ws at (pos 0)
+    → Head ws vs at u (natAbs z)
 head-at ws vs at u o b z e = rw e (head-of ws vs at u o b)
 
 -- the list is done

@@ -1,15 +1,14 @@
 -- One pass over the clauses with what it keeps, and that it shows what the two rules ask for.
-use mathlib.Core.Path.{_≡_, refl, sym, _∙_, ap}
+use mathlib.Core.Path.{_≡_, refl, _∙_, ap}
 use mathlib.Core.Bool.{Bool, true, false, cond, _&&_, _||_}
-use mathlib.Core.Logic.{_⊎_, inl, inr, ⊎-elim}
 use mathlib.Core.List.{List, [], _∷_}
 use mathlib.Core.Option.{Option, none, some}
 use Prim.Native.Nat.{ℕ}
-use native.Mathlib.Omega.{arith}
 use lib.IntN.{ℤ}
 use Rattle.prelude.specs.Tests.{all, any}
 use Rattle.search_scan.specs.Seen.{Sight, conflicting, unit, neither, seen}
-use Rattle.search_rules.specs.Rules.{Truth, falsified, satisfied, unassigned, literal, isFalsified, isSatisfied, conflict, openOf, sameLiteral, only, unitOf, firstUnit}
+use Rattle.search_rules.specs.Rules.{Truth, falsified, satisfied, unassigned, literal, isFalsified, isSatisfied, conflict, openOf}
+use Rattle.search_rules.specs.Rules.{sameLiteral, only, unitOf, firstUnit}
 
 -- what is seen of a clause so far: only false literals; open ones, all this one; different open ones; a true one
 pub data Clause : Type 0 where
@@ -155,7 +154,8 @@ module _ (vs : List ℕ) where
   keep-first neither l none = refl
   keep-first neither l (some k) = refl
 
-  pass-step : (s : Sight) (c : List ℤ) (cs : List (List ℤ)) → ((s : Sight) → pass vs s cs ≡ cond (conflict vs cs) conflicting (keepFirst s (firstUnit vs cs)))
+  pass-step : (s : Sight) (c : List ℤ) (cs : List (List ℤ)) → ((s : Sight) → pass vs s cs
+      ≡ cond (conflict vs cs) conflicting (keepFirst s (firstUnit vs cs)))
       → (x : Clause) → Shows c x
       → elim x as (λ _. Sight) [ allFalse ↦ conflicting | sole l ↦ pass vs (keep s l) cs | several ↦ pass vs s cs | isHeld ↦ pass vs s cs ]
       ≡ cond (allFalsified c || conflict vs cs) conflicting

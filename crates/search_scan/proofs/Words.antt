@@ -2,23 +2,23 @@
 use mathlib.Core.Path.{_≡_, refl, sym, _∙_, ap}
 use mathlib.Core.Bool.{Bool, true, false}
 use mathlib.Core.List.{List, [], _∷_}
-use Prim.Native.Nat.{ℕ, zero, suc, pred, _+_, _-_, _<_, _≤_, _^_}
+use Prim.Native.Nat.{ℕ, zero, suc, _+_, _-_, _<_, _≤_}
 use native.Mathlib.Omega.{arith}
 use native.Mathlib.Numerals.{sub-one, add-one}
 use native.Mathlib.Nat.{zero-add}
-use lib.Dec.{T, ltb}
+use lib.Dec.{T}
 use lib.IntN.{ℤ, pos, negsuc, natAbs, _-ℤ_, _+ℤ_, +ℤ-idl}
 use lib.ListN.{length, getD}
 use lib.Signed.{ltZ, nonNeg}
 use mir.Syntax.{w32, w64}
 use mir.Val.{SFits, Fits, toZ, ofZ}
-use mir.Facts.{fits-natAbs, toZ-ofZ}
+use mir.Facts.{toZ-ofZ}
 use borrow.Author.Tests.{ltb-false}
 use Rattle.prelude.proofs.Laws.{clash}
 use Rattle.literal.specs.Literals.{lastVariable}
 use Rattle.search_rules.specs.Inner.{InRange}
 use Rattle.search_scan.specs.Seen.{truthCode}
-use Rattle.search_rules.specs.Rules.{Truth, falsified, satisfied, unassigned, truthOf, negated, literal, propagated, byteOf, placeOf}
+use Rattle.search_rules.specs.Rules.{falsified, truthOf, negated, literal, propagated, byteOf, placeOf}
 use Rattle.search_rules.proofs.Found.{place-below}
 
 -- the sign of a literal, by the test `l > 0`

@@ -1,8 +1,8 @@
 -- `search::clear_all` meets its contract. Assumes nothing.
 use mathlib.Core.Path.{_≡_, refl}
-use Prim.Native.Nat.{ℕ, _-_, _≤_, _<_}
+use Prim.Native.Nat.{_-_, _≤_}
 use native.Mathlib.Omega.{arith}
-use lib.IntN.{ℤ, pos}
+use lib.IntN.{pos}
 use lib.ListN.{length, take, replicate, length-set}
 use borrow.Author.Needs.{scaled-fits}
 use Rattle.search_core.proofs.Slices.{filled-more, filled-all}

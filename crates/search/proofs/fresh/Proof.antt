@@ -1,9 +1,9 @@
 -- `search::fresh` meets its contract. Assumes nothing.
-use mathlib.Core.Path.{_≡_, refl, sym, _∙_, ap}
+use mathlib.Core.Path.{_≡_, _∙_, ap}
 use mathlib.Core.List.{[]}
-use Prim.Native.Nat.{ℕ, _+_, _<_, _≤_, _^_}
+use Prim.Native.Nat.{ℕ, _<_, _^_}
 use native.Mathlib.Omega.{arith}
-use lib.IntN.{ℤ, pos}
+use lib.IntN.{pos}
 use lib.ListN.{length, replicate, length-replicate}
 use borrow.Author.Needs.{needs}
 use Rattle.clause_list.specs.ClauseList.{clausesOf}
@@ -43,14 +43,16 @@ module _ (c : tie.After-run-arg2) where
 run-requires : tie.Need-run-requires
 unfolding total
 run-requires c κs =
-    (rw (wide c) (s c .pre .0), (rw (wide c) (s c .pre .1 .0), (record { state = []; stored = rw (wide c) (held c) }, omega (arith, s c .fits .budget))))
+    (rw (wide c) (s c .pre .0), (rw (wide c) (s c .pre .1 .0), (record { state = []; stored = rw (wide c) (held c) }, omega
+        (arith, s c .fits .budget))))
 
 -- the run's end, and its figure
 module _ (c : tie.After-run) where
   abbrev from : tie.Start
   from = s (c .before)
 
-  ended : Ended (v (c .before)) (searchRun (from .args .list .now) (v (c .before)) (from .args .budget)) (c .run .result) (c .run .last .1 .0) (c .run .last .1 .1 .0)
+  ended : Ended (v (c .before)) (searchRun (from .args .list .now) (v (c .before)) (from .args .budget)) (c .run .result) (c .run .last .1 .0)
+      (c .run .last .1 .1 .0)
   ended = (rw (wide (c .before)) at (c .run .ensures)) [] (held (c .before))
 
   small : total (tallyOf (c .run .result .position)) < 2 ^ 64
@@ -99,7 +101,8 @@ same-length-4 c = search needs
 returns-2 : tie.Need-returns-2
 unfolding total
 returns-2 c =
-    let f = finish-found _ _ _ _ _ (ended (c .before .before .before .before .before .before .before .before .before .before .before .before)) (c .before .before .before .before .enum-told2 .given .1) in
+    let f = finish-found _ _ _ _ _ (ended (c .before .before .before .before .before .before .before .before .before .before .before .before))
+        (c .before .before .before .before .enum-told2 .given .1) in
     (f .0, (c .before .before .settle-all .ensures ∙ f .1 .0, f .1 .1))
 
 same-length-5 : tie.Need-same-length-5

@@ -1,16 +1,14 @@
 -- `search::search` meets its contract. Assumes nothing.
-use mathlib.Core.Path.{_≡_, refl, sym, _∙_, ap}
+use mathlib.Core.Path.{_≡_, sym, _∙_}
 use mathlib.Core.Bool.{true, false}
-use Prim.Native.Nat.{ℕ, _<_, _≤_}
 use native.Mathlib.Omega.{arith}
-use lib.IntN.{ℤ}
 use lib.ListN.{length, take}
 use lib.Seq.{length-take-le}
 use borrow.Author.Needs.{needs}
 use borrow.Author.Tests.{not-true, not-false}
 use Rattle.clause_list.specs.ClauseList.{isList}
-use Rattle.search_rules.proofs.Ranges.{Listed, listed}
-use Rattle.search.specs.Answers.{outcome}
+use Rattle.clause_list.proofs.Laws.{list-most-variables}
+use Rattle.search_rules.proofs.Ranges.{fine-list}
 use Rattle.search.proofs.Outcomes.{no-list, short-values, short-trail, runs, declines, finishes}
 use Rattle.search.proofs.search.Statement.{statement}
 use Rattle.search.proofs.search.Tie as tie
@@ -56,11 +54,10 @@ module _ (c : tie.After-ts) where
   long : length (take (s .args .v) (s .args .trail .now)) ≡ s .args .v
   long = length-take-le _ _ (c .before .before .if3 .left)
 
-  good : Listed (s .args .v) (s .args .list .now)
-  good = listed _ _ (accepts (c .before .before .before .before))
-
 fresh-requires : tie.Need-fresh-requires
-fresh-requires c κs = (rw (wide c) (good c .fine), (rw (wide c) (omega (arith, good c .few)), long c ∙ sym (wide c)))
+fresh-requires c κs =
+    let l = accepts (c .before .before .before .before) in
+    (rw (wide c) (fine-list _ _ l), (rw (wide c) (omega (arith, list-most-variables _ _ l)), long c ∙ sym (wide c)))
 
 same-length : tie.Need-same-length
 same-length c = search needs
@@ -72,7 +69,9 @@ returns-4 : tie.Need-returns-4
 returns-4 c =
     let w = c .before .before .before .before in
     let e = rw (wide w) at (c .before .before .before .fresh .ensures) in
-    finishes _ _ _ _ _ _ _ _ (runs _ _ _ _ _ (accepts (c .before .before .before .before .before .before .before .before)) (c .before .before .before .before .before .before .before .if2 .left) (c .before .before .before .before .before .before .if3 .left)) (e .0) (e .1 .0) (e .1 .1)
+    finishes _ _ _ _ _ _ _ _ (runs _ _ _ _ _ (accepts (c .before .before .before .before .before .before .before .before))
+        (c .before .before .before .before .before .before .before .if2 .left) (c .before .before .before .before .before .before .if3 .left))
+        (e .0) (e .1 .0) (e .1 .1)
 
 pub search-spec : {M : Type 1} → statement M
 search-spec =

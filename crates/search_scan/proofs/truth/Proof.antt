@@ -1,8 +1,7 @@
 -- `search_scan::truth` meets its contract. Assumes nothing.
-use mathlib.Core.Path.{_≡_, refl}
+use mathlib.Core.Path.{refl}
 use native.Mathlib.Omega.{arith}
 use mir.Facts.{toZ-ofZ}
-use Rattle.search_rules.specs.Inner.{InRange}
 use Rattle.search_scan.proofs.Words.{place-within, says-open, says-true-above, says-false-above, says-false-below, says-true-below}
 use Rattle.search_scan.proofs.truth.Statement.{statement}
 use Rattle.search_scan.proofs.truth.Tie as tie

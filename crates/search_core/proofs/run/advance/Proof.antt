@@ -1,10 +1,9 @@
 -- `search_core::run::advance` meets its contract. Assumes nothing.
-use mathlib.Core.Path.{_≡_, refl, ap}
+use mathlib.Core.Path.{refl}
 use native.Mathlib.Omega.{arith}
 use native.Mathlib.Numerals.{add-one}
 use borrow.Author.Needs.{needs}
 use Rattle.search_rules.specs.Run.{total, count}
-use Rattle.search_core.specs.Inner.{Advanced}
 use Rattle.search_core.proofs.run.advance.Statement.{statement}
 use Rattle.search_core.proofs.run.advance.Tie as tie
 

@@ -1,5 +1,5 @@
 -- `search_core::run::ends` meets its contract. Assumes nothing.
-use mathlib.Core.Path.{_≡_, refl, sym, _∙_, ap}
+use mathlib.Core.Path.{sym, _∙_, ap}
 use borrow.Author.Needs.{needs}
 use Rattle.search_scan.specs.Seen.{seenAs}
 use Rattle.search_core.proofs.RunCode.{ends-turn, ends-none-left, ends-unit, ends-full, ends-open}
@@ -50,4 +50,5 @@ returns-5 c state o i =
 pub ends-spec : {M : Type 1} → statement M
 ends-spec =
     tie.close
-    (tie.spec scan-requires enum-told any-decision-requires returns enum-told-2 enum-told-3 lowest-open-requires returns-2 returns-3 returns-4 returns-5)
+    (tie.spec scan-requires enum-told any-decision-requires returns enum-told-2 enum-told-3 lowest-open-requires returns-2 returns-3 returns-4
+        returns-5)

@@ -1,12 +1,9 @@
 -- `search_core::run::run` meets its contract. Assumes nothing.
-use mathlib.Core.Path.{_≡_, refl, sym, _∙_, ap}
-use Prim.Native.Nat.{ℕ, _+_, _-_, _<_, _≤_}
+use mathlib.Core.Path.{refl, sym, _∙_}
 use native.Mathlib.Omega.{arith}
 use borrow.Author.Needs.{needs}
 use Rattle.clause_list.specs.ClauseList.{clausesOf}
-use Rattle.search_rules.specs.Rules.{State}
-use Rattle.search_core.specs.Inner.{Stored, SomeStored}
-use Rattle.search_core.proofs.RunCode.{Far, Loop, figure-on, far-none, far-found, far-on, far-emptied, far-full, far-spent}
+use Rattle.search_core.proofs.RunCode.{Loop, figure-on, far-none, far-found, far-on, far-emptied, far-full, far-spent}
 use Rattle.search_core.proofs.run.run.Statement.{statement}
 use Rattle.search_core.proofs.run.run.Tie as tie
 
@@ -33,10 +30,12 @@ emptied-requires : tie.Need-emptied-requires Inv-loop μ-loop
 emptied-requires c κs = search needs
 
 same-length : tie.Need-same-length Inv-loop μ-loop
-same-length c = c .before .before .before .before .before .before .step .kept .1 .0 ∙ c .before .before .before .before .before .before .before .before .before .before .loop .inv .wide
+same-length c = c .before .before .before .before .before .before .step .kept .1 .0
+    ∙ c .before .before .before .before .before .before .before .before .before .before .loop .inv .wide
 
 same-length-2 : tie.Need-same-length-2 Inv-loop μ-loop
-same-length-2 c = c .before .before .before .before .before .before .step .kept .1 .1 .0 ∙ c .before .before .before .before .before .before .before .before .before .before .loop .inv .deep
+same-length-2 c = c .before .before .before .before .before .before .step .kept .1 .1 .0
+    ∙ c .before .before .before .before .before .before .before .before .before .before .loop .inv .deep
 
 returns : tie.Need-returns Inv-loop μ-loop
 returns c state i =
@@ -49,10 +48,12 @@ enum-told-2 : tie.Need-enum-told-2 Inv-loop μ-loop
 enum-told-2 c = search needs
 
 same-length-3 : tie.Need-same-length-3 Inv-loop μ-loop
-same-length-3 c = c .before .before .before .before .before .step .kept .1 .0 ∙ c .before .before .before .before .before .before .before .before .before .loop .inv .wide
+same-length-3 c = c .before .before .before .before .before .step .kept .1 .0
+    ∙ c .before .before .before .before .before .before .before .before .before .loop .inv .wide
 
 same-length-4 : tie.Need-same-length-4 Inv-loop μ-loop
-same-length-4 c = c .before .before .before .before .before .step .kept .1 .1 .0 ∙ c .before .before .before .before .before .before .before .before .before .loop .inv .deep
+same-length-4 c = c .before .before .before .before .before .step .kept .1 .1 .0
+    ∙ c .before .before .before .before .before .before .before .before .before .loop .inv .deep
 
 returns-2 : tie.Need-returns-2 Inv-loop μ-loop
 returns-2 c state i =
@@ -118,18 +119,24 @@ enum-told-5 : tie.Need-enum-told-5 Inv-loop μ-loop
 enum-told-5 c = search needs
 
 same-length-5 : tie.Need-same-length-5 Inv-loop μ-loop
-same-length-5 c = c .before .before .before .before .back .kept .0 ∙ c .before .before .before .before .before .before .before .before .before .before .before .before .loop .inv .wide
+same-length-5 c =
+    c .before .before .before .before .back .kept .0
+    ∙ c .before .before .before .before .before .before .before .before .before .before .before .before .loop .inv .wide
 
 same-length-6 : tie.Need-same-length-6 Inv-loop μ-loop
-same-length-6 c = c .before .before .before .before .back .kept .1 .0 ∙ c .before .before .before .before .before .before .before .before .before .before .before .before .loop .inv .deep
+same-length-6 c =
+    c .before .before .before .before .back .kept .1 .0
+    ∙ c .before .before .before .before .before .before .before .before .before .before .before .before .loop .inv .deep
 
 returns-3 : tie.Need-returns-3 Inv-loop μ-loop
 returns-3 c state i =
     let l = c .before .before .before .before .before .before .before .before .before .before .before .before .loop .inv in
     let f = l .far state i in
-    let e = (rw (l .wide) at (c .before .before .before .before .before .before .before .before .before .ends .ensures)) (f .at) (f .stored .was-open) (f .stored .values-are) in
+    let e = (rw (l .wide) at (c .before .before .before .before .before .before .before .before .before .ends .ensures)) (f .at)
+        (f .stored .was-open) (f .stored .values-are) in
     let b = (rw (l .wide) at (c .before .before .before .before .back .ensures)) (f .at) (f .stored) in
-    far-emptied _ _ _ _ _ _ _ _ _ f _ _ _ _ _ refl (sym (c .before .before .before .before .before .before .before .enum-told3 .given .1) ∙ e) (c .emptied2 .ensures .0) (c .emptied2 .ensures .1) b
+    far-emptied _ _ _ _ _ _ _ _ _ f _ _ _ _ _ refl (sym (c .before .before .before .before .before .before .before .enum-told3 .given .1) ∙ e)
+        (c .emptied2 .ensures .0) (c .emptied2 .ensures .1) b
 
 same-length-7 : tie.Need-same-length-7 Inv-loop μ-loop
 same-length-7 c = c .before .before .before .before .before .loop .inv .wide

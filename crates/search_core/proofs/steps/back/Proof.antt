@@ -1,9 +1,9 @@
 -- `search_core::steps::back` meets its contract. The loop's invariant: for every state that the slices held at first, they hold one
 -- with the same turn. Assumes nothing.
 use mathlib.Core.Path.{_≡_, refl, sym, _∙_, ap}
-use Prim.Native.Nat.{ℕ, _*_, _-_, _≤_, _<_}
+use Prim.Native.Nat.{ℕ, _*_, _-_, _<_}
 use native.Mathlib.Omega.{arith}
-use lib.IntN.{ℤ, pos}
+use lib.IntN.{pos}
 use lib.ListN.{getD, length-set}
 use mir.Syntax.{w32, w64}
 use mir.Val.{Fits, toZ, ofZ}
@@ -44,7 +44,8 @@ module _ (c : tie.In-loop Inv-loop μ-loop) where
   abbrev went : (state : State) → Held s state → Went (v s) state (c .before .loop .values) (c .before .loop .trail) (c .before .loop .n)
   went = c .before .loop .inv
 
-  topped : (state : State) (i : Held s state) → Top (v s) (went state i .now-at) (c .before .loop .values) (c .before .loop .trail) (c .before .loop .n)
+  topped : (state : State) (i : Held s state) → Top (v s) (went state i .now-at) (c .before .loop .values) (c .before .loop .trail)
+      (c .before .loop .n)
   topped state i = top-of (v s) _ _ _ _ (went state i .stored) (c .loop-test .taken)
 
   abbrev top : Top (v s) (went (held s .state) (held s .stored) .now-at) (c .before .loop .values) (c .before .loop .trail) (c .before .loop .n)
@@ -153,7 +154,8 @@ loop-again c state i =
     }
 
 -- after the loop
-ended : (c : tie.At-loop Inv-loop μ-loop) → Went (v (c .before .before)) (held (c .before .before) .state) (c .loop .values) (c .loop .trail) (c .loop .n)
+ended : (c : tie.At-loop Inv-loop μ-loop) → Went (v (c .before .before)) (held (c .before .before) .state) (c .loop .values) (c .loop .trail)
+    (c .loop .n)
 ended c = c .loop .inv (held (c .before .before) .state) (held (c .before .before) .stored)
 
 same-length-3 : tie.Need-same-length-3 Inv-loop μ-loop

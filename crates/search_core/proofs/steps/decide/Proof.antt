@@ -1,5 +1,5 @@
 -- `search_core::steps::decide` meets its contract. Assumes nothing.
-use mathlib.Core.Path.{_≡_, refl}
+use mathlib.Core.Path.{refl}
 use borrow.Author.Needs.{needs}
 use Rattle.search_scan.proofs.Words.{denial}
 use Rattle.search_core.proofs.steps.decide.Statement.{statement}

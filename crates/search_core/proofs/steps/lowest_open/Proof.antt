@@ -1,8 +1,8 @@
 -- `search_core::steps::lowest_open` meets its contract. Assumes nothing.
 use mathlib.Core.Path.{_≡_, refl}
-use Prim.Native.Nat.{ℕ, _-_, _+_, _≤_, _<_}
+use Prim.Native.Nat.{_-_, _≤_}
 use native.Mathlib.Omega.{arith}
-use lib.ListN.{length, drop, getD}
+use lib.ListN.{length, drop}
 use Rattle.search_rules.specs.Rules.{lowestOpen}
 use Rattle.search_core.proofs.Lowest.{low-here, low-more, low-none}
 use Rattle.search_core.proofs.steps.lowest_open.Statement.{statement}

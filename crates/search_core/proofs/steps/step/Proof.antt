@@ -1,19 +1,16 @@
 -- `search_core::steps::step` meets its contract. Assumes nothing.
-use mathlib.Core.Path.{_≡_, refl, sym, _∙_, ap}
-use Prim.Native.Nat.{ℕ, _+_, _<_, _≤_}
+use mathlib.Core.Path.{_≡_, sym, _∙_, ap}
 use native.Mathlib.Omega.{arith}
-use lib.IntN.{ℤ}
 use lib.ListN.{length}
 use mir.Syntax.{w32}
 use mir.Val.{toZ, ofZ}
 use mir.Facts.{toZ-ofZ}
 use borrow.Author.Needs.{needs}
-use Rattle.clause_list.specs.ClauseList.{clausesOf}
-use Rattle.search_rules.specs.Inner.{InRange}
 use Rattle.search_scan.specs.Seen.{seenAs}
 use Rattle.search_rules.proofs.Invariant.{OpenIn, first-unit-open}
 use Rattle.search_rules.proofs.Ranges.{ranged}
-use Rattle.search_core.proofs.StepCode.{saw-unit, low-open, range-fits, has-room, open-room, step-none, step-turn, step-unit, step-full, step-decide}
+use Rattle.search_core.proofs.StepCode.{saw-unit, low-open, range-fits, has-room, open-room, step-none, step-turn, step-unit}
+use Rattle.search_core.proofs.StepCode.{step-full, step-decide}
 use Rattle.search_core.proofs.steps.step.Statement.{statement}
 use Rattle.search_core.proofs.steps.step.Tie as tie
 
@@ -41,7 +38,8 @@ returns c state i =
     (c .if1 .taken)
 
 -- the literal of a unit clause
-unit-open : (c : tie.After-seen) → OpenIn (length (c .before .before .before .before .before .args .values .now)) (c .before .before .before .before .before .args .values .now) (c .seen .given .0 .0)
+unit-open : (c : tie.After-seen) → OpenIn (length (c .before .before .before .before .before .args .values .now))
+    (c .before .before .before .before .before .args .values .now) (c .seen .given .0 .0)
 unit-open c =
     let s = c .before .before .before .before .before in
     first-unit-open _ _ _ _ (ranged _ _ (s .pre .0))
@@ -91,7 +89,8 @@ decide-requires c κs =
 add-t27 : tie.Need-add-t27
 add-t27 c =
     let s = c .before .before .before .before .before .before .before .before .before .before .before .before .before .before in
-    let w = low-open _ _ (c .before .before .before .before .before .before .before .lowest-open .ensures) (c .before .before .before .before .before .before .if2 .left) in
+    let w = low-open _ _ (c .before .before .before .before .before .before .before .lowest-open .ensures)
+        (c .before .before .before .before .before .before .if2 .left) in
     omega (arith, has-room _ _ _ _ _ (s .pre .1 .1 .stored) _ (w .0 .within) (w .0 .is-open), s .good .1 .1 .0 .0)
 
 same-length-4 : tie.Need-same-length-4
