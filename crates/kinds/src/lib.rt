@@ -1,7 +1,7 @@
 // "Each kind has one row in a constant table: which fields are nodes, and what shapes it takes."
 ghost use mathlib.Core.Path.{_≡_};
 ghost use Prim.Native.Nat.{_<_};
-ghost use Rattle.kinds.specs.Kinds.{rowOf};
+ghost use Rattle.kinds.specs.Kinds.{isKnown, rowOf};
 ghost use Rattle.kinds.specs.Codes.{fieldAt, ruleAt, codesOf};
 
 // What a field of a node names.
@@ -189,4 +189,28 @@ pub fn row_of(kind: usize) -> Row
     let b = field_of(codes.1);
     let rule = rule_of(codes.2);
     Row { a, b, rule }
+}
+
+// Whether a rule is one of a known kind.
+pub fn is_known(rule: Rule) -> bool
+    ensures { λ r. ⌜ r ≡ isKnown rule ⌝ }
+{
+    match rule {
+        Rule::Unknown => false,
+        Rule::OfRelation => true,
+        Rule::OfVariable => true,
+        Rule::OfSort => true,
+        Rule::OfIdentity => true,
+        Rule::Same => true,
+        Rule::Join => true,
+        Rule::Product => true,
+        Rule::Inverse => true,
+        Rule::Closure => true,
+        Rule::Comprehension => true,
+        Rule::Comparison => true,
+        Rule::Test => true,
+        Rule::Negation => true,
+        Rule::Connective => true,
+        Rule::Quantifier => true,
+    }
 }

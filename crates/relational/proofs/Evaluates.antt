@@ -8,7 +8,7 @@ use native.Mathlib.Decide.{ℕ-discrete}
 use lib.Dec.{eqb}
 use lib.ListN.{getD}
 use borrow.Author.Tests.{eq-eqb, ne-eqb}
-use Rattle.sheet.specs.declared.shapes.Shape.{Shape}
+use Rattle.shapes.specs.declared.Shape.{Shape}
 use Rattle.sheet.specs.Blocks.{Sheet, byte, scope, variableCount, sortOf, columns, firstSort, secondSort}
 use Rattle.relational.specs.Trees.{relation, variable, atoms, identity, Expression, comprehension, Formula}
 use Rattle.relational.specs.Cells.{rowLength, firstCell, cell}

@@ -8,7 +8,7 @@ use lib.Dec.{eqb}
 use lib.ListN.{getD}
 use borrow.Author.Tests.{eq-eqb, eqb-true, ne-eqb, eqb-false}
 use Rattle.prelude.proofs.Laws.{and-left, and-right, and-both, or-left, or-right, or-cases, decided}
-use Rattle.sheet.specs.declared.shapes.Shape.{Shape}
+use Rattle.shapes.specs.declared.Shape.{Shape}
 use Rattle.sheet.specs.Blocks.{Sheet, variableCount, scope, sortOf, kind, fieldA, fieldB, nodeCount}
 use Rattle.sheet.specs.Tables.{freeBy, freeStep, free}
 use Rattle.relational.specs.Trees.{relation, variable, atoms, identity, Expression, leaf, binary, unary, comprehension, Formula, comparison}

@@ -12,10 +12,10 @@ use borrow.Author.Tests.{ltb-true, not-true}
 use Rattle.prelude.specs.Tests.{between, each}
 use Rattle.prelude.proofs.Laws.{clash, and-left, and-right, each-at, between-low, between-high}
 use Rattle.kinds.specs.Kinds.{rowOf, isKnown}
-use Rattle.sheet.specs.declared.shapes.Shape.the-variants.{Ill}
+use Rattle.shapes.specs.declared.Shape.the-variants.{Ill}
 use Rattle.sheet.specs.Blocks.{Sheet, sortCount, scope, variableCount, sortOf, relationCount, columns, multiplicity, firstSort, secondSort}
 use Rattle.sheet.specs.Blocks.{nodeCount, kind, fieldA, fieldB, root}
-use Rattle.sheet.specs.Shapes.{isFormula}
+use Rattle.shapes.specs.Shapes.{isFormula}
 use Rattle.sheet.specs.Tables.{shapes, free}
 use Rattle.sheet.specs.Reading.{fieldFine, nodeFine, nodesFine, isSort, relationDeclared, declared, scoped, rooted}
 use Rattle.relational.specs.Trees.{Formula, formula, rootTree}

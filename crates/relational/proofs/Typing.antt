@@ -2,9 +2,9 @@
 -- A sort that a declaration gives is named and equated, so that each shape can be matched.
 use mathlib.Core.Path.{_≡_}
 use Prim.Native.Nat.{ℕ, _<_}
-use Rattle.sheet.specs.declared.shapes.Shape.{Shape}
-use Rattle.sheet.specs.declared.shapes.Shape.the-variants.{Ill, SetOf, RelationOf}
-use Rattle.sheet.specs.declared.shapes.Shape.the-variants as shape
+use Rattle.shapes.specs.declared.Shape.{Shape}
+use Rattle.shapes.specs.declared.Shape.the-variants.{Ill, SetOf, RelationOf}
+use Rattle.shapes.specs.declared.Shape.the-variants as shape
 use Rattle.sheet.specs.Blocks.{Sheet, scope, variableCount, sortOf, columns, firstSort, secondSort}
 use Rattle.relational.specs.Trees.{relation, variable, atoms, identity, union, intersection, difference, join, product, inverse, closure}
 use Rattle.relational.specs.Trees.{Comparison, Test, Connective, Quantifier, Expression, leaf, binary, unary, comprehension, Formula}

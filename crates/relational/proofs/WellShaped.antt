@@ -10,12 +10,12 @@ use lib.ListN.{getD, length}
 use borrow.Author.Tests.{eqb-true, ltb-true, eq-eqb, ne-eqb}
 use Rattle.prelude.proofs.Laws.{and-left, and-right}
 use Rattle.kinds.specs.Kinds.{rowOf}
-use Rattle.sheet.specs.declared.shapes.Shape.{Shape}
-use Rattle.sheet.specs.declared.shapes.Shape.the-variants.{Ill, SetOf, RelationOf}
-use Rattle.sheet.specs.declared.shapes.Shape.the-variants as shape
+use Rattle.shapes.specs.declared.Shape.{Shape}
+use Rattle.shapes.specs.declared.Shape.the-variants.{Ill, SetOf, RelationOf}
+use Rattle.shapes.specs.declared.Shape.the-variants as shape
 use Rattle.sheet.specs.Blocks.{Sheet, variableCount, sortOf, relationCount, columns, firstSort, secondSort, kind, fieldA, fieldB, nodeCount, root}
-use Rattle.sheet.specs.Shapes.{only, isFormula, isExpression, equalShape, joinShape, productShape, inverseShape, closureShape, declaredShape}
-use Rattle.sheet.specs.Shapes.{shapeBy}
+use Rattle.shapes.specs.Shapes.{only, isFormula, isExpression, equalShape, joinShape, productShape, inverseShape, closureShape, declaredShape}
+use Rattle.shapes.specs.Shapes.{shapeBy}
 use Rattle.sheet.specs.Tables.{table, shapeStep, shapes}
 use Rattle.sheet.specs.Reading.{fieldFine}
 use Rattle.relational.specs.Trees.{relation, variable, atoms, identity, Binary, union, intersection, difference, join, product, inverse}

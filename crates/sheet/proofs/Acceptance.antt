@@ -16,10 +16,10 @@ use Rattle.kinds.specs.Kinds.{rowOf, isKnown}
 use Rattle.sheet.specs.declared.Layout.{Layout}
 use Rattle.sheet.specs.declared.Reading.{Reading}
 use Rattle.sheet.specs.declared.Reading.the-variants.{Accepted, Refused}
-use Rattle.sheet.specs.declared.shapes.Shape.{Shape}
-use Rattle.sheet.specs.declared.shapes.Shape.the-variants.{Ill, Formula, SetOf, RelationOf}
+use Rattle.shapes.specs.declared.Shape.{Shape}
+use Rattle.shapes.specs.declared.Shape.the-variants.{Ill, Formula, SetOf, RelationOf}
 use Rattle.sheet.specs.Blocks.{Sheet, byte, sheetOf, sortCount, scope, variableCount, sortOf, relationCount, columns, multiplicity, firstSort, secondSort, nodeCount, kind, fieldA, fieldB, root}
-use Rattle.sheet.specs.Shapes.{isShaped, isFormula}
+use Rattle.shapes.specs.Shapes.{isShaped, isFormula}
 use Rattle.sheet.specs.Tables.{shapes, free, visits}
 use Rattle.sheet.specs.Reading.{versioned, filled, whole, counted, scoped, isSort, relationDeclared, declared, fieldFine, nodeFine, nodesFine, shaped, rooted, walkable, layoutOf, unless, walkJudged, nodeJudged, declarationJudged, scopeJudged, countJudged, wholeJudged, reading}
 use Rattle.sheet.specs.Facts.{Counts, Facts}

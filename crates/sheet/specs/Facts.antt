@@ -6,9 +6,9 @@ use mathlib.Core.Bool.{true, false}
 use Prim.Native.Nat.{ℕ, _≤_, _<_}
 use lib.ListN.{getD}
 use Rattle.kinds.specs.Kinds.{rowOf, isKnown}
-use Rattle.sheet.specs.declared.shapes.Shape.the-variants.{Ill, Formula}
+use Rattle.shapes.specs.declared.Shape.the-variants.{Ill, Formula}
 use Rattle.sheet.specs.Blocks.{Sheet, sortCount, scope, variableCount, sortOf, relationCount, columns, multiplicity, firstSort, secondSort, nodeCount, kind, fieldA, fieldB, root}
-use Rattle.sheet.specs.Shapes.{isShaped}
+use Rattle.shapes.specs.Shapes.{isShaped}
 use Rattle.sheet.specs.Tables.{shapes, free, visits}
 use Rattle.sheet.specs.Reading.{fieldFine}
 

@@ -1,5 +1,4 @@
 pub mod Blocks
-pub mod Shapes
 pub mod Tables
 pub mod Reading
 pub mod Filling

@@ -8,13 +8,13 @@ use Rattle.prelude.specs.Tests.{between, each}
 use Rattle.refusal.specs.declared.Refusal.{Refusal}
 use Rattle.kinds.specs.declared.Field.{Field}
 use Rattle.kinds.specs.declared.Field.the-variants.{Unused, Node, Relation, Variable, Sort}
-use Rattle.sheet.specs.declared.shapes.Shape.the-variants.{Ill}
+use Rattle.shapes.specs.declared.Shape.the-variants.{Ill}
 use Rattle.sheet.specs.declared.Layout.{Layout}
 use Rattle.sheet.specs.declared.Reading.{Reading}
 use Rattle.sheet.specs.declared.Reading.the-variants.{Accepted, Refused}
 use Rattle.sheet.specs.Blocks.{Sheet, byte, blocksEnd, sheetOf, sortCount, scope, variableCount, sortOf, relationCount, columns, multiplicity, firstSort, secondSort, nodeCount, kind, fieldA, fieldB, root}
 use Rattle.kinds.specs.Kinds.{rowOf, isKnown}
-use Rattle.sheet.specs.Shapes.{isFormula, isShaped}
+use Rattle.shapes.specs.Shapes.{isFormula, isShaped}
 use Rattle.sheet.specs.Tables.{shapes, free, visits}
 
 -- 1 VERSION, unless: "no byte, or byte 0 is not 1" (no byte counts as 0)

@@ -7,11 +7,11 @@ use lib.ListN.{getD}
 use Rattle.kinds.specs.declared.Field.{Field}
 use Rattle.kinds.specs.declared.Field.the-variants.{Unused, Node, Relation, Variable, Sort}
 use Rattle.kinds.specs.declared.Row.{Row}
-use Rattle.sheet.specs.declared.shapes.Shape.{Shape}
-use Rattle.sheet.specs.declared.shapes.Shape.the-variants.{Ill}
-use Rattle.sheet.specs.Blocks.{Sheet, scope, sortOf, kind, fieldA, fieldB, nodeCount}
+use Rattle.shapes.specs.declared.Shape.{Shape}
+use Rattle.shapes.specs.declared.Shape.the-variants.{Ill, SetOf, RelationOf}
+use Rattle.sheet.specs.Blocks.{Sheet, scope, sortOf, columns, firstSort, secondSort, kind, fieldA, fieldB, nodeCount}
 use Rattle.kinds.specs.Kinds.{rowOf}
-use Rattle.sheet.specs.Shapes.{declaredShape, shapeBy}
+use Rattle.shapes.specs.Shapes.{shapeBy}
 
 -- "Operands that are nodes have lower numbers than their parent.": the entries of the first n nodes, each made from those before
 unfoldable pub table : {A : Type 0} → (ℕ → List A → A) → ℕ → List A
@@ -45,11 +45,16 @@ visitsBy row atoms p q =
     1 + cond (isNode (row .a)) p 0 + cond (isVariable (row .a)) atoms 1 * cond (isNode (row .b)) q 0
 
 module _ (sheet : Sheet) where
+  -- "columns (1 a set, 2 a relation)": the shape of a declared relation
+  abbrev pub declaredShape : ℕ → Shape
+  declaredShape r =
+      cond (eqb (columns sheet r) 1) (SetOf (firstSort sheet r)) (RelationOf (firstSort sheet r) (secondSort sheet r))
+
   -- each node's shape
   unfoldable pub shapeStep : ℕ → List Shape → Shape
   shapeStep v shapes =
       shapeBy (rowOf (kind sheet v) .rule) (fieldA sheet v)
-      (declaredShape sheet (fieldA sheet v)) (sortOf sheet (fieldA sheet v))
+      (declaredShape (fieldA sheet v)) (sortOf sheet (fieldA sheet v))
       (getD shapes (fieldA sheet v) Ill) (getD shapes (fieldB sheet v) Ill)
 
   abbrev pub shapes : List Shape

@@ -7,10 +7,10 @@ ghost use lib.ListN.{length};
 ghost use Rattle.prelude.specs.Tests.{each, between};
 ghost use Rattle.sheet.specs.Blocks as blocks;
 ghost use Rattle.sheet.specs.Reading.{relationDeclared};
-use super::bytes::both;
 use super::bytes::byte;
-use super::bytes::choose;
-use super::bytes::within;
+use prelude::both;
+use prelude::choose;
+use prelude::within;
 
 // Number 4: each scope is one of 1 to 8.
 pub(crate) fn scopes_fine(sorts: &[u8]) -> bool

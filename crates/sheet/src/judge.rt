@@ -10,20 +10,20 @@ ghost use Rattle.sheet.specs.Reading as spec;
 use super::Block;
 use super::Layout;
 use super::Reading;
-use super::bytes::both;
-use super::bytes::within;
 use super::declarations::relations_fine;
 use super::declarations::scopes_fine;
 use super::declarations::variables_fine;
 use super::nodes::nodes_fine;
-use super::shapes::is_formula;
 use super::tables::all_shaped;
 use super::tables::closed;
 use super::tables::count_at;
 use super::tables::shape_at;
 use super::tables::shapes_of;
 use super::tables::visits_of;
+use prelude::both;
+use prelude::within;
 use refusal::Refusal;
+use shapes::is_formula;
 
 fn is_whole(relations: usize, nodes: usize) -> bool
     ensures { λ r. ⌜ r ≡ (eqb (relations % 4) 0 && eqb (nodes % 3) 0) ⌝ }

@@ -9,7 +9,6 @@ use refusal::Refusal;
 pub mod bytes; // bytes.rt: bytes, lengths, tests
 mod declarations; // declarations.rt: the readers of sorts, variables and relations
 mod nodes; // nodes.rt: the reader of nodes: kinds and fields
-pub mod shapes; // shapes.rt: shapes of expressions and formulas
 mod tables; // tables.rt: what every node has, from the nodes before it
 mod judge; // judge.rt: numbers 2 to 9 over the four blocks
 

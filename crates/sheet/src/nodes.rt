@@ -3,15 +3,14 @@ ghost use mathlib.Core.Path.{_≡_};
 ghost use Prim.Native.Nat.{_<_, _≤_, _/_};
 ghost use lib.ListN.{length};
 ghost use Rattle.prelude.specs.Tests.{each};
-ghost use Rattle.kinds.specs.Kinds.{isKnown};
 ghost use Rattle.sheet.specs.Blocks as blocks;
 ghost use Rattle.sheet.specs.Tables as tables;
 ghost use Rattle.sheet.specs.Reading.{fieldFine, nodeFine};
-use super::bytes::both;
 use super::bytes::byte;
 use kinds::Field;
-use kinds::Rule;
+use kinds::is_known;
 use kinds::row_of;
+use prelude::both;
 
 pub(crate) fn is_node(f: Field) -> bool
     ensures { λ r. ⌜ r ≡ tables.isNode f ⌝ }
@@ -34,29 +33,6 @@ pub(crate) fn is_variable(f: Field) -> bool
         Field::Relation => false,
         Field::Variable => true,
         Field::Sort => false,
-    }
-}
-
-fn is_known(rule: Rule) -> bool
-    ensures { λ r. ⌜ r ≡ isKnown rule ⌝ }
-{
-    match rule {
-        Rule::Unknown => false,
-        Rule::OfRelation => true,
-        Rule::OfVariable => true,
-        Rule::OfSort => true,
-        Rule::OfIdentity => true,
-        Rule::Same => true,
-        Rule::Join => true,
-        Rule::Product => true,
-        Rule::Inverse => true,
-        Rule::Closure => true,
-        Rule::Comprehension => true,
-        Rule::Comparison => true,
-        Rule::Test => true,
-        Rule::Negation => true,
-        Rule::Connective => true,
-        Rule::Quantifier => true,
     }
 }
 

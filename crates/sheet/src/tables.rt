@@ -6,20 +6,20 @@ ghost use lib.ListN.{length, getD};
 ghost use Rattle.prelude.specs.Tests.{each};
 ghost use Rattle.sheet.specs.Blocks as blocks;
 ghost use Rattle.sheet.specs.Tables as spec;
-ghost use Rattle.sheet.specs.Shapes.{isShaped};
+ghost use Rattle.shapes.specs.Shapes.{isShaped};
 ghost use Rattle.sheet.specs.Filling.{Fills, capped as cap};
-use super::bytes::both;
 use super::bytes::byte;
-use super::bytes::choose;
-use super::bytes::either;
 use super::nodes::is_node;
 use super::nodes::is_variable;
-use super::shapes::Shape;
-use super::shapes::declared_shape;
-use super::shapes::is_shaped;
-use super::shapes::shape_by;
 use kinds::Row;
 use kinds::row_of;
+use prelude::both;
+use prelude::choose;
+use prelude::either;
+use shapes::Shape;
+use shapes::is_shaped;
+use shapes::shape_by;
+use shapes::shape_of;
 
 // The entry of node i, of a table that is not filled there yet: the neutral one.
 pub(crate) fn shape_at(shapes: [Shape; 200], i: usize) -> Shape
@@ -38,6 +38,17 @@ pub(crate) fn count_at(counts: [u64; 200], i: usize) -> u64
     ensures { λ r. ⌜ r ≡ getD counts i 0 ⌝ }
 {
     if i < 200 { counts[i] } else { 0 }
+}
+
+fn declared_shape(relations: &[u8], r: usize) -> Shape
+    requires { ⌜ r < 256 ⌝ }
+    ensures { λ s. ⌜ ((sheet : blocks.Sheet) → sheet .relations ≡ now (relations .entry) → s ≡ spec.declaredShape sheet r) ⌝ }
+{
+    shape_of(
+        byte(relations, 4 * r),
+        byte(relations, 4 * r + 2),
+        byte(relations, 4 * r + 3),
+    )
 }
 
 fn node_shape(

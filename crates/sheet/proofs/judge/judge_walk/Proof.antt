@@ -7,7 +7,7 @@ use Rattle.prelude.proofs.Laws.{each-cong}
 use Rattle.refusal.specs.declared.Refusal.{Refusal}
 use Rattle.sheet.specs.declared.Reading.the-variants.{Accepted}
 use Rattle.sheet.specs.Blocks.{Sheet, fourBlocks, root}
-use Rattle.sheet.specs.Shapes.{isShaped, isFormula}
+use Rattle.shapes.specs.Shapes.{isShaped, isFormula}
 use Rattle.sheet.specs.Tables.{visits}
 use Rattle.sheet.specs.Filling.{capped}
 use Rattle.sheet.specs.Reading.{shaped, rooted, walkable}

@@ -5,8 +5,8 @@ use Prim.Native.Nat.{ℕ, _≤_, _-_}
 use native.Mathlib.Omega.{arith}
 use lib.ListN.{getD}
 use Rattle.prelude.specs.Tests.{each}
-use Rattle.sheet.specs.declared.shapes.Shape.the-variants.{Ill}
-use Rattle.sheet.specs.Shapes.{isShaped}
+use Rattle.shapes.specs.declared.Shape.the-variants.{Ill}
+use Rattle.shapes.specs.Shapes.{isShaped}
 use Rattle.sheet.proofs.Loops.{each-none, each-more}
 use Rattle.sheet.proofs.tables.all_shaped.Statement.{statement}
 use Rattle.sheet.proofs.tables.all_shaped.Tie as tie
