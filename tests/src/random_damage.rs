@@ -2,12 +2,12 @@
 
 use crate::random::Source;
 use crate::random_sheet::{long_walk, loose, sheet, style, walk_of, KINDS};
-use crate::sheet::{fields, Field, Node, Sheet};
+use crate::sheet::{assemble, fields, Field, Node, Sheet};
 
 /// The bytes of any sheet: well-formed, loose or damaged.
 pub fn any(source: &mut Source) -> Vec<u8> {
     let style = style(source);
-    match source.below(20) {
+    match source.below(21) {
         0..=5 => sheet(source, style).bytes(),
         6..=7 => loose(source).bytes(),
         8 => around_the_limit(source).bytes(),
@@ -18,7 +18,11 @@ pub fn any(source: &mut Source) -> Vec<u8> {
             }
             sheet.bytes()
         }
-        16..=18 => {
+        16 => {
+            let sheet = sheet(source, style);
+            uneven_blocks(source, sheet)
+        }
+        17..=19 => {
             let mut bytes = sheet(source, style).bytes();
             for _ in 0..source.pick(&[1, 1, 2, 3]) {
                 damage_bytes(source, &mut bytes);
@@ -27,6 +31,20 @@ pub fn any(source: &mut Source) -> Vec<u8> {
         }
         _ => (0..source.below(40)).map(|_| source.pick(&[0, 0, 0, 1, 1, 2, 3, 4, 6, 22, 255])).collect(),
     }
+}
+
+/// A block longer or shorter by a few bytes, its length kept in step: whole records or not, in blocks that fill the sheet.
+fn uneven_blocks(source: &mut Source, sheet: Sheet) -> Vec<u8> {
+    let mut blocks = sheet.blocks();
+    let block = &mut blocks[source.below(4)];
+    for _ in 0..source.between(1, 4) {
+        if source.chance(1, 2) {
+            block.push(source.pick(&[0, 0, 1, 2]));
+        } else {
+            block.pop();
+        }
+    }
+    assemble(&blocks)
 }
 
 /// A walk at the limit of number 9, beside it or far beyond.

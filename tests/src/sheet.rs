@@ -113,23 +113,29 @@ impl Sheet {
         self.relations.iter().map(cells).sum()
     }
 
-    /// The bytes of the sheet: the version, then each block behind its length.
-    pub fn bytes(&self) -> Vec<u8> {
+    /// The bytes of each block.
+    pub fn blocks(&self) -> [Vec<u8>; 4] {
         let relation = |r: &Relation| [r.columns, r.mark, r.first, r.second];
         let node = |n: &Node| [n.kind, n.a, n.b];
-        let blocks = [
-            self.scopes.clone(),
-            self.variables.clone(),
-            self.relations.iter().flat_map(relation).collect(),
-            self.nodes.iter().flat_map(node).collect(),
-        ];
-        let mut bytes = vec![1];
-        for block in blocks {
-            bytes.extend((block.len() as u16).to_be_bytes());
-            bytes.extend(block);
-        }
-        bytes
+        let relations = self.relations.iter().flat_map(relation).collect();
+        let nodes = self.nodes.iter().flat_map(node).collect();
+        [self.scopes.clone(), self.variables.clone(), relations, nodes]
     }
+
+    /// The bytes of the sheet.
+    pub fn bytes(&self) -> Vec<u8> {
+        assemble(&self.blocks())
+    }
+}
+
+/// The version, then each block behind its length.
+pub fn assemble(blocks: &[Vec<u8>; 4]) -> Vec<u8> {
+    let mut bytes = vec![1];
+    for block in blocks {
+        bytes.extend((block.len() as u16).to_be_bytes());
+        bytes.extend(block);
+    }
+    bytes
 }
 
 /// The sheet that the bytes hold, or the first number of 1 to 9 that applies.

@@ -17,10 +17,10 @@ pub fn run(run: &Run) -> Outcome {
     for case in run.cases(1_500) {
         let source = &mut Source::new(run.seed, "count", case);
         let style = style(source);
-        let bytes = match source.below(20) {
-            0..=2 => any(source),
-            3 => gates_of(15_990 + source.below(20)).bytes(),
-            4 => long_walk(source.between(1, 8) as u8, source.between(1, 150)).bytes(),
+        let bytes = match source.below(60) {
+            0..=8 => any(source),
+            9 => gates_of(15_990 + source.below(20)).bytes(),
+            10..=12 => long_walk(source.between(1, 8) as u8, source.between(1, 150)).bytes(),
             _ => sheet(source, style).bytes(),
         };
         let asked = || format!("case {case}, sheet {}", hex(&bytes));
