@@ -25,8 +25,9 @@ fn folder() -> std::path::PathBuf {
 
 /// Runs a solver on a clause text of v variables; any complaint of it about the text is an error.
 pub fn solve(solver: &str, text: &[u8], v: u32) -> Result<Verdict, String> {
-    let folder = folder();
-    let (input, output) = (folder.join(format!("{solver}.cnf")), folder.join(format!("{solver}.out")));
+    // a name of its own, so that two runs at a time do not meet
+    let file = |end: &str| folder().join(format!("{solver}-{}.{end}", std::process::id()));
+    let (input, output) = (file("cnf"), file("out"));
     std::fs::write(&input, text).map_err(|error| error.to_string())?;
     let mut command = Command::new(solver);
     match solver {
@@ -43,6 +44,7 @@ pub fn solve(solver: &str, text: &[u8], v: u32) -> Result<Verdict, String> {
     if solver == "minisat" {
         said = std::fs::read_to_string(&output).map_err(|error| error.to_string())?;
     }
+    let _ = (std::fs::remove_file(&input), std::fs::remove_file(&output));
     match run.status.code() {
         Some(10) => Ok(Verdict::Satisfiable(values(&said, v)?)),
         Some(20) => Ok(Verdict::Unsatisfiable),
