@@ -4,7 +4,7 @@ use crate::clauses::{count, translate, write, Size};
 use crate::dimacs::{parse, text};
 use crate::finder::{find, finder};
 use crate::meaning::check;
-use crate::random_sheet::{gates_of, walk_of};
+use crate::random_sheet::{gates_of, pigeonhole, walk_of};
 use crate::search::{search, Answer, End};
 use crate::sheet::*;
 
@@ -157,6 +157,14 @@ fn sizes() {
         let variables = count(&gates_of(gates).bytes()).map(|size| size.variables as usize);
         assert_eq!(variables, if gates + 4 <= 16_000 { Ok(gates + 4) } else { Err(SIZE) });
     }
+}
+
+#[test]
+fn pigeonholes() {
+    assert!(finder(&pigeonhole(0, 5, 4).bytes()).starts_with("none "));
+    assert!(finder(&pigeonhole(1, 3, 2).bytes()).starts_with("none "));
+    let found = finder(&pigeonhole(0, 3, 3).bytes());
+    assert!(found.starts_with("found ") && found.ends_with("\nr0 001 010 100\nr1 001 010 100\n"), "{found}");
 }
 
 #[test]

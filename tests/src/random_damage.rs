@@ -146,11 +146,17 @@ fn damage_node(source: &mut Source, sheet: &mut Sheet) {
     let value = source.pick(&[0, edge, edge.saturating_sub(1), edge.saturating_add(1), 255]);
     let lower = source.below(at.max(1)) as u8;
     let node = &mut sheet.nodes[at];
-    match source.below(6) {
+    match source.below(9) {
         0 => node.kind = source.pick(&[0, 13, 14, 19, 25, 29, 35, 39, 42, 255]),
         1 => node.kind = source.pick(&KINDS),
         2 => node.a = value,
         3 => node.b = value,
+        4..=6 => {
+            // another kind with the same fields: the shapes may not fit
+            let alike = |kind: &u8| fields(*kind) == fields(node.kind);
+            let kinds: Vec<u8> = KINDS.into_iter().filter(alike).collect();
+            node.kind = if kinds.is_empty() { node.kind } else { source.pick(&kinds) };
+        }
         _ => match fields(node.kind) {
             Some((Field::Node, Field::Node)) if source.chance(1, 2) => node.b = lower,
             Some((Field::Node, _)) => node.a = lower,

@@ -341,3 +341,16 @@ pub fn gates_of(gates: usize) -> Sheet {
     }
     Sheet { scopes: vec![1, 2], variables: vec![], relations: vec![relation(0), relation(1)], nodes }
 }
+
+/// Each of n atoms has exactly one of m, and none of them is shared: none where n is above m, after a long
+/// search. Free sets ahead of the two relations double it for each of their cells.
+pub fn pigeonhole(idle: u8, n: u8, m: u8) -> Sheet {
+    let set = Relation { columns: 1, mark: 0, first: 0, second: 0 };
+    let relation = |mark, first, second| Relation { columns: 2, mark, first, second };
+    let mut relations = vec![set; idle as usize];
+    relations.extend([relation(2, 0, 1), relation(1, 1, 0)]);
+    let node = |kind, a, b| Node { kind, a, b };
+    // the first relation is the inverse of the second, in which each row has at most one
+    let nodes = vec![node(1, idle, 0), node(1, idle + 1, 0), node(10, 1, 0), node(20, 0, 2)];
+    Sheet { scopes: vec![n, m], variables: vec![], relations, nodes }
+}

@@ -10,7 +10,7 @@ use reference::dimacs::text;
 use reference::finder::{finder, BYTES};
 use reference::random::Source;
 use reference::random_damage::any;
-use reference::random_sheet::{gates_of, sheet, style};
+use reference::random_sheet::{gates_of, pigeonhole, sheet, style};
 use reference::search::{search, End};
 use reference::sheet::read;
 use std::io::Write;
@@ -52,6 +52,11 @@ pub fn run(run: &Run) -> Outcome {
         agree(head == "found", verdict.is_satisfiable(), || format!("{solver}, {}", asked()))?;
         tally[4].1 += 1;
     }
+    if run.long && run.seed == 1 {
+        // some 2^10 times the search of five in four: the budget of 1,000,000 is spent
+        let bytes = pigeonhole(2, 5, 4).bytes();
+        agree(program("finder", &bytes)?.as_str(), "spent 1000000\n", || hex(&bytes))?;
+    }
     covered(&tally, 8)?;
     let [(_, found), (_, none), (_, refused), (_, brute), (_, solved)] = tally;
     let all = found + none + refused;
@@ -63,7 +68,8 @@ fn some_input(source: &mut Source) -> Vec<u8> {
     match source.below(16) {
         0..=1 => any(source),
         2 => [sheet(source, style).bytes(), vec![0; 4_200]].concat()[..BYTES + source.below(3)].to_vec(),
-        3 => gates_of(source.pick(&[5_000, 15_995, 15_996, 15_997, 15_998, 15_999, 16_000])).bytes(),
+        3 => pigeonhole(0, source.between(2, 6) as u8, source.between(2, 5) as u8).bytes(),
+        4 => gates_of(source.pick(&[5_000, 15_995, 15_996, 15_997, 15_998, 15_999, 16_000])).bytes(),
         _ => sheet(source, style).bytes(),
     }
 }

@@ -8,7 +8,7 @@ use reference::clauses::translate;
 use reference::dimacs::text;
 use reference::random::Source;
 use reference::random_list::{budget, damage, list};
-use reference::random_sheet::{gates_of, sheet, style};
+use reference::random_sheet::{gates_of, pigeonhole, sheet, style};
 use reference::search::{search, End};
 use reference::sheet::read;
 
@@ -52,11 +52,15 @@ fn some_case(source: &mut Source, number: u64) -> Case {
             let style = style(source);
             of_sheet(&sheet(source, style))
         }
+        2 if number % 8 == 0 => {
+            let n = source.between(2, 5) as u8;
+            of_sheet(&pigeonhole(source.below(2) as u8, n, n - source.below(2) as u8))
+        }
         _ => list(source),
     };
     let mut budget = budget(source);
     if list.len() > 400 {
-        budget = budget.min(100_000 / list.len() as u64);
+        budget = budget.min(400_000 / list.len() as u64);
     }
     if source.chance(1, 4) {
         damage(source, &mut list, &mut v);

@@ -7,7 +7,7 @@ use reference::finder::{find, read_back};
 use reference::random::Source;
 use reference::random_damage::any;
 use reference::random_list::budget;
-use reference::random_sheet::{gates_of, sheet, style};
+use reference::random_sheet::{gates_of, pigeonhole, sheet, style};
 use reference::search::End;
 use reference::sheet::read;
 
@@ -26,6 +26,7 @@ pub fn run(run: &Run) -> Outcome {
         let bytes = match source.below(12) {
             0 => any(source),
             1 if case % 20 == 0 => gates_of(15_990 + source.below(20)).bytes(),
+            2 if case % 4 == 0 => pigeonhole(source.below(2) as u8, source.between(2, 4) as u8, 3).bytes(),
             _ => sheet(source, style).bytes(),
         };
         let ended = compare_find(source, &bytes, case)?;
