@@ -5,6 +5,7 @@
 pub mod brute;
 pub mod clauses;
 pub mod dimacs;
+pub mod every_kind;
 pub mod finder;
 pub mod meaning;
 pub mod random;

@@ -1,23 +1,28 @@
-//! The check: random sheets with random instances, all instances where there are few, and bad instances.
+//! The check: each kind over each pair of operands, random sheets with random instances, all instances where there are few, and bad instances.
 
 use super::{agree, covered, hex};
 use crate::{library, Outcome, Run};
 use reference::brute::all;
+use reference::every_kind;
 use reference::meaning::check;
 use reference::random::Source;
 use reference::random_damage::{any, damage_records};
 use reference::random_sheet::{instance, sheet, style};
-use reference::sheet::Sheet;
+use reference::sheet::{read, Sheet};
 
 /// All instances are tried up to so many cells.
 const FEW: usize = 6;
 
 pub fn run(run: &Run) -> Outcome {
     let mut tally = [("yes", 0), ("no", 0), ("number 11", 0), ("a refused sheet", 0)];
+    let kinds: Vec<Sheet> = every_kind::sheets().into_iter().filter(|sheet| read(&sheet.bytes()).is_ok()).collect();
     let mut sheets = 0;
     for case in run.cases(1_500) {
         let source = &mut Source::new(run.seed, "check", case);
-        let (bytes, instances) = if source.chance(1, 8) {
+        let (bytes, instances) = if (case as usize) < kinds.len() {
+            let sheet = &kinds[case as usize];
+            (sheet.bytes(), some_instances(source, sheet))
+        } else if source.chance(1, 8) {
             (any(source), vec![instance(source, 4)])
         } else {
             let style = style(source);
@@ -57,7 +62,7 @@ fn some_sheet(source: &mut Source, style: reference::random_sheet::Style) -> She
 
 /// All instances where there are few cells, else some; and each of them damaged once at times.
 fn some_instances(source: &mut Source, sheet: &Sheet) -> Vec<Vec<u8>> {
-    let fits = reference::sheet::read(&sheet.bytes()).is_ok();
+    let fits = read(&sheet.bytes()).is_ok();
     let cells = if fits { sheet.cells() } else { 4 };
     let mut instances: Vec<Vec<u8>> = if cells <= FEW {
         all(cells).collect()

@@ -4,20 +4,24 @@
 use super::{agree, covered, hex};
 use crate::{library, Outcome, Run};
 use reference::clauses::{count, write};
+use reference::every_kind;
 use reference::random::Source;
 use reference::random_damage::any;
 use reference::random_sheet::{gates_of, long_walk, sheet, style};
+use reference::sheet::{read, Sheet};
 
 /// What stands in the slice before the call.
 const FILLING: i32 = 0x5eed;
 
 pub fn run(run: &Run) -> Outcome {
     let mut tally = [("a list", 0), ("number 10", 0), ("number 13", 0), ("a refused sheet", 0)];
+    let kinds: Vec<Sheet> = every_kind::sheets().into_iter().filter(|sheet| read(&sheet.bytes()).is_ok()).collect();
     let mut words = 0;
     for case in run.cases(1_500) {
         let source = &mut Source::new(run.seed, "count", case);
         let style = style(source);
         let bytes = match source.below(60) {
+            _ if (case as usize) < kinds.len() => kinds[case as usize].bytes(),
             0..=8 => any(source),
             9 => gates_of(15_990 + source.below(20)).bytes(),
             10..=12 => long_walk(source.between(1, 8) as u8, source.between(1, 150)).bytes(),

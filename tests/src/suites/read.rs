@@ -1,7 +1,9 @@
-//! Reading: the library's number for random and damaged sheets, and for every change of one byte in a few.
+//! Reading: the library's number for random and damaged sheets, for each kind over each pair of operands, and
+//! for every change of one byte in a few sheets.
 
 use super::{agree, covered, hex};
 use crate::{library, Outcome, Run};
+use reference::every_kind;
 use reference::random::Source;
 use reference::random_damage::any;
 use reference::random_sheet::{sheet, SMALL};
@@ -29,6 +31,9 @@ pub fn run(run: &Run) -> Outcome {
     };
     for case in run.cases(20_000) {
         compare(&any(&mut Source::new(run.seed, "read", case)), case)?;
+    }
+    for (case, sheet) in every_kind::sheets().iter().enumerate() {
+        compare(&sheet.bytes(), case as u64)?;
     }
     for case in run.cases(2) {
         let bytes = sheet(&mut Source::new(run.seed, "read bytes", case), SMALL).bytes();
