@@ -1,6 +1,6 @@
 //! The clause list of a sheet (document 01, "Clauses", numbers 1 to 10 and 13).
 
-use crate::sheet::{self, Relation, Shape, Sheet, SHORT, SIZE};
+use crate::sheet::{self, Shape, Sheet, SHORT, SIZE};
 
 /// The most variables that a list may have.
 pub const VARIABLES: usize = 16_000;
@@ -66,10 +66,9 @@ pub fn translate(sheet: &Sheet) -> Result<Clauses, u32> {
 impl Translation<'_> {
     /// The variables of a relation's cells, row by row.
     fn cells(&self, relation: usize) -> Matrix {
-        let extent = |r: &Relation| self.sheet.extent(r.shape());
-        let earlier = self.sheet.relations[..relation].iter().map(extent);
-        let before: usize = earlier.map(|(rows, columns)| rows * columns).sum();
-        let (rows, columns) = extent(&self.sheet.relations[relation]);
+        let earlier = &self.sheet.relations[..relation];
+        let before: usize = earlier.iter().map(|r| self.sheet.cells_of(r)).sum();
+        let (rows, columns) = self.sheet.extent(self.sheet.relations[relation].shape());
         let cell = |row: usize, column: usize| (2 + before + row * columns + column) as i32;
         (0..rows).map(|row| (0..columns).map(|column| cell(row, column)).collect()).collect()
     }

@@ -13,6 +13,7 @@ pub mod random_damage;
 pub mod random_list;
 pub mod random_sheet;
 pub mod search;
+pub mod shadows;
 pub mod sheet;
 
 #[cfg(test)]

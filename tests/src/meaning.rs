@@ -9,7 +9,7 @@ pub type Tuple = Vec<u8>;
 pub type Tuples = BTreeSet<Tuple>;
 
 /// The atom of each variable; a binder puts its own in place.
-type Environment = [u8; 4];
+pub type Environment = [u8; 4];
 
 /// The tuples of each relation.
 pub type Instance = Vec<Tuples>;
@@ -37,7 +37,7 @@ pub fn decode(sheet: &Sheet, bytes: &[u8]) -> Option<Instance> {
 }
 
 /// The tuples of an expression.
-fn tuples(sheet: &Sheet, instance: &Instance, environment: Environment, at: u8) -> Tuples {
+pub fn tuples(sheet: &Sheet, instance: &Instance, environment: Environment, at: u8) -> Tuples {
     let node = sheet.nodes[at as usize];
     let operand = |field: u8| tuples(sheet, instance, environment, field);
     match node.kind {

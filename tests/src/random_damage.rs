@@ -49,12 +49,15 @@ fn uneven_blocks(source: &mut Source, sheet: Sheet) -> Vec<u8> {
 
 /// A walk at the limit of number 9, beside it or far beyond.
 fn around_the_limit(source: &mut Source) -> Sheet {
-    match source.below(6) {
+    match source.below(8) {
         0 => walk_of(1_000_000),
         1 => walk_of(1_000_001),
         2 => walk_of(source.between(999_000, 1_001_000) as u128),
         3 => walk_of(2 + (u128::from(source.next()) << source.below(30))),
-        4 => long_walk(8, source.between(1, 190)),
+        // figures that a 32-bit or a 64-bit sum would take for small ones
+        4 => walk_of((1 << 32) + 2 + source.below(1_000_000) as u128),
+        5 => walk_of((1 << 64) + 2 + source.below(1_000_000) as u128),
+        6 => long_walk(8, source.between(1, 190)),
         _ => long_walk(source.between(1, 8) as u8, source.between(1, 190)),
     }
 }

@@ -104,13 +104,15 @@ impl Sheet {
         }
     }
 
+    /// The cells of a relation.
+    pub fn cells_of(&self, relation: &Relation) -> usize {
+        let (rows, columns) = self.extent(relation.shape());
+        rows * columns
+    }
+
     /// The cells of all relations.
     pub fn cells(&self) -> usize {
-        let cells = |relation: &Relation| {
-            let (rows, columns) = self.extent(relation.shape());
-            rows * columns
-        };
-        self.relations.iter().map(cells).sum()
+        self.relations.iter().map(|relation| self.cells_of(relation)).sum()
     }
 
     /// The bytes of each block.

@@ -3,11 +3,12 @@
 use super::{agree, covered, hex};
 use crate::{library, Outcome, Run};
 use reference::brute::all;
-use reference::every_kind;
+use reference::every_kind::{self, solution};
 use reference::meaning::check;
 use reference::random::Source;
 use reference::random_damage::{any, damage_records};
 use reference::random_sheet::{instance, sheet, style};
+use reference::shadows;
 use reference::sheet::{read, Sheet};
 
 /// All instances are tried up to so many cells.
@@ -15,32 +16,37 @@ const FEW: usize = 6;
 
 pub fn run(run: &Run) -> Outcome {
     let mut tally = [("yes", 0), ("no", 0), ("number 11", 0), ("a refused sheet", 0)];
-    let kinds: Vec<Sheet> = every_kind::sheets().into_iter().filter(|sheet| read(&sheet.bytes()).is_ok()).collect();
     let mut sheets = 0;
+    let mut compare = |bytes: &[u8], instance: &[u8], case: u64| {
+        let want = check(bytes, instance);
+        let at = match want {
+            Ok(true) => 0,
+            Ok(false) => 1,
+            Err(11) => 2,
+            Err(_) => 3,
+        };
+        tally[at].1 += 1;
+        let asked = || format!("case {case}, instance {}, sheet {}", hex(instance), hex(bytes));
+        agree(library::check(bytes, instance), want, asked)
+    };
+    for (case, sheet) in known().iter().enumerate() {
+        let source = &mut Source::new(run.seed, "check known", case as u64);
+        let bytes = sheet.bytes();
+        for instance in known_instances(source, sheet) {
+            compare(&bytes, &instance, case as u64)?;
+        }
+        sheets += 1;
+    }
     for case in run.cases(1_500) {
         let source = &mut Source::new(run.seed, "check", case);
-        let (bytes, instances) = if (case as usize) < kinds.len() {
-            let sheet = &kinds[case as usize];
-            (sheet.bytes(), some_instances(source, sheet))
-        } else if source.chance(1, 8) {
+        let (bytes, instances) = if source.chance(1, 8) {
             (any(source), vec![instance(source, 4)])
         } else {
             let style = style(source);
             let sheet = some_sheet(source, style);
             (sheet.bytes(), some_instances(source, &sheet))
         };
-        for instance in instances {
-            let want = check(&bytes, &instance);
-            let at = match want {
-                Ok(true) => 0,
-                Ok(false) => 1,
-                Err(11) => 2,
-                Err(_) => 3,
-            };
-            tally[at].1 += 1;
-            let asked = || format!("case {case}, instance {}, sheet {}", hex(&instance), hex(&bytes));
-            agree(library::check(&bytes, &instance), want, asked)?;
-        }
+        instances.iter().try_for_each(|instance| compare(&bytes, instance, case))?;
         sheets += 1;
     }
     covered(&tally, 100)?;
@@ -49,6 +55,26 @@ pub fn run(run: &Run) -> Outcome {
     Ok(format!(
         "{checks} checks of {sheets} sheets agree: {yes} yes, {no} no, {cells} number 11, {refused} other numbers"
     ))
+}
+
+/// Equations for each kind at each scope, and each pair of binders of one variable.
+fn known() -> Vec<Sheet> {
+    every_kind::scopes().flat_map(every_kind::equations).chain(shadows::sheets(3)).collect()
+}
+
+/// All instances of a sheet with few cells; else solutions of its equation, and each with one cell changed.
+fn known_instances(source: &mut Source, sheet: &Sheet) -> Vec<Vec<u8>> {
+    if sheet.cells() <= FEW {
+        return all(sheet.cells()).collect();
+    }
+    let mut instances = Vec::new();
+    for _ in 0..4 {
+        let solution = solution(source, sheet);
+        let mut changed = solution.clone();
+        changed[source.below(sheet.cells())] ^= 1;
+        instances.extend([solution, changed]);
+    }
+    instances
 }
 
 /// Mostly a good sheet, at times with a record changed.

@@ -8,16 +8,17 @@ use reference::every_kind;
 use reference::random::Source;
 use reference::random_damage::any;
 use reference::random_sheet::{gates_of, long_walk, sheet, style};
-use reference::sheet::{read, Sheet};
+use reference::shadows;
+use reference::sheet::Sheet;
 
 /// What stands in the slice before the call.
 const FILLING: i32 = 0x5eed;
 
 pub fn run(run: &Run) -> Outcome {
     let mut tally = [("a list", 0), ("number 10", 0), ("number 13", 0), ("a refused sheet", 0)];
-    let kinds: Vec<Sheet> = every_kind::sheets().into_iter().filter(|sheet| read(&sheet.bytes()).is_ok()).collect();
+    let kinds = known();
     let mut words = 0;
-    for case in run.cases(1_500) {
+    for case in run.cases(2_500) {
         let source = &mut Source::new(run.seed, "count", case);
         let style = style(source);
         let bytes = match source.below(60) {
@@ -46,6 +47,11 @@ pub fn run(run: &Run) -> Outcome {
     Ok(format!(
         "{writes} writes and their counts agree: {lists} lists, {words} words, {size} number 10, {short} number 13"
     ))
+}
+
+/// Each kind at each scope, and each pair of binders of one variable.
+fn known() -> Vec<Sheet> {
+    every_kind::accepted().into_iter().chain(shadows::sheets(3)).collect()
 }
 
 /// Writing into a slice of so many words, the whole slice compared.

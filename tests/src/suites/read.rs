@@ -32,7 +32,7 @@ pub fn run(run: &Run) -> Outcome {
     for case in run.cases(20_000) {
         compare(&any(&mut Source::new(run.seed, "read", case)), case)?;
     }
-    for (case, sheet) in every_kind::sheets().iter().enumerate() {
+    for (case, sheet) in every_kind::trials([2, 3]).iter().enumerate() {
         compare(&sheet.bytes(), case as u64)?;
     }
     for case in run.cases(2) {
