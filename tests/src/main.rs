@@ -32,8 +32,13 @@ fn main() {
         None if long => 1..=10,
         None => 1..=1,
     };
+    let named = |name: &str| words.iter().any(|word| word == name);
+    let any_named = suites::all().iter().any(|(name, _)| named(name));
     for seed in seeds {
         for (name, suite) in suites::all() {
+            if any_named && !named(name) {
+                continue;
+            }
             match suite(&Run { seed, long }) {
                 Ok(line) => println!("{name}: {line} (seed {seed})"),
                 Err(mismatch) => {

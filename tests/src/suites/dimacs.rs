@@ -1,7 +1,7 @@
 //! Clause text: the sizing figure, the text byte for byte in slices that are exact, one byte short, and
 //! longer with a known filling behind; texts parsed back; minisat, cadical and picosat read them.
 
-use super::{agree, covered};
+use super::{agree, covered, shown};
 use crate::solver::{solve, SOLVERS};
 use crate::{library, Outcome, Run};
 use reference::clauses::translate;
@@ -23,7 +23,7 @@ pub fn run(run: &Run) -> Outcome {
         if source.chance(1, 4) {
             damage(source, &mut words, &mut v);
         }
-        let asked = || format!("case {case}, v {v}, list {words:?}");
+        let asked = || format!("case {case}, v {v}, list {}", shown(&words));
         let needed = size(&words, v);
         agree(library::text_size(&words, v), needed, asked)?;
         let exact = needed.unwrap_or(40) as usize;

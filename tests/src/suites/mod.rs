@@ -47,13 +47,24 @@ pub fn hex(bytes: &[u8]) -> String {
     bytes.iter().map(|byte| format!("{byte:02x}")).collect()
 }
 
+/// A list as a mismatch shows it; a long one is cut, since the seed and the case give it anew.
+#[allow(dead_code)]
+pub fn shown(list: &[i32]) -> String {
+    match list.len() {
+        0..=300 => format!("{list:?}"),
+        words => format!("{words} words, the first {:?}", &list[..300]),
+    }
+}
+
 /// Two answers that must be equal. `case` says what they were asked.
 #[allow(dead_code)]
 pub fn agree<T: PartialEq + Debug>(got: T, want: T, case: impl FnOnce() -> String) -> Result<(), String> {
     if got == want {
         Ok(())
     } else {
-        Err(format!("{}\n  got  {got:?}\n  want {want:?}", case()))
+        let cut = |text: String| text.chars().take(2_000).collect::<String>();
+        let (got, want) = (cut(format!("{got:?}")), cut(format!("{want:?}")));
+        Err(format!("{}\n  got  {got}\n  want {want}", case()))
     }
 }
 

@@ -1,7 +1,7 @@
 //! The search: answer, steps, values and trail for random lists and lists of sheets, good and damaged,
 //! with budgets of none, one, few and many; verdicts against minisat.
 
-use super::{agree, covered};
+use super::{agree, covered, shown};
 use crate::solver::solve;
 use crate::{library, Outcome, Run};
 use reference::clauses::translate;
@@ -35,7 +35,7 @@ pub fn run(run: &Run) -> Outcome {
         if end <= 1 && number % 50 == 0 {
             let text = text(&case.list, case.v).expect("a good list");
             let verdict = solve("minisat", text.as_bytes(), case.v)?;
-            agree(end == 0, verdict.is_satisfiable(), || format!("case {number}, minisat on {:?}", case.list))?;
+            agree(end == 0, verdict.is_satisfiable(), || format!("case {number}, minisat on {}", shown(&case.list)))?;
             solved += 1;
         }
     }
@@ -94,7 +94,7 @@ fn compare(case: &Case, number: u64) -> Result<(usize, u64), String> {
     let (mut got_values, mut got_trail) = (values.clone(), trail.clone());
     let want = search(&case.list, case.v, &mut values, &mut trail, case.budget);
     let got = library::search(&case.list, case.v, &mut got_values, &mut got_trail, case.budget);
-    let asked = || format!("case {number}, v {}, budget {}, list {:?}", case.v, case.budget, case.list);
+    let asked = || format!("case {number}, v {}, budget {}, list {}", case.v, case.budget, shown(&case.list));
     agree(got, want, asked)?;
     agree(got_values, values, asked)?;
     agree(got_trail, trail, asked)?;
