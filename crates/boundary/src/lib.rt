@@ -1,0 +1,43 @@
+// The C boundary: the library's functions for tests, measures and callers in other languages. A slice passes as
+// its address and its length. The first number of an answer is that of a refusal, 0 where nothing is refused.
+use dimacs::TextSize;
+ghost use mathlib.Core.Path.{_≡_};
+ghost use Rattle.dimacs.specs.Answers.{answerOf, sizeAnswer, writeAnswer, textAfter};
+ghost use Rattle.boundary.specs.Numbers.{textNumbers};
+
+// The bytes of a clause text: those that it needs, or those written.
+#[repr(C)]
+pub struct TextAnswer {
+    pub refusal: u32,
+    pub bytes: usize,
+}
+
+fn text_numbers(answer: TextSize) -> TextAnswer
+    ensures { λ r. ⌜ r ≡ textNumbers (answerOf answer) ⌝ }
+{
+    match answer {
+        TextSize::Bytes(n) => TextAnswer {
+            refusal: 0,
+            bytes: n,
+        },
+        TextSize::Refused(r) => TextAnswer {
+            refusal: refusal::number(r),
+            bytes: 0,
+        },
+    }
+}
+
+#[no_mangle]
+pub extern "C" fn fawnloom_text_size(list: &[i32], v: u32) -> TextAnswer
+    ensures { λ r. ⌜ r ≡ textNumbers (sizeAnswer v (now (list .entry))) ⌝ }
+{
+    text_numbers(dimacs::size(list, v))
+}
+
+#[no_mangle]
+pub extern "C" fn fawnloom_text(list: &[i32], v: u32, text: &mut [u8]) -> TextAnswer
+    ensures { λ r. ⌜ r ≡ textNumbers (writeAnswer v (now (list .entry)) (now (text .entry))) ⌝ }
+    ensures { λ r. ⌜ now (text .exit) ≡ textAfter v (now (list .entry)) (now (text .entry)) ⌝ }
+{
+    text_numbers(dimacs::write(list, v, text))
+}
