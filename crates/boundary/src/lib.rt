@@ -1,9 +1,28 @@
 // The C boundary: the library's functions for tests, measures and callers in other languages. A slice passes as
 // its address and its length. The first number of an answer is that of a refusal, 0 where nothing is refused.
 use dimacs::TextSize;
+use sheet::Reading;
 ghost use mathlib.Core.Path.{_≡_};
+ghost use Rattle.sheet.specs.Reading.{reading};
 ghost use Rattle.dimacs.specs.Answers.{answerOf, sizeAnswer, writeAnswer, textAfter};
-ghost use Rattle.boundary.specs.Numbers.{textNumbers};
+ghost use Rattle.boundary.specs.Numbers.{readNumber, textNumbers};
+
+fn read_number(answer: Reading) -> u32
+    ensures { λ r. ⌜ r ≡ readNumber answer ⌝ }
+{
+    match answer {
+        Reading::Accepted(_) => 0,
+        Reading::Refused(r) => refusal::number(r),
+    }
+}
+
+// The number of a sheet's refusal, 0 for an accepted sheet.
+#[no_mangle]
+pub extern "C" fn fawnloom_read(sheet: &[u8]) -> u32
+    ensures { λ r. ⌜ r ≡ readNumber (reading (now (sheet .entry))) ⌝ }
+{
+    read_number(sheet::read(sheet))
+}
 
 // The bytes of a clause text: those that it needs, or those written.
 #[repr(C)]
