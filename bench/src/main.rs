@@ -1,0 +1,129 @@
+//! Measures of the library beside Rust, both in this one program, in turns; the best of some rounds counts.
+//! Before anything is timed, both sides are held to the same answers.
+
+#[path = "../../tests/src/library.rs"]
+mod library;
+mod search;
+
+use reference::clauses::{count, translate, Clauses};
+use reference::random::Source;
+use reference::random_sheet::{gates_of, sheet, style};
+use reference::sheet::read;
+use std::hint::black_box;
+use std::time::{Duration, Instant};
+
+const SEED: u64 = 1;
+const ROUNDS: usize = 5;
+
+/// The best time of both sides, taken in turns.
+fn best(mut library: impl FnMut(), mut rust: impl FnMut()) -> (Duration, Duration) {
+    let mut least = (Duration::MAX, Duration::MAX);
+    for _ in 0..ROUNDS {
+        let start = Instant::now();
+        library();
+        let middle = Instant::now();
+        rust();
+        least = (least.0.min(middle - start), least.1.min(middle.elapsed()));
+    }
+    least
+}
+
+fn line(what: &str, units: u64, unit: &str, (library, rust): (Duration, Duration)) {
+    let each = |time: Duration| time.as_secs_f64() * 1e9 / units as f64;
+    let ratio = library.as_secs_f64() / rust.as_secs_f64();
+    println!(
+        "{what}: {units} {unit}, library {:.0} ns each, Rust {:.0} ns each, ratio {ratio:.2}",
+        each(library),
+        each(rust)
+    );
+}
+
+/// Sheets whose lists fit, from the seed.
+fn sheets(number: usize) -> Vec<(Vec<u8>, Clauses)> {
+    let mut sheets = Vec::new();
+    for case in 0.. {
+        if sheets.len() == number {
+            break;
+        }
+        let source = &mut Source::new(SEED, "bench", case);
+        let style = style(source);
+        let bytes = sheet(source, style).bytes();
+        if let Ok(clauses) = read(&bytes).and_then(|sheet| translate(&sheet)) {
+            sheets.push((bytes, clauses));
+        }
+    }
+    sheets
+}
+
+/// The searches of all lists with a budget for each.
+fn searches(what: &str, lists: &[Clauses], budget: u64) {
+    let words: Vec<Vec<i32>> = lists.iter().map(Clauses::words).collect();
+    let longest = lists.iter().map(|list| list.variables as usize).max().unwrap_or(0);
+    let (mut values, mut trail) = (vec![0; longest], vec![0; longest]);
+    let (mut values2, mut trail2) = (values.clone(), trail.clone());
+    let mut steps = 0;
+    for (list, words) in lists.iter().zip(&words) {
+        let v = list.variables as usize;
+        let ours = library::search(words, v as u32, &mut values[..v], &mut trail[..v], budget);
+        let rust = search::search(words, &mut values2[..v], &mut trail2[..v], budget);
+        assert_eq!(ours, Ok(rust));
+        assert_eq!((&values[..v], &trail[..v]), (&values2[..v], &trail2[..v]));
+        steps += rust.steps;
+    }
+    let each = |run: &mut dyn FnMut(&[i32], usize)| {
+        lists.iter().zip(&words).for_each(|(list, words)| run(words, list.variables as usize));
+    };
+    let times = best(
+        || {
+            each(&mut |words, v| {
+                let _ = black_box(library::search(words, v as u32, &mut values[..v], &mut trail[..v], budget));
+            })
+        },
+        || {
+            each(&mut |words, v| {
+                black_box(search::search(words, &mut values2[..v], &mut trail2[..v], budget));
+            })
+        },
+    );
+    line(what, steps, "steps", times);
+}
+
+/// Counting and writing of all sheets, for each gate; beside them the reference's translation.
+fn translations(sheets: &[(Vec<u8>, Clauses)]) {
+    let gates = |(bytes, clauses): &(Vec<u8>, Clauses)| {
+        let cells = read(bytes).map_or(0, |sheet| sheet.cells());
+        clauses.variables as u64 - 1 - cells as u64
+    };
+    let gates: u64 = sheets.iter().map(gates).sum();
+    let mut list = vec![0; 1 << 20];
+    let each = |run: &mut dyn FnMut(&[u8])| sheets.iter().for_each(|(bytes, _)| run(bytes));
+    let mut reference = || {
+        each(&mut |bytes| {
+            let _ = black_box(count(bytes));
+        })
+    };
+    let counts = || {
+        each(&mut |bytes| {
+            let _ = black_box(library::count(bytes));
+        })
+    };
+    let writes = || {
+        each(&mut |bytes| {
+            let _ = black_box(library::write(bytes, &mut list));
+        })
+    };
+    let counting = best(counts, &mut reference);
+    let writing = best(writes, &mut reference);
+    line("counting", gates, "gates", counting);
+    line("writing", gates, "gates", writing);
+}
+
+fn main() {
+    let sheets = sheets(300);
+    let lists: Vec<Clauses> = sheets.iter().map(|(_, clauses)| clauses.clone()).collect();
+    searches("search of 300 random sheets", &lists, 300);
+    let large = translate(&gates_of(1_600)).expect("a list");
+    let words = large.size().words;
+    searches(&format!("search of a list of {words} words"), &[large], 5_000);
+    translations(&sheets);
+}

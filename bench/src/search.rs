@@ -1,0 +1,106 @@
+//! The search in Rust, by the algorithm of the library: one scan of the list for each step, which leaves
+//! a clause at a true literal, or as soon as it can be neither a clash nor the first to force.
+
+use reference::search::{Answer, End};
+
+const OPEN: u8 = 2;
+const CHOSEN: u8 = 3;
+
+/// What a scan of the list meets.
+enum Scan {
+    Clash,
+    Force(i32),
+    Nothing,
+}
+
+/// 1 true, 0 false, 2 open.
+fn truth(values: &[u8], literal: i32) -> u8 {
+    let value = values[literal.unsigned_abs() as usize - 1];
+    match value {
+        OPEN => OPEN,
+        1 => u8::from(literal > 0),
+        _ => u8::from(literal < 0),
+    }
+}
+
+fn scan(list: &[i32], values: &[u8]) -> Scan {
+    let mut forced = 0;
+    let mut at = 0;
+    'clauses: while at < list.len() {
+        let end = at + 1 + list[at] as usize;
+        let clause = &list[at + 1..end];
+        at = end;
+        let mut open = 0;
+        for &literal in clause {
+            match truth(values, literal) {
+                1 => continue 'clauses,
+                OPEN if forced != 0 || (open != 0 && open != literal) => continue 'clauses,
+                OPEN => open = literal,
+                _ => {}
+            }
+        }
+        if open == 0 {
+            return Scan::Clash;
+        }
+        forced = open;
+    }
+    if forced != 0 {
+        Scan::Force(forced)
+    } else {
+        Scan::Nothing
+    }
+}
+
+/// Opens all back to the latest choice, which becomes true; the new length, or none without a choice.
+fn turn(values: &mut [u8], trail: &mut [i32], mut length: usize) -> Option<usize> {
+    while length > 0 {
+        let literal = trail[length - 1];
+        let variable = literal.unsigned_abs() as usize - 1;
+        if values[variable] == CHOSEN {
+            values[variable] = 1;
+            trail[length - 1] = -literal;
+            return Some(length);
+        }
+        values[variable] = OPEN;
+        trail[length - 1] = 0;
+        length -= 1;
+    }
+    None
+}
+
+/// The search over a good list, with slices of v values and v words.
+pub fn search(list: &[i32], values: &mut [u8], trail: &mut [i32], budget: u64) -> Answer {
+    values.fill(OPEN);
+    trail.fill(0);
+    let (mut length, mut steps) = (0, 0);
+    loop {
+        let met = scan(list, values);
+        if let (Scan::Nothing, true) = (&met, length == values.len()) {
+            values.iter_mut().filter(|value| **value == CHOSEN).for_each(|value| *value = 0);
+            return Answer { end: End::Found, steps };
+        }
+        if let (Scan::Clash, false) = (&met, values.contains(&CHOSEN)) {
+            values.fill(OPEN);
+            trail.fill(0);
+            return Answer { end: End::None, steps };
+        }
+        if steps == budget {
+            return Answer { end: End::Spent, steps };
+        }
+        match met {
+            Scan::Clash => length = turn(values, trail, length).unwrap_or(0),
+            Scan::Force(literal) => {
+                values[literal.unsigned_abs() as usize - 1] = u8::from(literal > 0);
+                trail[length] = literal;
+                length += 1;
+            }
+            Scan::Nothing => {
+                let variable = values.iter().position(|&value| value == OPEN).unwrap_or(0);
+                values[variable] = CHOSEN;
+                trail[length] = -(variable as i32 + 1);
+                length += 1;
+            }
+        }
+        steps += 1;
+    }
+}

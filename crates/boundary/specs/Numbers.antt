@@ -1,0 +1,26 @@
+-- The answers of the library's functions as the boundary gives them: in numbers, the number of a refusal first.
+use Prim.Native.Nat.{ℕ}
+use Rattle.refusal.specs.Refusals.{numberOf}
+use Rattle.sheet.specs.declared.Reading.{Reading}
+use Rattle.sheet.specs.declared.Reading.the-variants.{Accepted, Refused}
+use Rattle.dimacs.specs.Answers as text
+use Rattle.search.specs.Answers as searched
+use Rattle.boundary.specs.declared.SearchAnswer.{SearchAnswer}
+use Rattle.boundary.specs.declared.TextAnswer.{TextAnswer}
+
+-- reading
+abbrev pub readNumber : Reading → ℕ
+readNumber (Accepted layout) = 0
+readNumber (Refused r) = numberOf r
+
+-- the search
+abbrev pub searchNumbers : searched.Answer → SearchAnswer
+searchNumbers (searched.found n) = record { refusal = 0; end = 1; steps = n }
+searchNumbers (searched.none n) = record { refusal = 0; end = 2; steps = n }
+searchNumbers (searched.spent n) = record { refusal = 0; end = 3; steps = n }
+searchNumbers (searched.refused n) = record { refusal = n; end = 0; steps = 0 }
+
+-- clause text and its size
+abbrev pub textNumbers : text.Answer → TextAnswer
+textNumbers (text.bytes n) = record { refusal = 0; bytes = n }
+textNumbers (text.refused n) = record { refusal = n; bytes = 0 }

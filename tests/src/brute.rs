@@ -1,0 +1,50 @@
+//! All instances and all assignments, one after another, where there are few.
+
+use crate::meaning::{decode, satisfies};
+use crate::sheet::Sheet;
+
+/// All instances of so many cells, in ascending order.
+pub fn all(cells: usize) -> impl Iterator<Item = Vec<u8>> {
+    (0u64..1 << cells).map(move |number| (0..cells).map(|cell| (number >> (cells - 1 - cell) & 1) as u8).collect())
+}
+
+/// All instances that satisfy marks and formula, in ascending order.
+pub fn instances(sheet: &Sheet) -> Vec<Vec<u8>> {
+    let good = |bytes: &Vec<u8>| satisfies(sheet, &decode(sheet, bytes).expect("within the scopes"));
+    all(sheet.cells()).filter(good).collect()
+}
+
+/// All assignments of v variables that satisfy the clauses, in ascending order. Variables are set in
+/// order; a clause is looked at as soon as its last variable is set.
+pub fn assignments(v: u32, clauses: &[Vec<i32>]) -> Vec<Vec<u8>> {
+    let mut due = vec![Vec::new(); v as usize + 1];
+    for clause in clauses {
+        let last = clause.iter().map(|literal| literal.unsigned_abs()).max().unwrap_or(0);
+        due[last as usize].push(clause);
+    }
+    let mut found = Vec::new();
+    if due[0].is_empty() {
+        extend(&due, &mut Vec::new(), &mut found);
+    }
+    found
+}
+
+fn extend(due: &[Vec<&Vec<i32>>], values: &mut Vec<u8>, found: &mut Vec<Vec<u8>>) {
+    if values.len() + 1 == due.len() {
+        found.push(values.clone());
+        return;
+    }
+    for value in [0, 1] {
+        values.push(value);
+        if due[values.len()].iter().all(|clause| holds(clause, values)) {
+            extend(due, values, found);
+        }
+        values.pop();
+    }
+}
+
+/// Whether a clause holds a true literal.
+pub fn holds(clause: &[i32], values: &[u8]) -> bool {
+    let value = |literal: i32| values[literal.unsigned_abs() as usize - 1];
+    clause.iter().any(|&literal| value(literal) == u8::from(literal > 0))
+}

@@ -1,0 +1,80 @@
+//! The implementation held to itself: by meaning and by clauses, the same instances satisfy.
+
+use crate::brute::{assignments, holds, instances};
+use crate::clauses::translate;
+use crate::finder::finder;
+use crate::random::Source;
+use crate::random_sheet::{sheet, Style, SMALL};
+use crate::search::{search, End};
+use crate::sheet::read;
+
+const SEED: u64 = 1;
+
+/// All satisfying instances are all satisfying assignments cut to the cells, one to one and in order.
+#[test]
+fn instances_and_assignments_match() {
+    let styles = [SMALL, Style { sorts: 1, scope: 3, relations: 1, depth: 4 }];
+    let (mut compared, mut kinds, mut satisfiable) = (0, std::collections::BTreeMap::new(), 0);
+    for case in 0..3_000 {
+        let source = &mut Source::new(SEED, "counts", case);
+        let sheet = sheet(source, styles[case as usize % 2]);
+        if sheet.cells() > 9 || read(&sheet.bytes()).is_err() {
+            continue;
+        }
+        let Ok(clauses) = translate(&sheet) else { continue };
+        let by_meaning = instances(&sheet);
+        let satisfying = assignments(clauses.variables, &clauses.clauses);
+        let by_clauses: Vec<Vec<u8>> = satisfying.iter().map(|a| a[1..1 + sheet.cells()].to_vec()).collect();
+        assert_eq!(by_meaning, by_clauses, "case {case}: {:02x?}", sheet.bytes());
+        compared += 1;
+        satisfiable += usize::from(!by_meaning.is_empty());
+        sheet.nodes.iter().for_each(|node| *kinds.entry(node.kind).or_insert(0) += 1);
+    }
+    println!("{compared} sheets, {satisfiable} satisfiable, kinds {kinds:?}");
+    assert!(compared > 2_000 && satisfiable > 1_000 && satisfiable < compared - 300);
+    assert!(kinds.len() == 24 && kinds.values().all(|&times| times > 100));
+}
+
+/// The search finds the first of all satisfying assignments, or none where there is none.
+#[test]
+fn the_search_agrees_with_all_assignments() {
+    let mut ends = [0; 2];
+    for case in 0..3_000 {
+        let source = &mut Source::new(SEED, "search counts", case);
+        let (list, v) = crate::random_list::list(source);
+        if v > 12 {
+            continue;
+        }
+        let clauses = crate::search::cut(&list, v).unwrap();
+        let all = assignments(v, &clauses);
+        let (mut values, mut trail) = (vec![0; v as usize], vec![0; v as usize]);
+        let answer = search(&list, v, &mut values, &mut trail, 1_000_000).unwrap();
+        match answer.end {
+            End::Found => assert_eq!(Some(&values), all.first(), "case {case}"),
+            End::None => assert!(all.is_empty(), "case {case}"),
+            End::Spent => panic!("case {case} is spent"),
+        }
+        assert!(all.iter().all(|values| clauses.iter().all(|clause| holds(clause, values))));
+        ends[usize::from(all.is_empty())] += 1;
+    }
+    assert!(ends[0] > 500 && ends[1] > 500, "{ends:?}");
+}
+
+/// What the finder prints is the first satisfying instance, in ascending order.
+#[test]
+fn the_finder_prints_the_first_instance() {
+    for case in 0..500 {
+        let source = &mut Source::new(SEED, "finder counts", case);
+        let sheet = sheet(source, SMALL);
+        if sheet.cells() > 9 || read(&sheet.bytes()).is_err() {
+            continue;
+        }
+        let printed = finder(&sheet.bytes());
+        let (head, lines) = printed.split_once('\n').unwrap();
+        match instances(&sheet).first() {
+            _ if head == "refused 13" => {}
+            Some(first) => assert!(head.starts_with("found ") && lines == crate::finder::lines(&sheet, first)),
+            None => assert!(head.starts_with("none ") && lines.is_empty()),
+        }
+    }
+}

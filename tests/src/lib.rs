@@ -1,0 +1,22 @@
+//! Document 01 a second time: a plain implementation in Rust, written from the papers alone.
+//! The suites of `main.rs` compare the Rattle library with it. It is made to be read, not to be fast,
+//! and takes another way than the library wherever there is one.
+
+pub mod brute;
+pub mod clauses;
+pub mod dimacs;
+pub mod every_kind;
+pub mod finder;
+pub mod meaning;
+pub mod random;
+pub mod random_damage;
+pub mod random_list;
+pub mod random_sheet;
+pub mod search;
+pub mod shadows;
+pub mod sheet;
+
+#[cfg(test)]
+mod cases;
+#[cfg(test)]
+mod counts;

@@ -1,0 +1,188 @@
+//! The Rattle library through its C boundary (crate `boundary`): the exported functions, and safe
+//! calls of them whose answers have the form of the reference's. A slice passes as pointer and length.
+//! The first field of an answer is a refusal's number, 0 where nothing is refused.
+
+#![allow(dead_code)]
+
+use reference::clauses::Size;
+use reference::search::{Answer, End};
+
+/// The answer behind a refusal's number.
+fn unless<T>(refusal: u32, answer: T) -> Result<T, u32> {
+    if refusal == 0 {
+        Ok(answer)
+    } else {
+        Err(refusal)
+    }
+}
+
+#[cfg(on = "read")]
+pub fn read(sheet: &[u8]) -> Result<(), u32> {
+    extern "C" {
+        fn fawnloom_read(sheet: *const u8, length: usize) -> u32;
+    }
+    unless(unsafe { fawnloom_read(sheet.as_ptr(), sheet.len()) }, ())
+}
+
+#[repr(C)]
+struct CheckAnswer {
+    refusal: u32,
+    satisfies: u32,
+}
+
+#[cfg(on = "check")]
+pub fn check(sheet: &[u8], instance: &[u8]) -> Result<bool, u32> {
+    extern "C" {
+        fn fawnloom_check(sheet: *const u8, length: usize, instance: *const u8, cells: usize) -> CheckAnswer;
+    }
+    let answer = unsafe { fawnloom_check(sheet.as_ptr(), sheet.len(), instance.as_ptr(), instance.len()) };
+    unless(answer.refusal, answer.satisfies == 1)
+}
+
+#[repr(C)]
+struct CountAnswer {
+    refusal: u32,
+    variables: u32,
+    clauses: u32,
+    words: u32,
+}
+
+impl CountAnswer {
+    fn size(self) -> Result<Size, u32> {
+        unless(self.refusal, Size { variables: self.variables, clauses: self.clauses, words: self.words })
+    }
+}
+
+#[cfg(on = "count")]
+pub fn count(sheet: &[u8]) -> Result<Size, u32> {
+    extern "C" {
+        fn fawnloom_count(sheet: *const u8, length: usize) -> CountAnswer;
+    }
+    unsafe { fawnloom_count(sheet.as_ptr(), sheet.len()) }.size()
+}
+
+#[cfg(on = "count")]
+pub fn write(sheet: &[u8], list: &mut [i32]) -> Result<Size, u32> {
+    extern "C" {
+        fn fawnloom_write(sheet: *const u8, length: usize, list: *mut i32, words: usize) -> CountAnswer;
+    }
+    unsafe { fawnloom_write(sheet.as_ptr(), sheet.len(), list.as_mut_ptr(), list.len()) }.size()
+}
+
+/// The end is 1 found, 2 none, 3 spent; 0 under a refusal.
+#[repr(C)]
+struct SearchAnswer {
+    refusal: u32,
+    end: u32,
+    steps: u64,
+}
+
+impl SearchAnswer {
+    fn answer(self) -> Result<Answer, u32> {
+        let end = match self.end {
+            1 => End::Found,
+            2 => End::None,
+            3 => End::Spent,
+            end if self.refusal == 0 => panic!("no end: {end}"),
+            _ => return Err(self.refusal),
+        };
+        unless(self.refusal, Answer { end, steps: self.steps })
+    }
+}
+
+#[cfg(on = "search")]
+pub fn search(list: &[i32], v: u32, values: &mut [u8], trail: &mut [i32], budget: u64) -> Result<Answer, u32> {
+    extern "C" {
+        fn fawnloom_search(
+            list: *const i32,
+            words: usize,
+            v: u32,
+            values: *mut u8,
+            values_length: usize,
+            trail: *mut i32,
+            trail_length: usize,
+            budget: u64,
+        ) -> SearchAnswer;
+    }
+    let (list, words) = (list.as_ptr(), list.len());
+    let (values, values_length) = (values.as_mut_ptr(), values.len());
+    let (trail, trail_length) = (trail.as_mut_ptr(), trail.len());
+    unsafe { fawnloom_search(list, words, v, values, values_length, trail, trail_length, budget) }.answer()
+}
+
+#[repr(C)]
+struct TextAnswer {
+    refusal: u32,
+    bytes: u64,
+}
+
+#[cfg(on = "dimacs")]
+pub fn text_size(list: &[i32], v: u32) -> Result<u64, u32> {
+    extern "C" {
+        fn fawnloom_text_size(list: *const i32, words: usize, v: u32) -> TextAnswer;
+    }
+    let answer = unsafe { fawnloom_text_size(list.as_ptr(), list.len(), v) };
+    unless(answer.refusal, answer.bytes)
+}
+
+#[cfg(on = "dimacs")]
+pub fn text(list: &[i32], v: u32, text: &mut [u8]) -> Result<u64, u32> {
+    extern "C" {
+        fn fawnloom_text(list: *const i32, words: usize, v: u32, text: *mut u8, length: usize) -> TextAnswer;
+    }
+    let answer = unsafe { fawnloom_text(list.as_ptr(), list.len(), v, text.as_mut_ptr(), text.len()) };
+    unless(answer.refusal, answer.bytes)
+}
+
+#[cfg(on = "solve")]
+pub fn read_back(sheet: &[u8], values: &[u8], instance: &mut [u8]) -> Result<(), u32> {
+    extern "C" {
+        fn fawnloom_read_back(
+            sheet: *const u8,
+            length: usize,
+            values: *const u8,
+            values_length: usize,
+            instance: *mut u8,
+            cells: usize,
+        ) -> u32;
+    }
+    let (sheet, length) = (sheet.as_ptr(), sheet.len());
+    let (values, values_length) = (values.as_ptr(), values.len());
+    let (instance, cells) = (instance.as_mut_ptr(), instance.len());
+    unless(unsafe { fawnloom_read_back(sheet, length, values, values_length, instance, cells) }, ())
+}
+
+#[cfg(on = "solve")]
+pub fn find(
+    sheet: &[u8],
+    list: &mut [i32],
+    values: &mut [u8],
+    trail: &mut [i32],
+    instance: &mut [u8],
+    budget: u64,
+) -> Result<Answer, u32> {
+    extern "C" {
+        fn fawnloom_find(
+            sheet: *const u8,
+            length: usize,
+            list: *mut i32,
+            words: usize,
+            values: *mut u8,
+            values_length: usize,
+            trail: *mut i32,
+            trail_length: usize,
+            instance: *mut u8,
+            cells: usize,
+            budget: u64,
+        ) -> SearchAnswer;
+    }
+    let (sheet, length) = (sheet.as_ptr(), sheet.len());
+    let (list, words) = (list.as_mut_ptr(), list.len());
+    let (values, values_length) = (values.as_mut_ptr(), values.len());
+    let (trail, trail_length) = (trail.as_mut_ptr(), trail.len());
+    let (instance, cells) = (instance.as_mut_ptr(), instance.len());
+    let found = unsafe {
+        fawnloom_find(sheet, length, list, words, values, values_length, trail, trail_length, instance, cells, budget)
+    };
+    found.answer()
+}

@@ -1,0 +1,159 @@
+//! The search by its step rules, as they are written (document 01, "Search", numbers 12 and 13).
+
+use crate::clauses::VARIABLES;
+use crate::sheet::{LIST, SHORT};
+
+/// The bytes of the values.
+const FALSE: u8 = 0;
+const TRUE: u8 = 1;
+const OPEN: u8 = 2;
+const CHOSEN: u8 = 3;
+
+#[derive(Clone, Copy, Debug, PartialEq, Eq)]
+pub enum End {
+    Found,
+    None,
+    Spent,
+}
+
+#[derive(Clone, Copy, Debug, PartialEq, Eq)]
+pub struct Answer {
+    pub end: End,
+    pub steps: u64,
+}
+
+/// The clauses of a list in words, or number 12.
+pub fn cut(list: &[i32], v: u32) -> Result<Vec<Vec<i32>>, u32> {
+    if v < 1 || v as usize > VARIABLES || list.len() > i32::MAX as usize {
+        return Err(LIST);
+    }
+    let mut clauses = Vec::new();
+    let mut rest = list;
+    while let Some((&count, words)) = rest.split_first() {
+        if count < 1 || count as usize > words.len() {
+            return Err(LIST);
+        }
+        let (clause, after) = words.split_at(count as usize);
+        if clause.iter().any(|&literal| literal == 0 || literal.unsigned_abs() > v) {
+            return Err(LIST);
+        }
+        clauses.push(clause.to_vec());
+        rest = after;
+    }
+    Ok(clauses)
+}
+
+/// The values of the variables and the literals in the order set.
+struct State {
+    values: Vec<u8>,
+    trail: Vec<i32>,
+}
+
+impl State {
+    fn value(&self, literal: i32) -> u8 {
+        self.values[literal.unsigned_abs() as usize - 1]
+    }
+
+    fn is_open(&self, literal: i32) -> bool {
+        self.value(literal) == OPEN
+    }
+
+    fn is_true(&self, literal: i32) -> bool {
+        match self.value(literal) {
+            TRUE => literal > 0,
+            FALSE | CHOSEN => literal < 0,
+            _ => false,
+        }
+    }
+
+    fn is_false(&self, literal: i32) -> bool {
+        !self.is_open(literal) && !self.is_true(literal)
+    }
+
+    fn set(&mut self, literal: i32, value: u8) {
+        self.values[literal.unsigned_abs() as usize - 1] = value;
+        self.trail.push(literal);
+    }
+
+    /// Opens all back to the latest choice, which becomes true; false where there is no choice.
+    fn turn(&mut self) -> bool {
+        while let Some(literal) = self.trail.pop() {
+            let chosen = self.value(literal) == CHOSEN;
+            self.values[literal.unsigned_abs() as usize - 1] = OPEN;
+            if chosen {
+                self.set(-literal, TRUE);
+                return true;
+            }
+        }
+        false
+    }
+
+    /// The literal that the first clause with no true literal and one and the same open literal forces.
+    fn forced(&self, clauses: &[Vec<i32>]) -> Option<i32> {
+        for clause in clauses {
+            if clause.iter().any(|&literal| self.is_true(literal)) {
+                continue;
+            }
+            let open: Vec<i32> = clause.iter().copied().filter(|&literal| self.is_open(literal)).collect();
+            if !open.is_empty() && open.iter().all(|&literal| literal == open[0]) {
+                return Some(open[0]);
+            }
+        }
+        None
+    }
+
+    fn lowest_open(&self) -> Option<i32> {
+        self.values.iter().position(|&value| value == OPEN).map(|at| at as i32 + 1)
+    }
+
+    /// The end that the state is at, if it is at one.
+    fn end(&self, clauses: &[Vec<i32>]) -> Option<End> {
+        let clash = clauses.iter().any(|clause| clause.iter().all(|&literal| self.is_false(literal)));
+        if clash {
+            return (!self.values.contains(&CHOSEN)).then_some(End::None);
+        }
+        (!self.values.contains(&OPEN)).then_some(End::Found)
+    }
+
+    /// One step from a state that is at no end.
+    fn step(&mut self, clauses: &[Vec<i32>]) {
+        let clash = clauses.iter().any(|clause| clause.iter().all(|&literal| self.is_false(literal)));
+        if clash {
+            assert!(self.turn(), "a choice is left");
+        } else if let Some(literal) = self.forced(clauses) {
+            self.set(literal, if literal > 0 { TRUE } else { FALSE });
+        } else {
+            let variable = self.lowest_open().expect("an open variable");
+            self.set(-variable, CHOSEN);
+        }
+    }
+}
+
+/// The search from all open: numbers 12 and 13, else the end and the steps done.
+/// Only the first v values and trail words are touched.
+pub fn search(list: &[i32], v: u32, values: &mut [u8], trail: &mut [i32], budget: u64) -> Result<Answer, u32> {
+    let clauses = cut(list, v)?;
+    let v = v as usize;
+    if values.len() < v || trail.len() < v {
+        return Err(SHORT);
+    }
+    let mut state = State { values: vec![OPEN; v], trail: Vec::new() };
+    let mut steps = 0;
+    let end = loop {
+        match state.end(&clauses) {
+            Some(end) => break end,
+            None if steps == budget => break End::Spent,
+            None => state.step(&clauses),
+        }
+        steps += 1;
+    };
+    match end {
+        End::Found => state.values.iter_mut().filter(|value| **value == CHOSEN).for_each(|value| *value = FALSE),
+        End::None => state = State { values: vec![OPEN; v], trail: Vec::new() },
+        End::Spent => {}
+    }
+    state.trail.resize(v, 0);
+    values[..v].copy_from_slice(&state.values);
+    trail[..v].copy_from_slice(&state.trail);
+    Ok(Answer { end, steps })
+}

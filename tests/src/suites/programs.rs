@@ -1,0 +1,110 @@
+//! The programs `finder` and `cnf`, run whole: line for line against the reference, the verdict against
+//! minisat and cadical on the clause text that `cnf` prints, and against brute force where there are few cells.
+
+use super::{agree, covered, hex};
+use crate::solver::solve;
+use crate::{Outcome, Run};
+use reference::brute::instances;
+use reference::clauses::translate;
+use reference::dimacs::text;
+use reference::finder::{finder, BYTES};
+use reference::random::Source;
+use reference::random_damage::any;
+use reference::random_sheet::{gates_of, pigeonhole, sheet, style};
+use reference::search::{search, End};
+use reference::sheet::read;
+use std::io::Write;
+use std::process::{Command, Stdio};
+
+/// Searches of more steps than this are not waited for.
+const BUDGET: u64 = 3_000;
+
+pub fn run(run: &Run) -> Outcome {
+    let mut tally = [("found", 0), ("none", 0), ("refused", 0), ("brute force", 0), ("a solver", 0)];
+    for case in run.cases(150) {
+        let source = &mut Source::new(run.seed, "programs", case);
+        let bytes = some_input(source);
+        if is_long(&bytes) {
+            continue;
+        }
+        let asked = || format!("case {case}, sheet {}", hex(&bytes));
+        let printed = program("finder", &bytes)?;
+        agree(&printed, &finder(&bytes), || format!("finder, {}", asked()))?;
+        let cnf = program("cnf", &bytes)?;
+        agree(&cnf, &clause_text(&bytes), || format!("cnf, {}", asked()))?;
+        let head = printed.split(' ').next().unwrap_or("");
+        match head {
+            "found" => tally[0].1 += 1,
+            "none" => tally[1].1 += 1,
+            _ => tally[2].1 += 1,
+        }
+        if head != "found" && head != "none" {
+            continue;
+        }
+        let sheet = read(&bytes).expect("an accepted sheet");
+        if sheet.cells() <= 9 {
+            agree(head == "found", !instances(&sheet).is_empty(), || format!("brute force, {}", asked()))?;
+            tally[3].1 += 1;
+        }
+        let solver = ["minisat", "cadical"][case as usize % 2];
+        let v = translate(&sheet).expect("a list").variables;
+        let verdict = solve(solver, cnf.as_bytes(), v)?;
+        agree(head == "found", verdict.is_satisfiable(), || format!("{solver}, {}", asked()))?;
+        tally[4].1 += 1;
+    }
+    if run.long && run.seed == 1 {
+        // some 2^10 times the search of five in four: the budget of 1,000,000 is spent
+        let bytes = pigeonhole(2, 5, 4).bytes();
+        agree(program("finder", &bytes)?.as_str(), "spent 1000000\n", || hex(&bytes))?;
+    }
+    covered(&tally, 8)?;
+    let [(_, found), (_, none), (_, refused), (_, brute), (_, solved)] = tally;
+    let all = found + none + refused;
+    Ok(format!("{all} inputs agree: {found} found, {none} none, {refused} refused; {brute} by brute force, {solved} by solvers"))
+}
+
+fn some_input(source: &mut Source) -> Vec<u8> {
+    let style = style(source);
+    match source.below(16) {
+        0..=1 => any(source),
+        2 => [sheet(source, style).bytes(), vec![0; 4_200]].concat()[..BYTES + source.below(3)].to_vec(),
+        3 => pigeonhole(0, source.between(2, 6) as u8, source.between(2, 5) as u8).bytes(),
+        4 => gates_of(source.pick(&[5_000, 15_995, 15_996, 15_997, 15_998, 15_999, 16_000])).bytes(),
+        _ => sheet(source, style).bytes(),
+    }
+}
+
+/// Whether the search takes more steps than are waited for.
+fn is_long(bytes: &[u8]) -> bool {
+    let Ok(clauses) = read(bytes).and_then(|sheet| translate(&sheet)) else { return false };
+    let list = clauses.words();
+    if list.len() > reference::finder::WORDS {
+        return false;
+    }
+    let v = clauses.variables as usize;
+    let budget = BUDGET.min(4_000_000 / list.len() as u64);
+    let answer = search(&list, v as u32, &mut vec![0; v], &mut vec![0; v], budget);
+    answer.is_ok_and(|answer| answer.end == End::Spent)
+}
+
+/// What `cnf` prints: the clause text, or the refusal in the finder's form.
+fn clause_text(bytes: &[u8]) -> String {
+    let clauses = read(bytes).and_then(|sheet| translate(&sheet));
+    match clauses.and_then(|clauses| text(&clauses.words(), clauses.variables)) {
+        Ok(text) => text,
+        Err(number) => format!("refused {number}\n"),
+    }
+}
+
+/// Runs a program of the library on an input.
+fn program(name: &str, input: &[u8]) -> Result<String, String> {
+    let mut command = Command::new(format!("target/bin/{name}"));
+    let mut child =
+        command.stdin(Stdio::piped()).stdout(Stdio::piped()).spawn().map_err(|error| format!("{name}: {error}"))?;
+    let mut stdin = child.stdin.take().expect("a pipe");
+    // a program may stop reading where the input is too long
+    let _ = stdin.write_all(input);
+    drop(stdin);
+    let output = child.wait_with_output().map_err(|error| error.to_string())?;
+    String::from_utf8(output.stdout).map_err(|error| error.to_string())
+}

@@ -1,0 +1,108 @@
+//! The search: answer, steps, values and trail for random lists and lists of sheets, good and damaged,
+//! with budgets of none, one, few and many; verdicts against minisat.
+
+use super::{agree, covered, shown};
+use crate::solver::solve;
+use crate::{library, Outcome, Run};
+use reference::clauses::translate;
+use reference::dimacs::text;
+use reference::random::Source;
+use reference::random_list::{budget, damage, list};
+use reference::random_sheet::{gates_of, pigeonhole, sheet, style};
+use reference::search::{search, End};
+use reference::sheet::read;
+
+const ENDS: [&str; 5] = ["found", "none", "spent", "number 12", "number 13"];
+
+/// A case: a list, its variables, the lengths of values and trail, a budget.
+struct Case {
+    list: Vec<i32>,
+    v: u32,
+    values: usize,
+    trail: usize,
+    budget: u64,
+}
+
+pub fn run(run: &Run) -> Outcome {
+    let mut tally = ENDS.map(|end| (end, 0));
+    let (mut solved, mut steps) = (0, 0);
+    for number in run.cases(4_000) {
+        let source = &mut Source::new(run.seed, "search", number);
+        let case = some_case(source, number);
+        let (end, done) = compare(&case, number)?;
+        tally[end].1 += 1;
+        steps += done;
+        if end <= 1 && number % 50 == 0 {
+            let text = text(&case.list, case.v).expect("a good list");
+            let verdict = solve("minisat", text.as_bytes(), case.v)?;
+            agree(end == 0, verdict.is_satisfiable(), || format!("case {number}, minisat on {}", shown(&case.list)))?;
+            solved += 1;
+        }
+    }
+    covered(&tally, 100)?;
+    let all: usize = tally.iter().map(|(_, times)| times).sum();
+    let times: Vec<String> = tally.iter().map(|(end, times)| format!("{times} {end}")).collect();
+    Ok(format!("{all} runs of {steps} steps agree: {}; {solved} verdicts of minisat too", times.join(", ")))
+}
+
+fn some_case(source: &mut Source, number: u64) -> Case {
+    let (mut list, mut v) = match source.below(8) {
+        0 if number % 400 == 0 => of_sheet(&gates_of(15_000)),
+        0..=1 => {
+            let style = style(source);
+            of_sheet(&sheet(source, style))
+        }
+        2 if number % 8 == 0 => {
+            let n = source.between(2, 5) as u8;
+            of_sheet(&pigeonhole(source.below(2) as u8, n, n - source.below(2) as u8))
+        }
+        _ => list(source),
+    };
+    let mut budget = budget(source);
+    if list.len() > 400 {
+        budget = budget.min(400_000 / list.len() as u64);
+    }
+    if source.chance(1, 4) {
+        damage(source, &mut list, &mut v);
+    }
+    // slices for a v that is refused need not be that long
+    let exact = v.min(16_001) as usize;
+    let mut length = || match source.below(16) {
+        0 => exact.saturating_sub(1),
+        1 => source.below(exact + 1),
+        2..=7 => exact,
+        _ => exact + source.below(5),
+    };
+    let (values, trail) = (length(), length());
+    if exact > 400 {
+        budget = budget.min(40);
+    }
+    Case { list, v, values, trail, budget }
+}
+
+/// The list of a sheet; an empty one where it has none.
+fn of_sheet(sheet: &reference::sheet::Sheet) -> (Vec<i32>, u32) {
+    match read(&sheet.bytes()).and_then(|sheet| translate(&sheet)) {
+        Ok(clauses) => (clauses.words(), clauses.variables),
+        Err(_) => (Vec::new(), 3),
+    }
+}
+
+/// Both searches over slices with a known filling; the place of the end in the tally, and the steps.
+fn compare(case: &Case, number: u64) -> Result<(usize, u64), String> {
+    let (mut values, mut trail) = (vec![7; case.values], vec![-7; case.trail]);
+    let (mut got_values, mut got_trail) = (values.clone(), trail.clone());
+    let want = search(&case.list, case.v, &mut values, &mut trail, case.budget);
+    let got = library::search(&case.list, case.v, &mut got_values, &mut got_trail, case.budget);
+    let asked = || format!("case {number}, v {}, budget {}, list {}", case.v, case.budget, shown(&case.list));
+    agree(got, want, asked)?;
+    agree(got_values, values, asked)?;
+    agree(got_trail, trail, asked)?;
+    Ok(match want {
+        Ok(answer) if answer.end == End::Found => (0, answer.steps),
+        Ok(answer) if answer.end == End::None => (1, answer.steps),
+        Ok(answer) => (2, answer.steps),
+        Err(12) => (3, 0),
+        Err(_) => (4, 0),
+    })
+}

@@ -1,0 +1,106 @@
+//! Read-back and the whole run over lent slices, each slice compared to its end.
+
+use super::{agree, covered, hex};
+use crate::{library, Outcome, Run};
+use reference::clauses::count;
+use reference::finder::{find, read_back};
+use reference::random::Source;
+use reference::random_damage::any;
+use reference::random_list::budget;
+use reference::random_sheet::{gates_of, pigeonhole, sheet, style};
+use reference::search::End;
+use reference::sheet::read;
+
+pub fn run(run: &Run) -> Outcome {
+    let mut tally = [
+        ("found", 0),
+        ("none", 0),
+        ("spent", 0),
+        ("a refused find", 0),
+        ("a read-back", 0),
+        ("a refused read-back", 0),
+    ];
+    for case in run.cases(2_000) {
+        let source = &mut Source::new(run.seed, "solve", case);
+        let style = style(source);
+        let bytes = match source.below(12) {
+            0 => any(source),
+            1 if case % 20 == 0 => gates_of(15_990 + source.below(20)).bytes(),
+            2 if case % 4 == 0 => pigeonhole(source.below(2) as u8, source.between(2, 4) as u8, 3).bytes(),
+            _ => sheet(source, style).bytes(),
+        };
+        let ended = compare_find(source, &bytes, case)?;
+        tally[ended].1 += 1;
+        let back = compare_read_back(source, &bytes, case)?;
+        tally[4 + usize::from(!back)].1 += 1;
+    }
+    covered(&tally, 50)?;
+    let times: Vec<String> = tally.iter().map(|(what, times)| format!("{times} {what}")).collect();
+    Ok(format!("whole runs and read-backs agree: {}", times.join(", ")))
+}
+
+/// A length that is mostly enough: exact, longer, one less.
+fn length(source: &mut Source, exact: usize) -> usize {
+    match source.below(12) {
+        0 => exact.saturating_sub(1),
+        1..=6 => exact,
+        _ => exact + source.below(6),
+    }
+}
+
+/// The figures of a sheet: words, variables and cells; small ones where it is refused.
+fn figures(bytes: &[u8]) -> (usize, usize, usize) {
+    match (count(bytes), read(bytes)) {
+        (Ok(size), Ok(sheet)) => (size.words as usize, size.variables as usize, sheet.cells()),
+        _ => (20, 6, 3),
+    }
+}
+
+fn compare_find(source: &mut Source, bytes: &[u8], case: u64) -> Result<usize, String> {
+    let (words, variables, cells) = figures(bytes);
+    let mut budget = budget(source);
+    if words > 300 {
+        budget = budget.min(100_000 / words as u64);
+    }
+    let mut list = vec![0x5eed; length(source, words)];
+    let (mut values, mut trail) = (vec![7; length(source, variables)], vec![-7; length(source, variables)]);
+    let mut instance = vec![9; length(source, cells)];
+    let (mut list2, mut values2, mut trail2, mut instance2) =
+        (list.clone(), values.clone(), trail.clone(), instance.clone());
+    let want = find(bytes, &mut list, &mut values, &mut trail, &mut instance, budget);
+    let got = library::find(bytes, &mut list2, &mut values2, &mut trail2, &mut instance2, budget);
+    let asked = || format!("case {case}, find with budget {budget}, sheet {}", hex(bytes));
+    agree(got, want, asked)?;
+    agree(list2, list, asked)?;
+    agree(values2, values, asked)?;
+    agree(trail2, trail, asked)?;
+    agree(instance2, instance, asked)?;
+    Ok(match want.map(|answer| answer.end) {
+        Ok(End::Found) => 0,
+        Ok(End::None) => 1,
+        Ok(End::Spent) => 2,
+        Err(_) => 3,
+    })
+}
+
+/// Read-back of random values; true where it copied.
+fn compare_read_back(source: &mut Source, bytes: &[u8], case: u64) -> Result<bool, String> {
+    let (_, variables, cells) = figures(bytes);
+    let mut values: Vec<u8> = (0..variables).map(|_| source.below(2) as u8).collect();
+    match source.below(8) {
+        0 => values.push(1),
+        1 => drop(values.pop()),
+        2 => values[source.below(variables.min(1 + cells))] = source.pick(&[2, 3, 255]),
+        3 => values.iter_mut().skip(1 + cells).for_each(|value| *value = source.byte()),
+        4 => values[0] = source.byte(),
+        _ => {}
+    }
+    let mut instance = vec![9; length(source, cells)];
+    let mut instance2 = instance.clone();
+    let want = read_back(bytes, &values, &mut instance).map(drop);
+    let got = library::read_back(bytes, &values, &mut instance2);
+    let asked = || format!("case {case}, read-back of {}, sheet {}", hex(&values), hex(bytes));
+    agree(got, want, asked)?;
+    agree(instance2, instance, asked)?;
+    Ok(want.is_ok())
+}
