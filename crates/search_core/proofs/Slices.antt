@@ -234,7 +234,8 @@ went-none v state values trail n w h = by (w .now-at) (w .stored) (w .alike)
   where
     by : (s : State) → Stored v s values trail n → turn s ≡ turn state → Turned v (turn state) 0 values trail
     by [] i e =
-        let s = record { values-are = i .values-are; trail-is = i .trail-is; length-is = refl; was-open = i .was-open } in
+        let s : Stored v [] values trail 0 =
+        record { values-are = i .values-are; trail-is = i .trail-is; length-is = refl; was-open = i .was-open } in
         rw (← e) (turn-nil v values trail s)
     by (x ∷ s) i e = absurd (let l : n ≡ suc (length s) = i .length-is in omega arith)
 

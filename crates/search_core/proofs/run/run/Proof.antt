@@ -1,5 +1,6 @@
 -- `search_core::run::run` meets its contract. Assumes nothing.
 use mathlib.Core.Path.{refl, sym, _∙_}
+use Prim.Native.Nat.{_<_}
 use native.Mathlib.Omega.{arith}
 use borrow.Author.Needs.{needs}
 use Rattle.clause_list.specs.ClauseList.{clausesOf}
@@ -15,6 +16,10 @@ abbrev μ-loop : tie.MeasureT-loop
 
 loop-holds : tie.Need-loop-holds Inv-loop μ-loop
 loop-holds c = record { figure = refl; wide = refl; deep = refl; far = λ state i. record { at = state; stored = i; alike = refl } }
+
+-- a step is left in a turn of the loop
+some-left : (c : tie.In-loop Inv-loop μ-loop) → 0 < c .before .loop .left
+some-left c = omega (arith, c .loop-test .taken)
 
 step-requires : tie.Need-step-requires Inv-loop μ-loop
 step-requires c κs =
@@ -73,7 +78,7 @@ advance-requires c κs =
     omega (arith, l .figure, t, s .pre .1 .1 .1)
 
 sub-left : tie.Need-sub-left Inv-loop μ-loop
-sub-left c = c .before .before .before .before .before .before .before .before .before .before .loop-test .taken
+sub-left c = some-left (c .before .before .before .before .before .before .before .before .before .before)
 
 loop-less : tie.Need-loop-less Inv-loop μ-loop
 loop-less c = omega (arith, c .before .before .before .before .before .before .before .before .before .before .loop-test .taken)
@@ -81,7 +86,7 @@ loop-less c = omega (arith, c .before .before .before .before .before .before .b
 loop-again : tie.Need-loop-again Inv-loop μ-loop
 loop-again c =
     let l = c .before .before .before .before .before .before .before .before .before .before .before .loop .inv in
-    let t = c .before .before .before .before .before .before .before .before .before .before .loop-test .taken in
+    let t = some-left (c .before .before .before .before .before .before .before .before .before .before) in
     let a = c .advance .ensures in
     record {
       figure = figure-on _ _ _ _ _ _ a t (l .figure);
@@ -133,10 +138,10 @@ returns-3 c state i =
     let l = c .before .before .before .before .before .before .before .before .before .before .before .before .loop .inv in
     let f = l .far state i in
     let e = (rw (l .wide) at (c .before .before .before .before .before .before .before .before .before .ends .ensures)) (f .at)
-        (f .stored .was-open) (f .stored .values-are) in
+    (f .stored .was-open) (f .stored .values-are) in
     let b = (rw (l .wide) at (c .before .before .before .before .back .ensures)) (f .at) (f .stored) in
     far-emptied _ _ _ _ _ _ _ _ _ f _ _ _ _ _ refl (sym (c .before .before .before .before .before .before .before .enum-told3 .given .1) ∙ e)
-        (c .emptied2 .ensures .0) (c .emptied2 .ensures .1) b
+    (c .emptied2 .ensures .0) (c .emptied2 .ensures .1) b
 
 same-length-7 : tie.Need-same-length-7 Inv-loop μ-loop
 same-length-7 c = c .before .before .before .before .before .loop .inv .wide
