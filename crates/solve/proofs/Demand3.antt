@@ -16,7 +16,7 @@ use Rattle.search.proofs.Outcomes.{runs}
 use Rattle.search.proofs.Theorems.{none-unsatisfiable, found-satisfies, spent-exactly}
 use Rattle.solve.specs.Finding.{Slices}
 use Rattle.solve.specs.Demand3 as d
-use Rattle.solve.specs.Demand3.{FitsLimits, FitSlices, ReadsBack, ReadsSolution, ReadBackOnce, Answered, Demand3}
+use Rattle.solve.specs.Demand3.{FitsLimits, FitSlices, ReadsBack, ReadsSolution, ReadBackOnce, Answered, Demanded, Demand3}
 use Rattle.solve.proofs.Calls.{counts, writes, writes-words, reads-back, same-instance}
 
 -- the end of a run is no refusal
@@ -81,8 +81,8 @@ module _ (s : List ℕ) (lent : Slices) (h : FitsLimits s) (k : FitSlices s lent
         spent-exactly = spent-exactly written v (lent .values) (lent .trail) n is-list (k .values) (k .trail);
       }
 
-  pub demand3 : Demand3 s lent
-  demand3 =
+  demanded : Demanded s lent
+  demanded =
       record {
         v = v;
         c = clauseTotal (sheetOf s);
@@ -94,3 +94,6 @@ module _ (s : List ℕ) (lent : Slices) (h : FitsLimits s) (k : FitSlices s lent
         reads = reads;
         answers = answered;
       }
+
+pub demand3 : Demand3
+demand3 = demanded

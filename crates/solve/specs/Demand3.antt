@@ -86,7 +86,8 @@ module _ (s : List ℕ) (lent : Slices) (v w : ℕ) where
     -- "spent" exactly when the step rules have not ended within n steps from the call's start, all open
     pub spent-exactly : ((steps : ℕ) × (searched n .answer ≡ spent steps)) ↔ (EndedWithin (clausesOf written) v n [] → ⊥)
 
-pub record Demand3 (s : List ℕ) (lent : Slices) : Type 0 where
+-- what is demanded of a sheet and of the slices that are lent
+pub record Demanded (s : List ℕ) (lent : Slices) : Type 0 where
   -- what counting answers, and writing too
   pub v : ℕ
   pub c : ℕ
@@ -100,3 +101,7 @@ pub record Demand3 (s : List ℕ) (lent : Slices) : Type 0 where
   pub reads : (a : List ℕ) → Assignment s lent v w a → ReadsSolution s a (lent .instance)
   -- (c) for every number of steps, what the search answers
   pub answers : (n : ℕ) → Answered s lent v w n
+
+-- for every accepted sheet whose clauses fit the limits, and all lent slices that fit
+abbrev pub Demand3 : Type 0
+Demand3 = (s : List ℕ) (lent : Slices) → FitsLimits s → FitSlices s lent → Demanded s lent
