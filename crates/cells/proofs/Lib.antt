@@ -1,0 +1,2 @@
+mod Layouts
+pub mod Blocks

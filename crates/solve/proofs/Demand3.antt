@@ -1,0 +1,99 @@
+-- Demand 3 holds of every sheet that fits the limits, in all slices that fit.
+use mathlib.Core.Path.{_≡_, sym, ap, _∙_, subst}
+use mathlib.Core.Bool.{Bool, true}
+use mathlib.Core.List.{List}
+use Prim.Native.Nat.{ℕ}
+use native.Mathlib.Omega.{arith}
+use lib.IntN.{ℤ}
+use Rattle.clause_list.specs.ClauseList.{clausesOf, isList, Satisfying}
+use Rattle.sheet.specs.Blocks.{sheetOf}
+use Rattle.clauses.specs.Whole.{words, variableTotal, clauseTotal, wordTotal, readBack}
+use Rattle.clauses.specs.Matching.{Solution}
+use Rattle.clauses.proofs.Theorems.{match, none, listed}
+use Rattle.search_rules.specs.Run.{End, wasNone, wasFound, wasSpent}
+use Rattle.search.specs.Answers.{refused, answerAt, searchRun}
+use Rattle.search.proofs.Outcomes.{runs}
+use Rattle.search.proofs.Theorems.{none-unsatisfiable, found-satisfies, spent-exactly}
+use Rattle.solve.specs.Finding.{Slices}
+use Rattle.solve.specs.Demand3 as d
+use Rattle.solve.specs.Demand3.{FitsLimits, FitSlices, ReadsBack, ReadsSolution, ReadBackOnce, Answered, Demanded, Demand3}
+use Rattle.solve.proofs.Calls.{counts, writes, writes-words, reads-back, same-instance}
+
+-- the end of a run is no refusal
+no-refusal : (end : End) (number : ℕ) → answerAt end ≡ refused number → ⊥
+unfolding answerAt
+no-refusal (wasNone t) number e = let z : _≡_ {A = ℕ} 0 1 = cc in omega arith
+no-refusal (wasFound t state) number e = let z : _≡_ {A = ℕ} 0 1 = cc in omega arith
+no-refusal (wasSpent t state) number e = let z : _≡_ {A = ℕ} 0 1 = cc in omega arith
+
+module _ (s : List ℕ) (lent : Slices) (h : FitsLimits s) (k : FitSlices s lent) where
+  abbrev v : ℕ
+  v = variableTotal (sheetOf s)
+
+  abbrev w : ℕ
+  w = wordTotal (sheetOf s)
+
+  abbrev written : List ℤ
+  written = d.written s lent v w
+
+  whole : written ≡ words (sheetOf s)
+  whole = writes-words s h (lent .list) (k .list)
+
+  -- an assignment satisfies the clauses as they are written exactly when it satisfies those of the sheet
+  of-sheet : {a : List ℕ} → Satisfying v (clausesOf written) a → Satisfying v (clausesOf (words (sheetOf s))) a
+  of-sheet {a} p = subst (λ (l : List ℤ). Satisfying v (clausesOf l) a) whole p
+
+  as-written : {a : List ℕ} → Satisfying v (clausesOf (words (sheetOf s))) a → Satisfying v (clausesOf written) a
+  as-written {a} p = subst (λ (l : List ℤ). Satisfying v (clausesOf l) a) (sym whole) p
+
+  solves : (a : List ℕ) → Satisfying v (clausesOf written) a → Solution (sheetOf s) (readBack (sheetOf s) a)
+  solves a p = match s (h .layout) (h .accepted) .reads a (of-sheet p)
+
+  -- read-back of an assignment
+  back : (a : List ℕ) → Satisfying v (clausesOf written) a → ReadsBack s a (lent .instance) (readBack (sheetOf s) a)
+  back a p = reads-back s h a (lent .instance) (p .size) (solves a p .within) (k .instance)
+
+  reads : (a : List ℕ) → Satisfying v (clausesOf written) a → ReadsSolution s a (lent .instance)
+  reads a p = record { instance = readBack (sheetOf s) a; reads = back a p; solves = solves a p }
+
+  once : (instance : List ℕ) → Solution (sheetOf s) instance → ReadBackOnce s lent v w instance
+  once instance p =
+      let o = match s (h .layout) (h .accepted) .once instance p in
+      let q = as-written (o .satisfying) in
+      record {
+        assignment = o .assignment;
+        satisfying = q;
+        reads = subst (λ (i : List ℕ). ReadsBack s (o .assignment) (lent .instance) i) (o .reads) (back (o .assignment) q);
+        only = λ a r f. o .only a (of-sheet r) (same-instance s a (lent .instance) _ _ (back a r) f);
+      }
+
+  is-list : isList v written ≡ true
+  is-list = ap (isList v) whole ∙ listed s (h .layout) (h .accepted) (h .few-variables) (h .few-words)
+
+  pub answered : (n : ℕ) → Answered s lent v w n
+  answered n =
+      record {
+        taken = λ number e. no-refusal (searchRun written v n) number
+            (sym (ap (λ o. o .answer) (runs written v (lent .values) (lent .trail) n is-list (k .values) (k .trail))) ∙ e);
+        none-only = λ steps e. none s (h .layout) (h .accepted) .0
+            λ a p. none-unsatisfiable written v (lent .values) (lent .trail) n steps e a (as-written p);
+        found-only = λ steps e. reads _ (found-satisfies written v (lent .values) (lent .trail) n steps e);
+        spent-exactly = spent-exactly written v (lent .values) (lent .trail) n is-list (k .values) (k .trail);
+      }
+
+  demanded : Demanded s lent
+  demanded =
+      record {
+        v = v;
+        c = clauseTotal (sheetOf s);
+        w = w;
+        counted = counts s h;
+        wrote = writes s h (lent .list) (k .list);
+        whole = whole;
+        once = once;
+        reads = reads;
+        answers = answered;
+      }
+
+pub demand3 : Demand3
+demand3 = demanded

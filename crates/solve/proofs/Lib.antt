@@ -1,0 +1,6 @@
+pub mod Calls
+pub mod Demand3
+pub mod Findings
+pub mod Finds
+pub mod Table
+pub mod Cases

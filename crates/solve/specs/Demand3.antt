@@ -1,0 +1,107 @@
+-- Demand 3, undivided: what the answers of counting, writing, search and read-back of a sheet say of its instances
+-- (document 01, "The words of demand 3"). proofs/Demand3.antt shows it for every sheet that fits the limits, in slices that fit.
+--
+-- The statement speaks of definitions. The contract that ties each one to the code, for every input and with no `requires`:
+--   `reading`                          `sheet::read`: its answer equals it
+--   `countAnswer`                      `clauses::count`: its answer equals it
+--   `writeAnswer`, `listAfter`         `clauses::write`: its answer, and the lent list afterwards, equal them
+--   `outcome`                          `search::search`: its answer, and the lent values and trail afterwards, equal its fields
+--   `readBackAnswer`, `instanceAfter`  `solve::read_back`: its answer, and the lent instance afterwards, equal them
+-- `Solution` (an instance within the scopes that satisfies marks and formula), `Satisfying` and `EndedWithin` are no code's answer:
+-- they are the paper's words, in clauses/specs/Matching, clause_list/specs/ClauseList and search_rules/specs/Run.
+use mathlib.Core.Path.{_≡_}
+use mathlib.Core.Logic.{_↔_}
+use mathlib.Core.List.{List, [], _++_}
+use Prim.Native.Nat.{ℕ, _≤_}
+use lib.IntN.{ℤ}
+use lib.ListN.{length, take, drop}
+use Rattle.clause_list.specs.ClauseList.{clausesOf, Satisfying}
+use Rattle.sheet.specs.declared.Layout.{Layout}
+use Rattle.sheet.specs.declared.Reading.the-variants.{Accepted}
+use Rattle.sheet.specs.Blocks.{sheetOf}
+use Rattle.sheet.specs.Reading.{reading}
+use Rattle.relational.specs.Cells.{cellCount}
+use Rattle.clauses.specs.Whole.{words, variableTotal, wordTotal}
+use Rattle.clauses.specs.Matching.{Solution}
+use Rattle.clauses.specs.Answers.{fits, countAnswer, writeAnswer, listAfter}
+use Rattle.search_rules.specs.Run.{EndedWithin}
+use Rattle.search.specs.Answers.{Outcome, found, none, spent, refused, outcome}
+use Rattle.solve.specs.Answers.{copied, readBackAnswer, instanceAfter}
+use Rattle.solve.specs.Finding.{Slices}
+
+-- "A sheet is accepted when none of 1 to 9 below applies to it. Its clauses fit the limits when neither 10 nor the word limit in 12 applies"
+pub record FitsLimits (s : List ℕ) : Type 0 where
+  pub layout : Layout
+  pub accepted : reading s ≡ Accepted layout
+  pub few-variables : variableTotal (sheetOf s) ≤ 16000
+  pub few-words : wordTotal (sheetOf s) ≤ 2147483647
+
+-- "and the lent slices when writing, search and read-back don't meet 13"
+pub record FitSlices (s : List ℕ) (lent : Slices) : Type 0 where
+  pub list : wordTotal (sheetOf s) ≤ length (lent .list)
+  pub values : variableTotal (sheetOf s) ≤ length (lent .values)
+  pub trail : variableTotal (sheetOf s) ≤ length (lent .trail)
+  pub instance : cellCount (sheetOf s) ≤ length (lent .instance)
+
+-- read-back of the sheet with these values answers this instance: it copies it to the front of the slice that is lent
+pub record ReadsBack (s values lent instance : List ℕ) : Type 0 where
+  pub answer : readBackAnswer s values lent ≡ copied (length instance)
+  pub copies : instanceAfter s values lent ≡ instance ++ drop (length instance) lent
+
+-- with these values read-back answers an instance within the scopes that satisfies marks and formula
+pub record ReadsSolution (s values lent : List ℕ) : Type 0 where
+  pub instance : List ℕ
+  pub reads : ReadsBack s values lent instance
+  pub solves : Solution (sheetOf s) instance
+
+-- the calls on a sheet of which counting answers v variables and w words
+module _ (s : List ℕ) (lent : Slices) (v w : ℕ) where
+  -- "The clauses are the whole list that the clause rules give, as written": the first w words that writing leaves
+  abbrev pub written : List ℤ
+  written = take w (listAfter s (lent .list))
+
+  -- "An assignment gives each of the v variables 0 or 1, in variable order; it is satisfying when every clause holds a true literal."
+  abbrev pub Assignment : List ℕ → Type 0
+  Assignment a = Satisfying v (clausesOf written) a
+
+  -- the instance is read back from exactly one satisfying assignment
+  pub record ReadBackOnce (instance : List ℕ) : Type 0 where
+    pub assignment : List ℕ
+    pub satisfying : Assignment assignment
+    pub reads : ReadsBack s assignment (lent .instance) instance
+    pub only : (a : List ℕ) → Assignment a → ReadsBack s a (lent .instance) instance → a ≡ assignment
+
+  -- "which the search gets unchanged and with the v that counting answers"
+  abbrev pub searched : ℕ → Outcome
+  searched n = outcome written v (lent .values) (lent .trail) n
+
+  -- what the search's answer within n steps says
+  pub record Answered (n : ℕ) : Type 0 where
+    -- it is no refusal
+    pub taken : (number : ℕ) → searched n .answer ≡ refused number → ⊥
+    -- "none" only if no such instance exists
+    pub none-only : (steps : ℕ) → searched n .answer ≡ none steps → (instance : List ℕ) → Solution (sheetOf s) instance → ⊥
+    -- "found" only with values that read back to one
+    pub found-only : (steps : ℕ) → searched n .answer ≡ found steps → ReadsSolution s (take v (searched n .values)) (lent .instance)
+    -- "spent" exactly when the step rules have not ended within n steps from the call's start, all open
+    pub spent-exactly : ((steps : ℕ) × (searched n .answer ≡ spent steps)) ↔ (EndedWithin (clausesOf written) v n [] → ⊥)
+
+-- what is demanded of a sheet and of the slices that are lent
+pub record Demanded (s : List ℕ) (lent : Slices) : Type 0 where
+  -- what counting answers, and writing too
+  pub v : ℕ
+  pub c : ℕ
+  pub w : ℕ
+  pub counted : countAnswer s ≡ fits v c w
+  pub wrote : writeAnswer s (lent .list) ≡ fits v c w
+  pub whole : written s lent v w ≡ words (sheetOf s)
+  -- (a) every instance within the scopes that satisfies marks and formula is read back from exactly one satisfying assignment
+  pub once : (instance : List ℕ) → Solution (sheetOf s) instance → ReadBackOnce s lent v w instance
+  -- (b) every satisfying assignment reads back to such an instance
+  pub reads : (a : List ℕ) → Assignment s lent v w a → ReadsSolution s a (lent .instance)
+  -- (c) for every number of steps, what the search answers
+  pub answers : (n : ℕ) → Answered s lent v w n
+
+-- for every accepted sheet whose clauses fit the limits, and all lent slices that fit
+abbrev pub Demand3 : Type 0
+Demand3 = (s : List ℕ) (lent : Slices) → FitsLimits s → FitSlices s lent → Demanded s lent

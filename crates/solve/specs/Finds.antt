@@ -1,0 +1,38 @@
+-- Demand 3 of one call of `find`, in the paper's words: a part of its contract. The other part says that the answer and all lent slices
+-- equal the definition `finding`, which has the number of each refusal.
+use mathlib.Core.Path.{_≡_}
+use mathlib.Core.Logic.{_↔_}
+use mathlib.Core.List.{List, [], _++_}
+use Prim.Native.Nat.{ℕ}
+use lib.ListN.{length, drop}
+use Rattle.clause_list.specs.ClauseList.{clausesOf}
+use Rattle.sheet.specs.Blocks.{Sheet, sheetOf}
+use Rattle.clauses.specs.Whole.{words, variableTotal}
+use Rattle.clauses.specs.Matching.{Solution}
+use Rattle.search_rules.specs.Run.{EndedWithin}
+use Rattle.search.specs.Answers.{Answer, found, none, spent, refused}
+use Rattle.solve.specs.Finding.{Slices}
+use Rattle.solve.specs.Demand3.{FitsLimits, FitSlices}
+
+-- an instance within the scopes that satisfies marks and formula stands in front of the slice; what was lent after it is unchanged
+pub record Holds (sheet : Sheet) (lent left : List ℕ) : Type 0 where
+  pub instance : List ℕ
+  pub solves : Solution sheet instance
+  pub stands : left ≡ instance ++ drop (length instance) lent
+
+-- the clauses fit the limits and the lent slices, and the step rules have not ended within the budget
+pub record NotEnded (s : List ℕ) (lent : Slices) (budget : ℕ) : Type 0 where
+  pub limits : FitsLimits s
+  pub room : FitSlices s lent
+  pub runs : EndedWithin (clausesOf (words (sheetOf s))) (variableTotal (sheetOf s)) budget [] → ⊥
+
+pub record Finds (s : List ℕ) (lent : Slices) (budget : ℕ) (answer : Answer) (left : Slices) : Type 0 where
+  -- "found" only with an instance in the lent slice that satisfies marks and formula
+  pub found-only : (steps : ℕ) → answer ≡ found steps → Holds (sheetOf s) (lent .instance) (left .instance)
+  -- "none" only if no instance within the scopes satisfies them
+  pub none-only : (steps : ℕ) → answer ≡ none steps → (instance : List ℕ) → Solution (sheetOf s) instance → ⊥
+  -- "spent" exactly when the step rules have not ended within the budget
+  pub spent-exactly : ((steps : ℕ) × (answer ≡ spent steps)) ↔ NotEnded s lent budget
+  -- a refusal exactly when the sheet does not fit the limits or the slices do not fit, and then nothing is changed
+  pub refused-exactly : ((number : ℕ) × (answer ≡ refused number)) ↔ (FitsLimits s → FitSlices s lent → ⊥)
+  pub unchanged : (number : ℕ) → answer ≡ refused number → left ≡ lent
