@@ -5,7 +5,9 @@
 mod library;
 mod search;
 
-use reference::clauses::{count, translate, Clauses};
+#[cfg(on = "count")]
+use reference::clauses::count;
+use reference::clauses::{translate, Clauses};
 use reference::random::Source;
 use reference::random_sheet::{gates_of, sheet, style};
 use reference::sheet::read;
@@ -89,6 +91,7 @@ fn searches(what: &str, lists: &[Clauses], budget: u64) {
 }
 
 /// Counting and writing of all sheets, for each gate; beside them the reference's translation.
+#[cfg(on = "count")]
 fn translations(sheets: &[(Vec<u8>, Clauses)]) {
     let gates = |(bytes, clauses): &(Vec<u8>, Clauses)| {
         let cells = read(bytes).map_or(0, |sheet| sheet.cells());
@@ -125,5 +128,6 @@ fn main() {
     let large = translate(&gates_of(1_600)).expect("a list");
     let words = large.size().words;
     searches(&format!("search of a list of {words} words"), &[large], 5_000);
+    #[cfg(on = "count")]
     translations(&sheets);
 }

@@ -75,19 +75,17 @@ pub fn search(list: &[i32], values: &mut [u8], trail: &mut [i32], budget: u64) -
     let (mut length, mut steps) = (0, 0);
     loop {
         let met = scan(list, values);
-        if let (Scan::Nothing, true) = (&met, length == values.len()) {
-            values.iter_mut().filter(|value| **value == CHOSEN).for_each(|value| *value = 0);
-            return Answer { end: End::Found, steps };
-        }
-        if let (Scan::Clash, false) = (&met, values.contains(&CHOSEN)) {
-            values.fill(OPEN);
-            trail.fill(0);
-            return Answer { end: End::None, steps };
-        }
-        if steps == budget {
-            return Answer { end: End::Spent, steps };
-        }
         match met {
+            Scan::Nothing if length == values.len() => {
+                values.iter_mut().filter(|value| **value == CHOSEN).for_each(|value| *value = 0);
+                return Answer { end: End::Found, steps };
+            }
+            Scan::Clash if !values.contains(&CHOSEN) => {
+                values.fill(OPEN);
+                trail.fill(0);
+                return Answer { end: End::None, steps };
+            }
+            _ if steps == budget => return Answer { end: End::Spent, steps },
             Scan::Clash => length = turn(values, trail, length).unwrap_or(0),
             Scan::Force(literal) => {
                 values[literal.unsigned_abs() as usize - 1] = u8::from(literal > 0);
