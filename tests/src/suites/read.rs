@@ -22,7 +22,20 @@ const WORDS: [&str; 10] = [
     "number 9",
 ];
 
+/// K1, K8 with both scopes, K9, K10, and K7 last: the sheet, and the number that the paper gives it.
+const MARKED: [(&[u8], u32); 6] = [
+    (&[1, 0, 1, 2, 0, 0, 0, 4, 1, 0, 0, 0, 0, 6, 1, 0, 0, 22, 0, 0], 0),
+    (&[1, 0, 1, 8, 0, 0, 0, 4, 1, 0, 0, 0, 0, 6, 1, 0, 0, 22, 0, 0], 0),
+    (&[1, 0, 1, 9, 0, 0, 0, 4, 1, 0, 0, 0, 0, 6, 1, 0, 0, 22, 0, 0], 4),
+    (&[1, 0, 1, 2, 0, 0, 0, 4, 1, 0, 0, 0, 0, 6, 1, 0, 0, 22, 1, 0], 6),
+    (&[1, 0, 1, 2, 0, 0, 0, 4, 1, 0, 0, 0, 0, 9, 1, 0, 0, 8, 0, 0, 22, 1, 0], 7),
+    (&[], 1),
+];
+
 pub fn run(run: &Run) -> Outcome {
+    for (bytes, number) in MARKED {
+        agree(library::read(bytes).err().unwrap_or(0), number, || format!("marked sheet {}", hex(bytes)))?;
+    }
     let mut tally = WORDS.map(|word| (word, 0));
     let mut compare = |bytes: &[u8], case: u64| {
         let want = read(bytes).map(drop);

@@ -9,7 +9,7 @@ use reference::dimacs::text;
 use reference::random::Source;
 use reference::random_list::{budget, damage, list};
 use reference::random_sheet::{gates_of, pigeonhole, sheet, style};
-use reference::search::{search, End};
+use reference::search::{search, Answer, End};
 use reference::sheet::read;
 
 const ENDS: [&str; 5] = ["found", "none", "spent", "number 12", "number 13"];
@@ -23,7 +23,48 @@ struct Case {
     budget: u64,
 }
 
+/// A list with v and a budget, and what the paper's rules answer and leave.
+struct Marked {
+    list: &'static [i32],
+    v: u32,
+    budget: u64,
+    end: End,
+    steps: u64,
+    values: &'static [u8],
+    trail: &'static [i32],
+}
+
+const K1: &[i32] = &[1, 1, 2, 4, -2, 2, 4, -3, 3, -4, 2, 3, 1, 4];
+const K2: &[i32] = &[1, 1, 2, -2, -3, 2, 2, 3, 2, 4, -2, 2, 4, -3, 3, -4, 2, 3, 1, 4];
+const K3: &[i32] = &[1, 1, 2, -2, -3, 2, 2, 3, 2, 4, -2, 2, 4, -3, 3, -4, 2, 3, 1, -4];
+
+const fn marked(list: &'static [i32], v: u32, budget: u64) -> Marked {
+    Marked { list, v, budget, end: End::Found, steps: 4, values: &[1, 0, 1, 1], trail: &[1, 4, -2, 3] }
+}
+
+/// K1 to K4; both signs; a literal twice; no clause; a conflict behind a unit clause.
+const MARKED: [Marked; 8] = [
+    marked(K1, 4, 1_000_000),
+    marked(K2, 4, 1_000_000),
+    Marked { end: End::None, values: &[2, 2, 2, 2], trail: &[0, 0, 0, 0], ..marked(K3, 4, 1_000_000) },
+    Marked { end: End::Spent, steps: 3, values: &[1, 3, 2, 1], trail: &[1, 4, -2, 0], ..marked(K1, 4, 3) },
+    Marked { steps: 2, values: &[1, 0], trail: &[1, -2], ..marked(&[1, 1, 2, 2, -2], 2, 9) },
+    Marked { steps: 1, values: &[1], trail: &[1], ..marked(&[2, 1, 1], 1, 9) },
+    Marked { steps: 2, values: &[0, 0], trail: &[-1, -2], ..marked(&[], 2, 9) },
+    Marked { steps: 5, values: &[1, 0, 0], trail: &[1, -2, -3], ..marked(&[2, 1, 2, 2, 1, 3, 2, 1, -2], 3, 9) },
+];
+
+fn compare_marked(case: &Marked) -> Result<(), String> {
+    let (mut values, mut trail) = (vec![7; case.values.len()], vec![-7; case.trail.len()]);
+    let got = library::search(case.list, case.v, &mut values, &mut trail, case.budget);
+    let asked = || format!("marked list {}", shown(case.list));
+    agree(got, Ok(Answer { end: case.end, steps: case.steps }), asked)?;
+    agree(values.as_slice(), case.values, asked)?;
+    agree(trail.as_slice(), case.trail, asked)
+}
+
 pub fn run(run: &Run) -> Outcome {
+    MARKED.iter().try_for_each(compare_marked)?;
     let mut tally = ENDS.map(|end| (end, 0));
     let (mut solved, mut steps) = (0, 0);
     for number in run.cases(4_000) {
