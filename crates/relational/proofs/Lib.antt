@@ -1,0 +1,13 @@
+pub mod Places
+pub mod Rounds
+pub mod Flags
+pub mod Counts
+pub mod Paths
+pub mod Stands
+pub mod Operators
+pub mod Joins
+pub mod Typing
+pub mod Evaluates
+pub mod Multiplicities
+pub mod Rows
+pub mod WellShaped

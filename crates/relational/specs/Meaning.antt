@@ -1,0 +1,135 @@
+-- What expressions and formulas mean in an instance, in the order of section 2.2 of source document 001, and what satisfies a sheet.
+use mathlib.Core.Path.{_≡_}
+use mathlib.Core.Logic.{_⊎_, _↔_}
+use mathlib.Core.Bool.{cond}
+use mathlib.Core.List.{List}
+use Prim.Native.Nat.{ℕ, zero, suc, _<_}
+use lib.Dec.{eqb}
+use Rattle.sheet.specs.Blocks.{Sheet, byte, scope, sortOf, relationCount, columns, multiplicity, firstSort, secondSort}
+use Rattle.relational.specs.Trees.{Leaf, relation, variable, atoms, identity, Binary, union, intersection, difference, join, product, Unary, inverse, closure, Comparison, equal, within, Test, some, none, lone, Connective, conjunction, disjunction, implication, equivalence, Quantifier, for-all, for-some, Expression, leaf, binary, unary, comprehension, Formula, comparison, test, negation, connective, quantified, Tree, expression, formula, broken, rootTree}
+use Rattle.relational.specs.Cells.{cell}
+
+-- "Every expression in Alloy denotes a relation, i.e. a set of tuples of atoms." Here a tuple has one atom (in a set) or two.
+abbrev pub Atom : Type 0
+Atom = ℕ
+
+pub data Tuple : Type 0 where
+  one : Atom → Tuple
+  two : Atom → Atom → Tuple
+
+abbrev pub Tuples : Type 1
+Tuples = Tuple → Type 0
+
+-- every variable has an atom, and a binder replaces just its own: "the innermost binder of a variable counts"
+abbrev pub Environment : Type 0
+Environment = ℕ → Atom
+
+abbrev pub bind : Environment → ℕ → Atom → Environment
+bind env x v y = cond (eqb y x) v (env y)
+
+-- 2.2.1 union, intersection, difference; 2.2.2 join: "if and only if there exists" a middle atom; 2.2.3 product
+abbrev pub Combined : Binary → Tuples → Tuples → Tuples
+Combined union P Q t = P t ⊎ Q t
+Combined intersection P Q t = P t × Q t
+Combined difference P Q t = P t × (Q t → ⊥)
+Combined join P Q (one i) = ((k : Atom) × P (one k) × Q (two k i)) ⊎ ((k : Atom) × P (two i k) × Q (one k))
+Combined join P Q (two i j) = (k : Atom) × P (two i k) × Q (two k j)
+Combined product P Q (one i) = ⊥
+Combined product P Q (two i j) = P (one i) × Q (one j)
+
+-- "pairs joined by a path of one or more steps"
+pub data Path (R : Atom → Atom → Type 0) : Atom → Atom → Type 0 where
+  last : {i j : Atom} → R i j → Path R i j
+  next : {i k j : Atom} → R i k → Path R k j → Path R i j
+
+-- 2.2.4 inverse, 2.2.5 closure
+abbrev pub Converted : Unary → Tuples → Tuples
+Converted inverse P (one i) = ⊥
+Converted inverse P (two i j) = P (two j i)
+Converted closure P (one i) = ⊥
+Converted closure P (two i j) = Path (λ x y. P (two x y)) i j
+
+-- 2.2.6 inclusion and equality; some, no, at most one element
+abbrev pub Compared : Comparison → Tuples → Tuples → Type 0
+Compared equal P Q = (t : Tuple) → P t ↔ Q t
+Compared within P Q = (t : Tuple) → P t → Q t
+
+abbrev pub Tested : Test → Tuples → Type 0
+Tested some P = (t : Tuple) × P t
+Tested none P = (t : Tuple) → P t → ⊥
+Tested lone P = (t u : Tuple) → P t → P u → t ≡ u
+
+-- 2.2.6 the connectives; all and some over the atoms that the variable ranges over
+abbrev pub Connected : Connective → Type 0 → Type 0 → Type 0
+Connected conjunction P Q = P × Q
+Connected disjunction P Q = P ⊎ Q
+Connected implication P Q = P → Q
+Connected equivalence P Q = P ↔ Q
+
+abbrev pub Quantified : Quantifier → (Atom → Type 0) → (Atom → Type 0) → Type 0
+Quantified for-all Range P = (v : Atom) → Range v → P v
+Quantified for-some Range P = (v : Atom) × Range v × P v
+
+module _ (sheet : Sheet) where
+  -- "All atoms of a sort exist."
+  abbrev pub IsAtom : ℕ → Atom → Type 0
+  IsAtom k i = i < scope sheet k
+
+module _ (sheet : Sheet) (instance : List ℕ) where
+  -- the tuples of relation r: those whose byte is 1
+  abbrev pub Given : ℕ → Tuples
+  Given r (one i) = (columns sheet r ≡ 1) × IsAtom sheet (firstSort sheet r) i × (byte instance (cell sheet r 0 i) ≡ 1)
+  Given r (two i j) =
+      (columns sheet r ≡ 2) × IsAtom sheet (firstSort sheet r) i × IsAtom sheet (secondSort sheet r) j
+      × (byte instance (cell sheet r i j) ≡ 1)
+
+  -- "1 relation a; 2 variable a (its one atom); 3 all atoms of sort a; 4 identity on sort a"
+  abbrev pub Denoted : Leaf → ℕ → Environment → Tuples
+  Denoted relation r env t = Given r t
+  Denoted variable x env (one i) = i ≡ env x
+  Denoted variable x env (two i j) = ⊥
+  Denoted atoms k env (one i) = IsAtom sheet k i
+  Denoted atoms k env (two i j) = ⊥
+  Denoted identity k env (one i) = ⊥
+  Denoted identity k env (two i j) = IsAtom sheet k i × (i ≡ j)
+
+  -- a tuple is a member of an expression; a formula holds
+  abbrev mutual
+    pub Member : Expression → Environment → Tuples
+    Member (leaf l a) env t = Denoted l a env t
+    Member (binary o p q) env t = Combined o (λ u. Member p env u) (λ u. Member q env u) t
+    Member (unary o p) env t = Converted o (λ u. Member p env u) t
+    Member (comprehension x f) env (one v) = IsAtom sheet (sortOf sheet x) v × Holds f (bind env x v)
+    Member (comprehension x f) env (two i j) = ⊥
+
+    pub Holds : Formula → Environment → Type 0
+    Holds (comparison o p q) env = Compared o (λ t. Member p env t) (λ t. Member q env t)
+    Holds (test o p) env = Tested o (λ t. Member p env t)
+    Holds (negation f) env = Holds f env → ⊥
+    Holds (connective o f g) env = Connected o (Holds f env) (Holds g env)
+    Holds (quantified q x f) env = Quantified q (IsAtom sheet (sortOf sheet x)) (λ v. Holds f (bind env x v))
+
+  -- "Mark 0 is free, 1 at most one value, 2 exactly one."
+  abbrev pub AtMostOne : (Atom → Type 0) → Type 0
+  AtMostOne P = (i j : Atom) → P i → P j → i ≡ j
+
+  abbrev pub Marked : ℕ → (Atom → Type 0) → Type 0
+  Marked zero P = Unit {0}
+  Marked (suc zero) P = AtMostOne P
+  Marked (suc (suc m)) P = AtMostOne P × ((i : Atom) × P i)
+
+  -- "For a relation the mark holds for each atom of the first sort; a set is a single row."
+  pub record Marks (r : ℕ) : Type 0 where
+    pub set : columns sheet r ≡ 1 → Marked (multiplicity sheet r) (λ j. Given r (one j))
+    pub rows : columns sheet r ≡ 2 → (i : Atom) → IsAtom sheet (firstSort sheet r) i → Marked (multiplicity sheet r) (λ j. Given r (two i j))
+
+  -- the root; no variable is free in it, so its environment does not matter (proofs/Free)
+  abbrev pub IsTrue : Tree → Type 0
+  IsTrue (expression e) = ⊥
+  IsTrue (formula f) = Holds f (λ x. 0)
+  IsTrue broken = ⊥
+
+  -- "it satisfies marks and formula when every mark holds in it and the root is true by the kinds' meanings"
+  pub record Satisfies : Type 0 where
+    pub marks : (r : ℕ) → r < relationCount sheet → Marks r
+    pub root : IsTrue (rootTree sheet)
