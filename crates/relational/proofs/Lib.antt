@@ -11,3 +11,5 @@ pub mod Evaluates
 pub mod Multiplicities
 pub mod Rows
 pub mod WellShaped
+pub mod Free
+pub mod Satisfaction

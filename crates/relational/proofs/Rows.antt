@@ -5,23 +5,30 @@ use mathlib.Core.List.{List, [], _∷_, map}
 use Prim.Native.Nat.{ℕ}
 use lib.Dec.{eqb}
 use Rattle.kinds.specs.declared.Field.the-variants.{Unused, Node, Relation, Variable, Sort}
+use Rattle.kinds.specs.declared.Rule.{Rule}
 use Rattle.kinds.specs.declared.Rule.the-variants.{Unknown, OfRelation, OfVariable, OfSort, OfIdentity, Same, Join, Product, Inverse, Closure, Comprehension, Comparison, Test, Negation, Connective, Quantifier}
 use Rattle.kinds.specs.declared.Row.{Row}
 use Rattle.kinds.specs.Kinds.{row, kinds, lookup, rowOf}
-use Rattle.relational.specs.Trees.{relation, variable, atoms, identity, union, intersection, difference, join, product, inverse, closure, Symbol, leaf-symbol, binary-symbol, unary-symbol, comparison-symbol, test-symbol, connective-symbol, quantifier-symbol, comprehension-symbol, negation-symbol, unknown-symbol, symbols, symbolIn, symbolOf}
+use Rattle.relational.specs.Trees.{relation, variable, atoms, identity, Binary, union, intersection, difference, join, product, Unary, inverse, closure, Symbol, leaf-symbol, binary-symbol, unary-symbol, comparison-symbol, test-symbol, connective-symbol, quantifier-symbol, comprehension-symbol, negation-symbol, unknown-symbol, symbols, symbolIn, symbolOf}
+
+abbrev pub ruleOfBinary : Binary → Rule
+ruleOfBinary union = Same
+ruleOfBinary intersection = Same
+ruleOfBinary difference = Same
+ruleOfBinary join = Join
+ruleOfBinary product = Product
+
+abbrev pub ruleOfUnary : Unary → Rule
+ruleOfUnary inverse = Inverse
+ruleOfUnary closure = Closure
 
 abbrev pub rowOfSymbol : Symbol → Row
 rowOfSymbol (leaf-symbol relation) = row Relation Unused OfRelation
 rowOfSymbol (leaf-symbol variable) = row Variable Unused OfVariable
 rowOfSymbol (leaf-symbol atoms) = row Sort Unused OfSort
 rowOfSymbol (leaf-symbol identity) = row Sort Unused OfIdentity
-rowOfSymbol (binary-symbol union) = row Node Node Same
-rowOfSymbol (binary-symbol intersection) = row Node Node Same
-rowOfSymbol (binary-symbol difference) = row Node Node Same
-rowOfSymbol (binary-symbol join) = row Node Node Join
-rowOfSymbol (binary-symbol product) = row Node Node Product
-rowOfSymbol (unary-symbol inverse) = row Node Unused Inverse
-rowOfSymbol (unary-symbol closure) = row Node Unused Closure
+rowOfSymbol (binary-symbol o) = row Node Node (ruleOfBinary o)
+rowOfSymbol (unary-symbol o) = row Node Unused (ruleOfUnary o)
 rowOfSymbol (comparison-symbol o) = row Node Node Comparison
 rowOfSymbol (test-symbol o) = row Node Unused Test
 rowOfSymbol (connective-symbol o) = row Node Node Connective
