@@ -1,0 +1,1 @@
+// Leaves: what a relation, a variable, a sort and an identity stand for.

@@ -1,0 +1,1 @@
+// Comparisons and tests of matrices, and the multiplicity of a row.
