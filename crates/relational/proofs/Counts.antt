@@ -1,12 +1,12 @@
 -- How many flags of a list are true (specs/Evaluation): none, some, at most one, exactly one; and the same by any and by pairs.
 use mathlib.Core.Path.{_≡_, refl, sym, ap, _∙_}
-use mathlib.Core.Bool.{Bool, true, false, not, _&&_, _||_, false≢true, true≢false}
-use mathlib.Core.List.{List, [], _∷_, _++_, map}
-use Prim.Native.Nat.{ℕ, zero, suc, _+_, _≤_, _<_}
+use mathlib.Core.Bool.{Bool, true, false, not, _&&_, _||_, false≢true}
+use mathlib.Core.List.{List, [], _∷_, map}
+use Prim.Native.Nat.{ℕ, zero, suc, _≤_}
 use native.Mathlib.Omega.{arith}
-use lib.Dec.{eqb, leb, leb·suc-suc, leb·suc-zero}
-use lib.ListN.{length, getD}
-use borrow.Author.Tests.{leb-true, le-leb, lt-leb, eq-eqb, ne-eqb}
+use lib.Dec.{eqb, leb}
+use lib.ListN.{getD}
+use borrow.Author.Tests.{le-leb, lt-leb, ne-eqb}
 use Rattle.prelude.specs.Tests.{all, any}
 use Rattle.prelude.proofs.Laws.{all-append, all-map}
 use Rattle.relational.specs.Matrices.{pairs}

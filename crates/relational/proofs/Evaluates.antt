@@ -1,27 +1,29 @@
 -- The evaluation agrees with the meaning: for every well-shaped tree, and every environment that gives each variable an atom of its sort.
-use mathlib.Core.Path.{_≡_, refl, sym, ap, _∙_, subst}
-use mathlib.Core.Logic.{_↔_}
-use mathlib.Core.Bool.{Bool, true, false, cond}
+use mathlib.Core.Path.{_≡_, refl, ap, subst}
+use mathlib.Core.Bool.{true, false}
 use mathlib.Core.List.{List, map}
-use Prim.Native.Nat.{ℕ, zero, suc, _+_, _*_, _≤_, _<_}
+use Prim.Native.Nat.{ℕ, _+_, _*_, _<_}
 use native.Mathlib.Omega.{arith}
 use native.Mathlib.Decide.{ℕ-discrete}
 use lib.Dec.{eqb}
-use lib.ListN.{getD, length}
+use lib.ListN.{getD}
 use borrow.Author.Tests.{eq-eqb, ne-eqb}
 use Rattle.sheet.specs.declared.shapes.Shape.{Shape}
 use Rattle.sheet.specs.Blocks.{Sheet, byte, scope, variableCount, sortOf, columns, firstSort, secondSort}
-use Rattle.relational.specs.Trees.{relation, variable, atoms, identity, Expression, leaf, comprehension, Formula}
-use Rattle.relational.specs.Cells.{rowCount, rowLength, cellsOf, firstCell, cell}
+use Rattle.relational.specs.Trees.{relation, variable, atoms, identity, Expression, comprehension, Formula}
+use Rattle.relational.specs.Cells.{rowLength, firstCell, cell}
 use Rattle.relational.specs.Meaning.{Tuple, one, two, Environment, bind, IsAtom, Given, Denoted, Member, Holds}
-use Rattle.relational.specs.Matrices.{from, upto, Place, places, Matrix, setOf, relationOf}
+use Rattle.relational.specs.Matrices.{from, upto, Place, places}
 use Rattle.relational.specs.Evaluation.{flagAt, valueLeaf, valueOf, truthOf}
 use Rattle.relational.proofs.Places.{length-map-from, from-at}
 use Rattle.relational.proofs.Flags.{Is, recast, is-not, is-eqb}
-use Rattle.relational.proofs.Stands.{Size, line, table, Fits, place, place-lt, Cells, Stands, cells-line, cells-table}
-use Rattle.relational.proofs.Operators.{stands-union, stands-intersection, stands-difference, truth-comparison, truth-test, truth-connective, truth-quantifier}
+use Rattle.relational.proofs.Stands.{line, table, Fits, place, place-lt, Stands, cells-line, cells-table}
+use Rattle.relational.proofs.Operators.{stands-union, stands-intersection, stands-difference, truth-comparison, truth-test, truth-connective}
+use Rattle.relational.proofs.Operators.{truth-quantifier}
 use Rattle.relational.proofs.Joins.{stands-image, stands-preimage, stands-join, stands-product, stands-inverse, stands-closure}
-use Rattle.relational.proofs.Typing.{sizeOf, Shaped, of-set, of-relation, of-variable, of-sort, of-identity, of-union, of-intersection, of-difference, of-image, of-preimage, of-join, of-product, of-inverse, of-closure, of-comprehension, Formed, of-comparison, of-test, of-negation, of-connective, of-quantified}
+use Rattle.relational.proofs.Typing.{sizeOf, Shaped, of-set, of-relation, of-variable, of-sort, of-identity, of-union, of-intersection}
+use Rattle.relational.proofs.Typing.{of-difference, of-image, of-preimage, of-join, of-product, of-inverse, of-closure, of-comprehension}
+use Rattle.relational.proofs.Typing.{Formed, of-comparison, of-test, of-negation, of-connective, of-quantified}
 
 module _ (sheet : Sheet) where
   -- the environments that a walk meets

@@ -3,15 +3,15 @@ use mathlib.Core.Path.{_≡_, refl, sym, ap, _∙_}
 use mathlib.Core.Logic.{_⊎_, inl, inr, ⊎-elim, _↔_}
 use mathlib.Core.Bool.{Bool, true, false, not, _&&_, _||_, false≢true}
 use mathlib.Core.List.{List, [], _∷_, map}
-use Prim.Native.Nat.{ℕ, zero, suc, _+_, _≤_, _<_}
+use Prim.Native.Nat.{ℕ, suc, _≤_, _<_}
 use native.Mathlib.Omega.{arith}
 use lib.Dec.{eqb, leb}
 use lib.ListN.{length, getD}
 use borrow.Author.Tests.{eqb-true, eq-eqb, leb-true, le-leb}
 use Rattle.prelude.specs.Tests.{each, all, any}
 use Rattle.prelude.proofs.Laws.{all-at, all-of, any-at, each-at, each-of, or-cases}
-use Rattle.relational.specs.Matrices.{from, upto}
-use Rattle.relational.specs.Evaluation.{both, either, without, implies, same}
+use Rattle.relational.specs.Matrices.{upto}
+use Rattle.relational.specs.Evaluation.{without, implies, same}
 use Rattle.relational.proofs.Places.{length-map-from, upto-at}
 
 abbrev pub Is : Bool → Type 0 → Type 0

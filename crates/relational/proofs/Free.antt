@@ -2,22 +2,28 @@
 use mathlib.Core.Path.{_≡_, refl, sym, ap, ap₂, _∙_, fun-ext}
 use mathlib.Core.Logic.{_⊎_, inl, inr, ⊎-elim}
 use mathlib.Core.Bool.{Bool, true, false, not, _&&_, _||_, cond, false≢true}
-use mathlib.Core.List.{List, [], _∷_, map}
-use Prim.Native.Nat.{ℕ, zero, suc, _<_}
+use mathlib.Core.List.{List, map}
+use Prim.Native.Nat.{ℕ, _<_}
 use lib.Dec.{eqb}
 use lib.ListN.{getD}
-use borrow.Author.Tests.{eq-eqb, eqb-true, ne-eqb, eqb-false, not-true}
+use borrow.Author.Tests.{eq-eqb, eqb-true, ne-eqb, eqb-false}
 use Rattle.prelude.proofs.Laws.{and-left, and-right, and-both, or-left, or-right, or-cases, decided}
-use Rattle.kinds.specs.Kinds.{rowOf}
 use Rattle.sheet.specs.declared.shapes.Shape.{Shape}
-use Rattle.sheet.specs.Blocks.{Sheet, variableCount, scope, sortOf, kind, fieldA, fieldB, nodeCount, root}
+use Rattle.sheet.specs.Blocks.{Sheet, variableCount, scope, sortOf, kind, fieldA, fieldB, nodeCount}
 use Rattle.sheet.specs.Tables.{freeBy, freeStep, free}
-use Rattle.relational.specs.Trees.{relation, variable, atoms, identity, union, intersection, difference, join, product, inverse, closure, Expression, leaf, binary, unary, comprehension, Formula, comparison, test, negation, connective, quantified, Symbol, leaf-symbol, binary-symbol, unary-symbol, comparison-symbol, test-symbol, connective-symbol, quantifier-symbol, comprehension-symbol, negation-symbol, unknown-symbol, symbolOf, Tree, expression, formula, broken, withExpression, withFormula, treeBy, treeStep, trees, rootTree}
+use Rattle.relational.specs.Trees.{relation, variable, atoms, identity, Expression, leaf, binary, unary, comprehension, Formula, comparison}
+use Rattle.relational.specs.Trees.{test, negation, connective, quantified, Symbol, leaf-symbol, binary-symbol, unary-symbol}
+use Rattle.relational.specs.Trees.{comparison-symbol, test-symbol, connective-symbol, quantifier-symbol, comprehension-symbol}
+use Rattle.relational.specs.Trees.{negation-symbol, unknown-symbol, symbolOf, Tree, expression, formula, broken, withExpression, withFormula}
+use Rattle.relational.specs.Trees.{treeBy, treeStep, trees}
 use Rattle.relational.specs.Meaning.{Environment, bind}
 use Rattle.relational.specs.Matrices.{Matrix, setOf, upto}
-use Rattle.relational.specs.Evaluation.{valueOf, truthOf, valueLeaf, valueBinary, valueUnary, truthComparison, truthTest, truthConnective, truthQuantifier}
+use Rattle.relational.specs.Evaluation.{valueOf, truthOf, valueBinary, valueUnary, truthComparison, truthTest, truthConnective}
+use Rattle.relational.specs.Evaluation.{truthQuantifier}
 use Rattle.relational.proofs.Rows.{rowOfSymbol, row-of-symbol}
-use Rattle.relational.proofs.Typing.{Shaped, of-set, of-relation, of-variable, of-sort, of-identity, of-union, of-intersection, of-difference, of-image, of-preimage, of-join, of-product, of-inverse, of-closure, of-comprehension, Formed, of-comparison, of-test, of-negation, of-connective, of-quantified}
+use Rattle.relational.proofs.Typing.{Shaped, of-set, of-relation, of-variable, of-sort, of-identity, of-union, of-intersection}
+use Rattle.relational.proofs.Typing.{of-difference, of-image, of-preimage, of-join, of-product, of-inverse, of-closure, of-comprehension}
+use Rattle.relational.proofs.Typing.{Formed, of-comparison, of-test, of-negation, of-connective, of-quantified}
 use Rattle.relational.proofs.WellShaped.{tables}
 
 module _ (x : ℕ) where

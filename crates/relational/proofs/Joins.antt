@@ -1,7 +1,7 @@
 -- Join, product, inverse and closure: from what the operands stand for to what the result stands for.
-use mathlib.Core.Path.{_≡_, refl, sym, ap, ap₂, _∙_}
-use mathlib.Core.Logic.{_⊎_, inl, inr, ⊎-elim, _↔_}
-use mathlib.Core.Bool.{Bool, true, false, _&&_, _||_}
+use mathlib.Core.Path.{_≡_, refl, ap, ap₂, _∙_}
+use mathlib.Core.Logic.{inl, inr, ⊎-elim}
+use mathlib.Core.Bool.{Bool, false}
 use mathlib.Core.List.{List, map}
 use Prim.Native.Nat.{ℕ, zero, suc, _+_, _*_, _^_, _≤_, _<_}
 use native.Mathlib.Omega.{arith}
@@ -9,7 +9,7 @@ use native.Mathlib.Nat.{two-pow-succ}
 use lib.ListN.{getD, length}
 use lib.Pow.{pow-pos}
 use Rattle.prelude.specs.Tests.{any}
-use Rattle.relational.specs.Trees.{union, join, product, inverse, closure}
+use Rattle.relational.specs.Trees.{join, product, inverse, closure}
 use Rattle.relational.specs.Meaning.{Tuple, one, two, Tuples, Path, last, next, Combined, Converted}
 use Rattle.relational.specs.Matrices.{upto, Place, places, rounds, Matrix, setOf, relationOf}
 use Rattle.relational.specs.Evaluation.{both, either, valueBinary, valueUnary, roundOf, afterRounds}
@@ -17,7 +17,7 @@ use Rattle.relational.proofs.Places.{map-map, length-map-from, upto-at,
 use Rattle.relational.proofs.Rounds.{rounds-enough}
 use Rattle.relational.proofs.Flags.{Is, recast, is-and, is-any}
 use Rattle.relational.proofs.Paths.{squared, Within, doubled, one-step, within-same, Edge, reached}
-use Rattle.relational.proofs.Stands.{Size, line, table, matrixOf, total, Fits, place, Cells, Stands, cells-table, cells-row, cells-column}
+use Rattle.relational.proofs.Stands.{line, table, Fits, place, Stands, cells-table, cells-row, cells-column}
 
 -- ---- join: row i of p with column j of q, over the n middle atoms
 abbrev joinAt : ℕ → ℕ → List Bool → List Bool → Place → Bool

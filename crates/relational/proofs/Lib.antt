@@ -13,3 +13,5 @@ pub mod Rows
 pub mod WellShaped
 pub mod Free
 pub mod Satisfaction
+pub mod Accepted
+pub mod Cases

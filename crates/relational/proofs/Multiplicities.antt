@@ -1,16 +1,14 @@
 -- The check of the rows agrees with the marks.
-use mathlib.Core.Path.{_≡_, refl, sym, ap, _∙_}
-use mathlib.Core.Logic.{_⊎_, inl, inr, ⊎-elim, _↔_}
-use mathlib.Core.Bool.{Bool, true, false, cond}
+use mathlib.Core.Path.{_≡_, refl}
+use mathlib.Core.Logic.{_⊎_, ⊎-elim, _↔_}
+use mathlib.Core.Bool.{Bool, true, false}
 use mathlib.Core.List.{List, map}
-use Prim.Native.Nat.{ℕ, zero, suc, _+_, _*_, _<_}
+use Prim.Native.Nat.{ℕ, zero, suc, _+_, _<_}
 use native.Mathlib.Omega.{arith}
-use lib.Dec.{eqb}
-use lib.ListN.{getD, length}
-use borrow.Author.Tests.{ne-eqb}
+use lib.ListN.{getD}
 use Rattle.prelude.specs.Tests.{each}
 use Rattle.sheet.specs.Blocks.{Sheet, byte, scope, relationCount, columns, multiplicity, firstSort, secondSort}
-use Rattle.relational.specs.Cells.{rowCount, rowLength, firstCell, cell}
+use Rattle.relational.specs.Cells.{rowCount, rowLength, cell}
 use Rattle.relational.specs.Meaning.{Atom, one, two, IsAtom, Given, Marked, Marks}
 use Rattle.relational.specs.Matrices.{from}
 use Rattle.relational.specs.Evaluation.{flagAt, rowHolds, rowCells, marksHold}

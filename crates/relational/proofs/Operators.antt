@@ -1,25 +1,23 @@
 -- Operator by operator: from what the operands stand for to what the result stands for.
-use mathlib.Core.Path.{_≡_, refl, sym, ap, _∙_, subst}
-use mathlib.Core.Logic.{_⊎_, inl, inr, ⊎-elim, _↔_}
-use mathlib.Core.Bool.{Bool, true, false, not, _&&_, _||_, false≢true}
+use mathlib.Core.Path.{_≡_, refl, sym, ap, _∙_}
+use mathlib.Core.Logic.{⊎-elim, _↔_}
+use mathlib.Core.Bool.{Bool, true, false, false≢true}
 use mathlib.Core.List.{List, [], _∷_, map}
-use Prim.Native.Nat.{ℕ, zero, suc, _+_, _*_, _^_, _≤_, _<_}
+use Prim.Native.Nat.{ℕ, zero, suc, _<_}
 use native.Mathlib.Omega.{arith}
-use native.Mathlib.Nat.{two-pow-succ}
-use lib.Dec.{eqb, leb}
 use lib.ListN.{getD, length}
-use lib.Pow.{pow-pos}
-use Rattle.prelude.specs.Tests.{all, any}
-use Rattle.relational.specs.Trees.{union, intersection, difference, join, product, inverse, closure, Comparison, equal, within, Test, some, none, lone, Connective, conjunction, disjunction, implication, equivalence, Quantifier, for-all, for-some}
-use Rattle.relational.specs.Meaning.{Atom, Tuple, one, two, Tuples, Path, last, next, Combined, Converted, Compared, Tested, Connected, Quantified}
-use Rattle.relational.specs.Matrices.{upto, Place, places, rounds, Matrix, setOf, relationOf, sameSize, matched}
-use Rattle.relational.specs.Evaluation.{both, either, without, implies, same, count, valueBinary, valueUnary, roundOf, afterRounds, truthComparison, truthTest, truthConnective, truthQuantifier}
-use Rattle.relational.proofs.Places.{map-map, length-map-from, upto-at, places-at, place-below}
-use Rattle.relational.proofs.Rounds.{rounds-enough}
-use Rattle.relational.proofs.Flags.{Is, recast, is-or, is-and, is-not, is-without, is-implies, is-same, is-any, is-all}
+use Rattle.prelude.specs.Tests.{all}
+use Rattle.relational.specs.Trees.{union, intersection, difference, Comparison, equal, within, Test, some, none, lone, Connective}
+use Rattle.relational.specs.Trees.{conjunction, disjunction, implication, equivalence, Quantifier, for-all, for-some}
+use Rattle.relational.specs.Meaning.{Tuple, Tuples, Combined, Compared, Tested, Connected, Quantified}
+use Rattle.relational.specs.Matrices.{upto, Matrix, sameSize, matched}
+use Rattle.relational.specs.Evaluation.{both, either, without, implies, same, valueBinary, truthComparison, truthTest, truthConnective}
+use Rattle.relational.specs.Evaluation.{truthQuantifier}
+use Rattle.relational.proofs.Places.{map-map}
+use Rattle.relational.proofs.Flags.{Is, recast, is-or, is-and, is-without, is-implies, is-same, is-any, is-all}
 use Rattle.relational.proofs.Counts as counts
-use Rattle.relational.proofs.Paths.{squared, Within, doubled, one-step, within-same, Edge, reached}
-use Rattle.relational.proofs.Stands.{Size, line, table, matrixOf, total, Fits, place, place-lt, place-injective, tuple-at, Cells, Stands, cells-flat, cells-table, cells-row, cells-column}
+use Rattle.relational.proofs.Stands.{Size, line, table, matrixOf, total, Fits, place, place-lt, place-injective, tuple-at, Cells, Stands}
+use Rattle.relational.proofs.Stands.{cells-flat}
 
 -- ---- union, intersection, difference: place by place
 abbrev cellPair : List Bool → List Bool → ℕ → Bool × Bool

@@ -6,10 +6,14 @@ use Prim.Native.Nat.{ℕ}
 use lib.Dec.{eqb}
 use Rattle.kinds.specs.declared.Field.the-variants.{Unused, Node, Relation, Variable, Sort}
 use Rattle.kinds.specs.declared.Rule.{Rule}
-use Rattle.kinds.specs.declared.Rule.the-variants.{Unknown, OfRelation, OfVariable, OfSort, OfIdentity, Same, Join, Product, Inverse, Closure, Comprehension, Comparison, Test, Negation, Connective, Quantifier}
+use Rattle.kinds.specs.declared.Rule.the-variants.{Unknown, OfRelation, OfVariable, OfSort, OfIdentity, Same, Join, Product, Inverse, Closure}
+use Rattle.kinds.specs.declared.Rule.the-variants.{Comprehension, Comparison, Test, Negation, Connective, Quantifier}
 use Rattle.kinds.specs.declared.Row.{Row}
 use Rattle.kinds.specs.Kinds.{row, kinds, lookup, rowOf}
-use Rattle.relational.specs.Trees.{relation, variable, atoms, identity, Binary, union, intersection, difference, join, product, Unary, inverse, closure, Symbol, leaf-symbol, binary-symbol, unary-symbol, comparison-symbol, test-symbol, connective-symbol, quantifier-symbol, comprehension-symbol, negation-symbol, unknown-symbol, symbols, symbolIn, symbolOf}
+use Rattle.relational.specs.Trees.{relation, variable, atoms, identity, Binary, union, intersection, difference, join, product, Unary}
+use Rattle.relational.specs.Trees.{inverse, closure, Symbol, leaf-symbol, binary-symbol, unary-symbol, comparison-symbol, test-symbol}
+use Rattle.relational.specs.Trees.{connective-symbol, quantifier-symbol, comprehension-symbol, negation-symbol, unknown-symbol, symbols}
+use Rattle.relational.specs.Trees.{symbolIn, symbolOf}
 
 abbrev pub ruleOfBinary : Binary → Rule
 ruleOfBinary union = Same

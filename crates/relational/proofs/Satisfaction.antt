@@ -1,12 +1,12 @@
 -- The check of an instance agrees with the meaning of an accepted sheet.
-use mathlib.Core.Path.{_≡_, refl, sym, ap, _∙_, subst}
-use mathlib.Core.Logic.{_⊎_, inl, inr, ⊎-elim, _↔_}
+use mathlib.Core.Path.{_≡_, sym, _∙_}
+use mathlib.Core.Logic.{_⊎_, inl, inr, _↔_}
 use mathlib.Core.Bool.{Bool, true, false, not, _&&_, cond}
 use mathlib.Core.List.{List}
-use Prim.Native.Nat.{ℕ, zero, suc, _≤_, _<_}
+use Prim.Native.Nat.{ℕ, _<_}
 use native.Mathlib.Decide.{ℕ-discrete}
 use native.Mathlib.Omega.{arith}
-use lib.Dec.{eqb, ltb, leb}
+use lib.Dec.{eqb, leb}
 use lib.ListN.{getD}
 use borrow.Author.Tests.{ltb-true, not-true}
 use Rattle.prelude.specs.Tests.{between, each}
@@ -18,8 +18,8 @@ use Rattle.sheet.specs.Blocks.{nodeCount, kind, fieldA, fieldB, root}
 use Rattle.sheet.specs.Shapes.{isFormula}
 use Rattle.sheet.specs.Tables.{shapes, free}
 use Rattle.sheet.specs.Reading.{fieldFine, nodeFine, nodesFine, isSort, relationDeclared, declared, scoped, rooted}
-use Rattle.relational.specs.Trees.{Formula, Tree, formula, rootTree}
-use Rattle.relational.specs.Meaning.{Environment, Holds, Marks, IsTrue, Satisfies}
+use Rattle.relational.specs.Trees.{Formula, formula, rootTree}
+use Rattle.relational.specs.Meaning.{Environment, Holds, IsTrue, Satisfies}
 use Rattle.relational.specs.Evaluation.{truthOf, marksHold, truthOfTree, holds}
 use Rattle.relational.proofs.Flags.{Is, recast, is-and}
 use Rattle.relational.proofs.Typing.{Formed}
@@ -56,7 +56,8 @@ sound sheet s d n r =
           let k : ℕ = sortOf sheet x in
           between-low 1 8 (scope sheet k)
           (each-at (λ i. between 1 8 (scope sheet i)) (sortCount sheet) s k
-          (ltb-true k (sortCount sheet) (each-at (λ y. isSort sheet (sortOf sheet y)) (variableCount sheet) (and-left variablesFine relationsFine d) x l)));
+          (ltb-true k (sortCount sheet)
+          (each-at (λ y. isSort sheet (sortOf sheet y)) (variableCount sheet) (and-left variablesFine relationsFine d) x l)));
       named = λ v l.
           and-left (fieldAFine v) (fieldBFine v)
           (and-right (isKnown (rowOf (kind sheet v) .rule)) (fieldAFine v && fieldBFine v) (each-at (nodeFine sheet) (nodeCount sheet) n v l));

@@ -1,12 +1,12 @@
 -- A matrix stands for a set of tuples: it has the size of the tuples' sorts, and a cell is true just if its tuple is one of them.
 use mathlib.Core.Path.{_≡_, refl, sym, ap, ap₂, _∙_}
-use mathlib.Core.Bool.{Bool, true, false}
+use mathlib.Core.Bool.{Bool, false}
 use mathlib.Core.List.{List, map}
-use Prim.Native.Nat.{ℕ, zero, suc, _+_, _*_, _/_, _%_, _≤_, _<_}
+use Prim.Native.Nat.{ℕ, zero, suc, _+_, _*_, _/_, _%_, _<_}
 use native.Mathlib.Omega.{arith}
 use native.Mathlib.Nat.{mul-zero, div-add-mod', div-lt-iff-lt-mul, mod-lt, mul-add-div-right, mul-add-mod-self-right, div-eq-of-lt, mod-eq-of-lt}
 use lib.ListN.{getD, length}
-use Rattle.relational.specs.Meaning.{Atom, Tuple, one, two, Tuples}
+use Rattle.relational.specs.Meaning.{Tuple, one, two, Tuples}
 use Rattle.relational.specs.Matrices.{upto, Place, places, Matrix, setOf, relationOf}
 use Rattle.relational.proofs.Places.{length-map-from, upto-at, length-places, places-at, place-below}
 use Rattle.relational.proofs.Flags.{Is}

@@ -6,7 +6,9 @@ use Rattle.sheet.specs.declared.shapes.Shape.{Shape}
 use Rattle.sheet.specs.declared.shapes.Shape.the-variants.{Ill, SetOf, RelationOf}
 use Rattle.sheet.specs.declared.shapes.Shape.the-variants as shape
 use Rattle.sheet.specs.Blocks.{Sheet, scope, variableCount, sortOf, columns, firstSort, secondSort}
-use Rattle.relational.specs.Trees.{relation, variable, atoms, identity, union, intersection, difference, join, product, inverse, closure, Comparison, Test, Connective, Quantifier, Expression, leaf, binary, unary, comprehension, Formula, comparison, test, negation, connective, quantified}
+use Rattle.relational.specs.Trees.{relation, variable, atoms, identity, union, intersection, difference, join, product, inverse, closure}
+use Rattle.relational.specs.Trees.{Comparison, Test, Connective, Quantifier, Expression, leaf, binary, unary, comprehension, Formula}
+use Rattle.relational.specs.Trees.{comparison, test, negation, connective, quantified}
 use Rattle.relational.proofs.Stands.{Size, line, table}
 
 module _ (sheet : Sheet) where

@@ -1,25 +1,32 @@
 -- The trees of an accepted sheet are well shaped: from the tables of shapes and trees, node by node.
-use mathlib.Core.Path.{_≡_, refl, sym, ap, ap₂, _∙_, subst}
-use mathlib.Core.Logic.{_⊎_, inl, inr, ⊎-elim}
-use mathlib.Core.Bool.{Bool, true, false, _&&_, cond, false≢true}
+use mathlib.Core.Path.{_≡_, refl, sym, ap, subst}
+use mathlib.Core.Logic.{_⊎_, inl, inr}
+use mathlib.Core.Bool.{Bool, true, false, _&&_, false≢true}
 use mathlib.Core.List.{List, [], _∷_, _++_}
-use Prim.Native.Nat.{ℕ, zero, suc, _+_, _≤_, _<_}
+use Prim.Native.Nat.{ℕ, zero, suc, _<_}
 use native.Mathlib.Omega.{arith}
 use lib.Dec.{eqb}
-use lib.ListN.{getD, length, length-append}
+use lib.ListN.{getD, length}
 use borrow.Author.Tests.{eqb-true, ltb-true, eq-eqb, ne-eqb}
-use Rattle.prelude.proofs.Laws.{and-left, and-right, decided}
+use Rattle.prelude.proofs.Laws.{and-left, and-right}
 use Rattle.kinds.specs.Kinds.{rowOf}
 use Rattle.sheet.specs.declared.shapes.Shape.{Shape}
 use Rattle.sheet.specs.declared.shapes.Shape.the-variants.{Ill, SetOf, RelationOf}
 use Rattle.sheet.specs.declared.shapes.Shape.the-variants as shape
 use Rattle.sheet.specs.Blocks.{Sheet, variableCount, sortOf, relationCount, columns, firstSort, secondSort, kind, fieldA, fieldB, nodeCount, root}
-use Rattle.sheet.specs.Shapes.{only, isFormula, isExpression, equalShape, joinSet, joinRelation, joinShape, productSet, productShape, inverseShape, closureShape, declaredShape, shapeBy}
+use Rattle.sheet.specs.Shapes.{only, isFormula, isExpression, equalShape, joinShape, productShape, inverseShape, closureShape, declaredShape}
+use Rattle.sheet.specs.Shapes.{shapeBy}
 use Rattle.sheet.specs.Tables.{table, shapeStep, shapes}
-use Rattle.sheet.specs.Reading.{fieldFine, nodeFine}
-use Rattle.relational.specs.Trees.{relation, variable, atoms, identity, Binary, union, intersection, difference, join, product, inverse, closure, Comparison, Test, Connective, Quantifier, Expression, leaf, binary, unary, comprehension, Formula, comparison, test, negation, connective, quantified, Symbol, leaf-symbol, binary-symbol, unary-symbol, comparison-symbol, test-symbol, connective-symbol, quantifier-symbol, comprehension-symbol, negation-symbol, unknown-symbol, symbolOf, Tree, expression, formula, broken, treeBy, treeStep, trees, rootTree}
+use Rattle.sheet.specs.Reading.{fieldFine}
+use Rattle.relational.specs.Trees.{relation, variable, atoms, identity, Binary, union, intersection, difference, join, product, inverse}
+use Rattle.relational.specs.Trees.{closure, Comparison, Test, Connective, Quantifier, Expression, binary, Formula, Symbol, leaf-symbol}
+use Rattle.relational.specs.Trees.{binary-symbol, unary-symbol, comparison-symbol, test-symbol, connective-symbol, quantifier-symbol}
+use Rattle.relational.specs.Trees.{comprehension-symbol, negation-symbol, unknown-symbol, symbolOf, Tree, expression, formula, broken, treeBy}
+use Rattle.relational.specs.Trees.{treeStep, trees, rootTree}
 use Rattle.relational.proofs.Rows.{rowOfSymbol, row-of-symbol}
-use Rattle.relational.proofs.Typing.{Shaped, of-set, of-relation, of-variable, of-sort, of-identity, of-union, of-intersection, of-difference, of-image, of-preimage, of-join, of-product, of-inverse, of-closure, of-comprehension, Formed, of-comparison, of-test, of-negation, of-connective, of-quantified}
+use Rattle.relational.proofs.Typing.{Shaped, of-set, of-relation, of-variable, of-sort, of-identity, of-union, of-intersection}
+use Rattle.relational.proofs.Typing.{of-difference, of-image, of-preimage, of-join, of-product, of-inverse, of-closure, of-comprehension}
+use Rattle.relational.proofs.Typing.{Formed, of-comparison, of-test, of-negation, of-connective, of-quantified}
 
 -- ---- two tables, entry by entry
 module _ {A B : Type 0} (R : A → B → Type 0) (d : A) (e : B) (default : R d e) where
@@ -190,7 +197,7 @@ module _ (sheet : Sheet) where
   -- ---- every symbol
   module _ (declared : (r : ℕ) → r < relationCount sheet → (columns sheet r ≡ 1) ⊎ (columns sheet r ≡ 2)) where
     right-symbol : (s : Symbol) (v a : ℕ) → fieldFine sheet (rowOfSymbol s .a) v a ≡ true → {x y : Shape} {t u : Tree} → Right x t → Right y u
-        → Right (shapeBy (rowOfSymbol s .rule) sheet a x y) (treeBy s a t u)
+        → Right (shapeBy (rowOfSymbol s .rule) a (declaredShape sheet a) (sortOf sheet a) x y) (treeBy s a t u)
     right-symbol (leaf-symbol relation) v a f {t} {u} r q = right-relation a t u (declared a (ltb-true a (relationCount sheet) f))
     right-symbol (leaf-symbol variable) v a f r q =
         is-set (of-variable a (sortOf sheet a) (ltb-true a (variableCount sheet) f) refl)

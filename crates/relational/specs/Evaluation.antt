@@ -2,14 +2,18 @@
 -- Cited by contracts of private functions only: nothing here needs belief (proofs/Evaluates: it agrees with specs/Meaning).
 use mathlib.Core.Bool.{Bool, true, false, not, _&&_, _||_}
 use mathlib.Core.List.{List, [], _∷_, map}
-use Prim.Native.Nat.{ℕ, zero, suc, _+_, _*_}
+use Prim.Native.Nat.{ℕ, zero, suc}
 use lib.Dec.{eqb, leb}
 use Rattle.prelude.specs.Tests.{each, all, any}
 use Rattle.sheet.specs.Blocks.{Sheet, byte, scope, sortOf, relationCount, multiplicity}
-use Rattle.relational.specs.Trees.{Leaf, relation, variable, atoms, identity, Binary, union, intersection, difference, join, product, Unary, inverse, closure, Comparison, equal, within, Test, some, none, lone, Connective, conjunction, disjunction, implication, equivalence, Quantifier, for-all, for-some, Expression, leaf, binary, unary, comprehension, Formula, comparison, test, negation, connective, quantified, Tree, expression, formula, broken, rootTree}
+use Rattle.relational.specs.Trees.{Leaf, Binary, union, intersection, difference, join, product, Unary, inverse, closure, Comparison, equal}
+use Rattle.relational.specs.Trees.{within, Test, some, none, lone, Connective, conjunction, disjunction, implication, equivalence, Quantifier}
+use Rattle.relational.specs.Trees.{for-all, for-some, Expression, leaf, binary, unary, comprehension, Formula, comparison, test, negation}
+use Rattle.relational.specs.Trees.{connective, quantified, Tree, expression, formula, broken, rootTree}
 use Rattle.relational.specs.Cells.{rowCount, rowLength, cell}
 use Rattle.relational.specs.Meaning.{Environment, bind}
-use Rattle.relational.specs.Matrices.{from, upto, Place, rounds, Matrix, setOf, leafMatrix, sameSize, joinPlaces, joinSize, productSize, matched, middles, crossed, inverted}
+use Rattle.relational.specs.Matrices.{from, upto, rounds, Matrix, setOf, leafMatrix, sameSize, joinPlaces, joinSize, productSize, matched}
+use Rattle.relational.specs.Matrices.{middles, crossed, inverted}
 
 -- ---- flags
 abbrev pub both : Bool × Bool → Bool

@@ -3,7 +3,7 @@
 -- Document 01: "An expression is a set of sort S or a relation from S to T; matrices have rows and columns by atom."
 use mathlib.Core.Bool.{Bool, true, false, cond}
 use mathlib.Core.List.{List, [], _∷_, _++_, map}
-use Prim.Native.Nat.{ℕ, zero, suc, _+_, _*_, _-_, _^_}
+use Prim.Native.Nat.{ℕ, zero, suc, _+_, _*_, _^_}
 use lib.Dec.{eqb, leb}
 use lib.ListN.{getD}
 use Rattle.sheet.specs.Blocks.{Sheet, scope, sortOf, columns}

@@ -1,0 +1,141 @@
+-- Worked sheets, evaluated by computation: one theorem over all rows, on the meaning.
+use mathlib.Core.Path.{_≡_, refl}
+use mathlib.Core.Bool.{Bool, true, false, _&&_, false≢true}
+use mathlib.Core.List.{List, [], _∷_, _++_, map}
+use Prim.Native.Nat.{ℕ, _<_}
+use lib.Dec.{eqb}
+use lib.ListN.{getD, length}
+use Rattle.prelude.specs.Tests.{each, all, any}
+use Rattle.prelude.proofs.Laws.{and-left, and-right, all-at}
+use Rattle.kinds.specs.Kinds.{rowOf}
+use Rattle.sheet.specs.Blocks.{Sheet, sheetOf}
+use Rattle.sheet.specs.Tables.{table, shapeStep, freeStep, visitsStep}
+use Rattle.sheet.specs.Reading.{counted, scoped, declared, nodesFine, shaped, rooted, walkable, reading}
+use Rattle.relational.specs.Trees.{symbolOf, treeStep}
+use Rattle.relational.specs.Cells.{firstCell, withinScopes}
+use Rattle.relational.specs.Matrices.{rounds, Matrix, relationOf}
+use Rattle.relational.specs.Meaning.{Satisfies}
+use Rattle.relational.specs.Evaluation.{same, afterRounds, valueOf, truthOf, marksHold, holds}
+use Rattle.relational.proofs.Flags.{Is}
+use Rattle.relational.proofs.Satisfaction.{holds-satisfies}
+use Rattle.relational.proofs.Accepted.{isAccepted, accepted-sound}
+
+record Case : Type 0 where
+  sheet : List ℕ
+  instance : List ℕ
+  satisfied : Bool
+
+-- a block: its length in two bytes, then its bytes
+abbrev block : List ℕ → List ℕ
+block bytes = 0 ∷ length bytes ∷ bytes
+
+abbrev written : List ℕ → List ℕ → List ℕ → List ℕ → List ℕ
+written sorts variables relations nodes = 1 ∷ (block sorts ++ (block variables ++ (block relations ++ block nodes)))
+
+abbrev row : List ℕ → List ℕ → Bool → Case
+row sheet instance satisfied = record { sheet = sheet; instance = instance; satisfied = satisfied }
+
+-- for all v0, for some v0, v0 within r0: the inner binder counts
+abbrev shadowed : List ℕ
+shadowed = written (2 ∷ []) (0 ∷ []) (1 ∷ 0 ∷ 0 ∷ 0 ∷ []) (2 ∷ 0 ∷ 0 ∷ 1 ∷ 0 ∷ 0 ∷ 21 ∷ 0 ∷ 1 ∷ 41 ∷ 0 ∷ 2 ∷ 40 ∷ 0 ∷ 3 ∷ [])
+
+-- for all v0, (for some v0, v0 within r0) and v0 within r0: after the inner binder the outer value is back
+abbrev restored : List ℕ
+restored =
+    written (2 ∷ []) (0 ∷ []) (1 ∷ 0 ∷ 0 ∷ 0 ∷ [])
+    (2 ∷ 0 ∷ 0 ∷ 1 ∷ 0 ∷ 0 ∷ 21 ∷ 0 ∷ 1 ∷ 41 ∷ 0 ∷ 2 ∷ 31 ∷ 3 ∷ 2 ∷ 40 ∷ 0 ∷ 4 ∷ [])
+
+-- the closure of r0 is the product of its sort with itself
+abbrev connected : List ℕ
+connected = written (5 ∷ []) [] (2 ∷ 0 ∷ 0 ∷ 0 ∷ []) (1 ∷ 0 ∷ 0 ∷ 11 ∷ 0 ∷ 0 ∷ 3 ∷ 0 ∷ 0 ∷ 9 ∷ 2 ∷ 2 ∷ 20 ∷ 1 ∷ 3 ∷ [])
+
+-- r0 equal r0, under a mark: of a set, of a relation
+abbrev markedSet : ℕ → List ℕ
+markedSet mark = written (2 ∷ []) [] (1 ∷ mark ∷ 0 ∷ 0 ∷ []) (1 ∷ 0 ∷ 0 ∷ 20 ∷ 0 ∷ 0 ∷ [])
+
+abbrev markedRelation : ℕ → List ℕ
+markedRelation mark = written (2 ∷ []) [] (2 ∷ mark ∷ 0 ∷ 0 ∷ []) (1 ∷ 0 ∷ 0 ∷ 20 ∷ 0 ∷ 0 ∷ [])
+
+-- some of (those v0 within r0).r1, where r1 goes from a sort of 2 atoms to one of 3
+abbrev imaged : List ℕ
+imaged =
+    written (2 ∷ 3 ∷ []) (0 ∷ []) (1 ∷ 0 ∷ 0 ∷ 0 ∷ 2 ∷ 0 ∷ 0 ∷ 1 ∷ [])
+    (2 ∷ 0 ∷ 0 ∷ 1 ∷ 0 ∷ 0 ∷ 21 ∷ 0 ∷ 1 ∷ 12 ∷ 0 ∷ 2 ∷ 1 ∷ 1 ∷ 0 ∷ 8 ∷ 3 ∷ 4 ∷ 22 ∷ 5 ∷ 0 ∷ [])
+
+abbrev ring : List ℕ
+ring = 0 ∷ 1 ∷ 0 ∷ 0 ∷ 0 ∷ 0 ∷ 0 ∷ 1 ∷ 0 ∷ 0 ∷ 0 ∷ 0 ∷ 0 ∷ 1 ∷ 0 ∷ 0 ∷ 0 ∷ 0 ∷ 0 ∷ 1 ∷ 1 ∷ 0 ∷ 0 ∷ 0 ∷ 0 ∷ []
+
+abbrev line : List ℕ
+line = 0 ∷ 1 ∷ 0 ∷ 0 ∷ 0 ∷ 0 ∷ 0 ∷ 1 ∷ 0 ∷ 0 ∷ 0 ∷ 0 ∷ 0 ∷ 1 ∷ 0 ∷ 0 ∷ 0 ∷ 0 ∷ 0 ∷ 1 ∷ 0 ∷ 0 ∷ 0 ∷ 0 ∷ 0 ∷ []
+
+abbrev cases : List Case
+cases =
+    row shadowed (0 ∷ 1 ∷ []) true ∷
+    row shadowed (0 ∷ 0 ∷ []) false ∷
+    row restored (0 ∷ 1 ∷ []) false ∷
+    row restored (1 ∷ 1 ∷ []) true ∷
+    row connected ring true ∷
+    row connected line false ∷
+    row (markedSet 0) (1 ∷ 1 ∷ []) true ∷
+    row (markedSet 1) (0 ∷ 0 ∷ []) true ∷
+    row (markedSet 1) (1 ∷ 1 ∷ []) false ∷
+    row (markedSet 2) (0 ∷ 0 ∷ []) false ∷
+    row (markedSet 2) (0 ∷ 1 ∷ []) true ∷
+    row (markedRelation 1) (1 ∷ 0 ∷ 0 ∷ 0 ∷ []) true ∷
+    row (markedRelation 2) (1 ∷ 0 ∷ 0 ∷ 0 ∷ []) false ∷
+    row (markedRelation 2) (1 ∷ 0 ∷ 1 ∷ 0 ∷ []) true ∷
+    row imaged (0 ∷ 1 ∷ 1 ∷ 1 ∷ 1 ∷ 0 ∷ 0 ∷ 0 ∷ []) false ∷
+    row imaged (0 ∷ 1 ∷ 0 ∷ 0 ∷ 0 ∷ 0 ∷ 0 ∷ 1 ∷ []) true ∷ []
+
+abbrev computed : Case → Bool
+computed c =
+    isAccepted (reading (c .sheet))
+    && (withinScopes (sheetOf (c .sheet)) (c .instance) && same (holds (sheetOf (c .sheet)) (c .instance), c .satisfied))
+
+all-computed : all computed cases ≡ true
+unfolding all any each reading counted scoped declared nodesFine shaped rooted walkable table shapeStep freeStep visitsStep rowOf
+    symbolOf treeStep firstCell withinScopes rounds valueOf truthOf marksHold holds
+all-computed = refl
+
+-- every row says what the meaning says
+abbrev Verdict : Bool → Type 0 → Type 0
+Verdict true P = P
+Verdict false P = P → ⊥
+
+abbrev Meets : Case → Type 0
+Meets c = Verdict (c .satisfied) (Satisfies (sheetOf (c .sheet)) (c .instance))
+
+verdict : (a b : Bool) (P : Type 0) → Is a P → same (a, b) ≡ true → Verdict b P
+verdict true true P h e = h .0 refl
+verdict true false P h e = absurd (false≢true e)
+verdict false true P h e = absurd (false≢true e)
+verdict false false P h e = λ p. false≢true (h .1 p)
+
+meets : (c : Case) → computed c ≡ true → Meets c
+meets c e =
+    let s : Sheet = sheetOf (c .sheet) in
+    let accepted : Bool = isAccepted (reading (c .sheet)) in
+    let fits : Bool = withinScopes s (c .instance) in
+    let agrees : Bool = same (holds s (c .instance), c .satisfied) in
+    verdict (holds s (c .instance)) (c .satisfied) (Satisfies s (c .instance))
+    (holds-satisfies s (accepted-sound (c .sheet) (and-left accepted (fits && agrees) e)) (c .instance))
+    (and-right fits agrees (and-right accepted (fits && agrees) e))
+
+pub worked : (i : ℕ) → i < length cases → Meets (getD cases i (row [] [] true))
+worked i h = meets (getD cases i (row [] [] true)) (all-at computed cases all-computed i (row [] [] true) h)
+
+-- at scope 5 it takes three rounds: after two no atom of the ring has come back to itself
+abbrev ringMatrix : Matrix Bool
+ringMatrix = relationOf 5 5 (map (λ (b : ℕ). eqb b 1) ring)
+
+pub three-rounds : rounds 5 ≡ 3
+unfolding rounds
+three-rounds = refl
+
+pub two-do-not-reach : getD (afterRounds 2 ringMatrix .cells) 0 true ≡ false
+unfolding any
+two-do-not-reach = refl
+
+pub three-do : getD (afterRounds 3 ringMatrix .cells) 0 false ≡ true
+unfolding any
+three-do = refl
