@@ -1,12 +1,13 @@
 -- An array of 64 flags that a loop fills from the front, and the matrix that it stands for.
-use mathlib.Core.Path.{_≡_, refl, sym, ap, _∙_, subst}
+use mathlib.Core.Path.{_≡_, refl, sym, ap, _∙_, subst, fun-ext}
 use mathlib.Core.Bool.{Bool, true, false}
 use mathlib.Core.Logic.{_⊎_, ⊎-elim}
 use mathlib.Core.List.{List, map}
 use Prim.Native.Nat.{ℕ, zero, suc, _+_, _*_, _/_, _%_, _<_, _≤_}
-use native.Mathlib.Nat.{eq-or-lt-of-le, mul-le-mul, mod-lt, div-add-mod', div-lt-iff-lt-mul}
+use native.Mathlib.Nat.{eq-or-lt-of-le, mul-le-mul, mul-le-mul-right, mod-lt, div-add-mod', div-lt-iff-lt-mul}
+use native.Mathlib.Decide.{decLt}
 use native.Mathlib.Omega.{arith}
-use lib.ListN.{length, getD, set, take, replicate, length-set, getD-replicate, length-replicate, List·getD-eq-default}
+use lib.ListN.{length, getD, set, take, replicate, length-set, getD-replicate, length-replicate, List·getD-eq-default, length-take}
 use lib.Seq.{getD-set-same, getD-set-other, getD-take, length-take-le, ext-getD}
 use Rattle.relational.specs.Matrices.{Matrix, upto, Place, places, cellAt}
 use Rattle.relational.proofs.Places.{length-map-from, upto-at, length-places, places-at}
@@ -15,6 +16,9 @@ use Rattle.matrix.specs.Values.{matrixOf, Fine}
 
 pub small-product : (rows columns : ℕ) → rows ≤ 8 → columns ≤ 8 → rows * columns ≤ 64
 small-product rows columns h g = mul-le-mul h g
+
+pub small-index : (i columns j : ℕ) → i < 8 → columns ≤ 8 → j < columns → i * columns + j < 64
+small-index i columns j h g l = omega (arith, mul-le-mul-right columns h)
 
 -- ---- filled up to k with what f says, false from there on
 pub record Filled (cells : List Bool) (f : ℕ → Bool) (k : ℕ) : Type 0 where
@@ -59,7 +63,7 @@ module _ (cells : List Bool) (f : ℕ → Bool) (n : ℕ) (u : Filled cells f n)
 
 -- ---- a place's number, and back
 module _ (r c k : ℕ) (h : k < r * c) where
-  some-column : 0 < c
+  pub some-column : 0 < c
   some-column = go c refl
     where
       go : (d : ℕ) → c ≡ d → 0 < d
@@ -67,7 +71,7 @@ module _ (r c k : ℕ) (h : k < r * c) where
       go (suc d) e = omega arith
 
   pub row-below : k / c < r
-  row-below = div-lt-iff-lt-mul some-column .mpr h
+  row-below = div-lt-iff-lt-mul some-column .1 h
 
   pub column-below : k % c < c
   column-below = mod-lt k some-column
@@ -81,20 +85,19 @@ filled-places cells r c g u small =
     ∙ ap (λ (i : ℕ). getD (map g (places r c)) i false) (div-add-mod' k c))
 
 -- ---- a cell of a value is a cell of its matrix
-pub cell-of : (v : Value) → Fine v → (k : ℕ) → cellAt false (matrixOf v) k ≡ getD (v .cells) k false
-cell-of v f k = ⊎-elim inside outside (split k (v .rows * v .columns))
-  where
-    n : ℕ
-    n = v .rows * v .columns
+module _ (v : Value) (f : Fine v) where
+  cell-of : (k : ℕ) → cellAt false (matrixOf v) k ≡ getD (v .cells) k false
+  cell-of k = go (decLt k n)
+    where
+      n : ℕ
+      n = v .rows * v .columns
 
-    split : (i m : ℕ) → (i < m) ⊎ (m ≤ i)
-    split i m = ?
+      short : length (take n (v .cells)) ≤ n
+      short = rw (length-take n (v .cells)) (omega arith)
 
-    inside : k < n → getD (take n (v .cells)) k false ≡ getD (v .cells) k false
-    inside l = getD-take n (v .cells) k false l
+      go : Dec (k < n) → getD (take n (v .cells)) k false ≡ getD (v .cells) k false
+      go (yes l) = getD-take n (v .cells) k false l
+      go (no l) = List·getD-eq-default (take n (v .cells)) false (omega (arith, short)) ∙ sym (f .rest k (omega arith))
 
-    outside : n ≤ k → getD (take n (v .cells)) k false ≡ getD (v .cells) k false
-    outside l = List·getD-eq-default (take n (v .cells)) false (omega (arith, short)) ∙ sym (f .rest k l)
-      where
-        short : length (take n (v .cells)) ≤ n
-        short = ?
+  pub cells-of : _≡_ {A = ℕ → Bool} (λ k. cellAt false (matrixOf v) k) (λ k. getD (v .cells) k false)
+  cells-of = fun-ext cell-of

@@ -36,3 +36,7 @@ testBy kind n = cond (eqb kind 22) (leb 1 n) (cond (eqb kind 23) (eqb n 0) (leb 
 -- 31 to 34
 unfoldable pub connectiveBy : ℕ → Bool × Bool → Bool
 connectiveBy kind t = cond (eqb kind 31) (both t) (cond (eqb kind 32) (either t) (cond (eqb kind 33) (implies t) (same t)))
+
+-- a row of n values under multiplicity 0, 1, 2
+unfoldable pub rowBy : ℕ → ℕ → Bool
+rowBy mark n = cond (eqb mark 0) true (cond (eqb mark 1) (leb n 1) (eqb n 1))
