@@ -20,7 +20,7 @@ use Rattle.relational.proofs.Evaluates.{flags-at}
 
 module _ (sheet : Sheet) (instance : List ℕ) where
   -- marks speak of values that are the same
-  marked-same : (m : ℕ) (P Q : Atom → Type 0) → ((j : Atom) → P j ↔ Q j) → Marked sheet instance m P → Marked sheet instance m Q
+  marked-same : (m : ℕ) (P Q : Atom → Type 0) → ((j : Atom) → P j ↔ Q j) → Marked m P → Marked m Q
   marked-same zero P Q f x = tt
   marked-same (suc zero) P Q f x = λ i j a b. x i j (f i .1 a) (f j .1 b)
   marked-same (suc (suc m)) P Q f x = ((λ i j a b. x .0 i j (f i .1 a) (f j .1 b)), (x .1 .0, f (x .1 .0) .0 (x .1 .1)))
@@ -40,7 +40,7 @@ module _ (sheet : Sheet) (instance : List ℕ) where
           let l : j < c = omega (arith, beyond (rowFlags a c) j e, length-map-from (flagAt sheet instance) a c) in
           (l, flags-at sheet instance a c j l .0 e)
 
-  row-marked : (m a c : ℕ) → Is (rowHolds sheet instance m (rowFlags a c)) (Marked sheet instance m (InRow a c))
+  row-marked : (m a c : ℕ) → Is (rowHolds sheet instance m (rowFlags a c)) (Marked m (InRow a c))
   row-marked m a c = recast (by-flags m) (marked-same m Flag (InRow a c) (in-row a c), marked-same m (InRow a c) Flag back)
     where
       Flag : Atom → Type 0
@@ -49,14 +49,14 @@ module _ (sheet : Sheet) (instance : List ℕ) where
       back : (j : Atom) → InRow a c j ↔ Flag j
       back j = (in-row a c j .1, in-row a c j .0)
 
-      by-flags : (m : ℕ) → Is (rowHolds sheet instance m (rowFlags a c)) (Marked sheet instance m Flag)
+      by-flags : (m : ℕ) → Is (rowHolds sheet instance m (rowFlags a c)) (Marked m Flag)
       by-flags zero = ((λ e. tt), λ x. refl)
       by-flags (suc zero) = is-lone (rowFlags a c)
       by-flags (suc (suc m)) = is-one (rowFlags a c)
 
   module _ (r : ℕ) where
     abbrev RowMarked : ℕ → Type 0
-    RowMarked i = Marked sheet instance (multiplicity sheet r) (InRow (cell sheet r i 0) (rowLength sheet r))
+    RowMarked i = Marked (multiplicity sheet r) (InRow (cell sheet r i 0) (rowLength sheet r))
 
     -- the values in a row's cells are those that the instance gives
     values-of-set : columns sheet r ≡ 1 → (j : Atom) → InRow (cell sheet r 0 0) (rowLength sheet r) j ↔ Given sheet instance r (one j)

@@ -40,7 +40,7 @@ Combined join P Q (two i j) = (k : Atom) × P (two i k) × Q (two k j)
 Combined product P Q (one i) = ⊥
 Combined product P Q (two i j) = P (one i) × Q (one j)
 
--- "pairs joined by a path of one or more steps"
+-- "pairs joined by a path of one or more steps" (the source's sum p.p + p.p.p + ... starts at two; document 01 counts from one)
 pub data Path (R : Atom → Atom → Type 0) : Atom → Atom → Type 0 where
   last : {i j : Atom} → R i j → Path R i j
   next : {i k j : Atom} → R i k → Path R k j → Path R i j
@@ -72,6 +72,15 @@ Connected equivalence P Q = P ↔ Q
 abbrev pub Quantified : Quantifier → (Atom → Type 0) → (Atom → Type 0) → Type 0
 Quantified for-all Range P = (v : Atom) → Range v → P v
 Quantified for-some Range P = (v : Atom) × Range v × P v
+
+-- "Mark 0 is free, 1 at most one value, 2 exactly one."
+abbrev pub AtMostOne : (Atom → Type 0) → Type 0
+AtMostOne P = (i j : Atom) → P i → P j → i ≡ j
+
+abbrev pub Marked : ℕ → (Atom → Type 0) → Type 0
+Marked zero P = Unit {0}
+Marked (suc zero) P = AtMostOne P
+Marked (suc (suc m)) P = AtMostOne P × ((i : Atom) × P i)
 
 module _ (sheet : Sheet) where
   -- "All atoms of a sort exist."
@@ -112,21 +121,12 @@ module _ (sheet : Sheet) (instance : List ℕ) where
     Holds (connective o f g) env = Connected o (Holds f env) (Holds g env)
     Holds (quantified q x f) env = Quantified q (IsAtom sheet (sortOf sheet x)) (λ v. Holds f (bind env x v))
 
-  -- "Mark 0 is free, 1 at most one value, 2 exactly one."
-  abbrev pub AtMostOne : (Atom → Type 0) → Type 0
-  AtMostOne P = (i j : Atom) → P i → P j → i ≡ j
-
-  abbrev pub Marked : ℕ → (Atom → Type 0) → Type 0
-  Marked zero P = Unit {0}
-  Marked (suc zero) P = AtMostOne P
-  Marked (suc (suc m)) P = AtMostOne P × ((i : Atom) × P i)
-
   -- "For a relation the mark holds for each atom of the first sort; a set is a single row."
   pub record Marks (r : ℕ) : Type 0 where
     pub set : columns sheet r ≡ 1 → Marked (multiplicity sheet r) (λ j. Given r (one j))
     pub rows : columns sheet r ≡ 2 → (i : Atom) → IsAtom sheet (firstSort sheet r) i → Marked (multiplicity sheet r) (λ j. Given r (two i j))
 
-  -- the root; no variable is free in it, so its environment does not matter (proofs/Free)
+  -- the root; no variable is free in it, so its environment does not matter (any-environment of proofs/Satisfaction)
   abbrev pub IsTrue : Tree → Type 0
   IsTrue (expression e) = ⊥
   IsTrue (formula f) = Holds f (λ x. 0)

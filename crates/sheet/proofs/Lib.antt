@@ -1,1 +1,8 @@
 mod Loops
+pub mod TableLaws
+mod FillingLaws
+mod Visits
+mod Verdicts
+mod Counts
+pub mod Acceptance
+mod Parts

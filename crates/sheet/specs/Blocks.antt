@@ -39,14 +39,12 @@ pub record Sheet : Type 0 where
   pub relations : List ℕ
   pub nodes : List ℕ
 
+abbrev pub fourBlocks : List ℕ → List ℕ → List ℕ → List ℕ → Sheet
+fourBlocks sorts variables relations nodes =
+    record { sorts = sorts; variables = variables; relations = relations; nodes = nodes }
+
 abbrev pub sheetOf : List ℕ → Sheet
-sheetOf s =
-    record {
-      sorts = blockAt s 1;
-      variables = blockAt s (variablesHead s);
-      relations = blockAt s (relationsHead s);
-      nodes = blockAt s (nodesHead s);
-    }
+sheetOf s = fourBlocks (blockAt s 1) (blockAt s (variablesHead s)) (blockAt s (relationsHead s)) (blockAt s (nodesHead s))
 
 module _ (sheet : Sheet) where
   -- "Sorts, 1 to 8, one byte each: the scope"

@@ -1,5 +1,5 @@
 -- When a sheet is refused: numbers 1 to 9 (document 01, "Answers that decline"), one condition for each.
-use mathlib.Core.Bool.{Bool, true, false, not, _&&_, _||_, cond}
+use mathlib.Core.Bool.{Bool, true, false, not, _&&_, cond}
 use mathlib.Core.List.{List}
 use Prim.Native.Nat.{ℕ, _+_, _%_}
 use lib.Dec.{eqb, ltb, leb}
@@ -12,16 +12,16 @@ use Rattle.sheet.specs.declared.shapes.Shape.the-variants.{Ill}
 use Rattle.sheet.specs.declared.Layout.{Layout}
 use Rattle.sheet.specs.declared.Reading.{Reading}
 use Rattle.sheet.specs.declared.Reading.the-variants.{Accepted, Refused}
-use Rattle.sheet.specs.Blocks.{Sheet, byte, lengthAt, variablesHead, relationsHead, nodesHead, blocksEnd, sheetOf, sortCount, scope, variableCount, sortOf, relationCount, columns, multiplicity, firstSort, secondSort, nodeCount, kind, fieldA, fieldB, root}
+use Rattle.sheet.specs.Blocks.{Sheet, byte, blocksEnd, sheetOf, sortCount, scope, variableCount, sortOf, relationCount, columns, multiplicity, firstSort, secondSort, nodeCount, kind, fieldA, fieldB, root}
 use Rattle.kinds.specs.Kinds.{rowOf, isKnown}
 use Rattle.sheet.specs.Shapes.{isFormula, isShaped}
 use Rattle.sheet.specs.Tables.{shapes, free, visits}
 
--- 1 VERSION: "no byte, or byte 0 is not 1" (no byte counts as 0)
-abbrev pub badVersion : List ℕ → Bool
-badVersion s = not (eqb (byte s 0) 1)
+-- 1 VERSION, unless: "no byte, or byte 0 is not 1" (no byte counts as 0)
+abbrev pub versioned : List ℕ → Bool
+versioned s = eqb (byte s 0) 1
 
--- 2 LENGTH: "blocks don't fill the sheet, or a block is no whole count of records"
+-- 2 LENGTH, unless: "blocks don't fill the sheet, or a block is no whole count of records"
 -- (a length that is cut short or lies past the end leaves the blocks' end past the sheet's)
 abbrev pub filled : List ℕ → Bool
 filled s = eqb (blocksEnd s) (length s)
@@ -29,21 +29,18 @@ filled s = eqb (blocksEnd s) (length s)
 abbrev pub whole : Sheet → Bool
 whole sheet = eqb (length (sheet .relations) % 4) 0 && eqb (length (sheet .nodes) % 3) 0
 
-abbrev pub badLength : List ℕ → Bool
-badLength s = not (filled s && whole (sheetOf s))
-
 module _ (sheet : Sheet) where
-  -- 3 COUNT: "a block's record count is outside its range"
+  -- 3 COUNT, unless: "a block's record count is outside its range"
   unfoldable pub counted : Bool
   counted =
       between 1 8 (sortCount sheet)
       && (leb (variableCount sheet) 4 && (between 1 16 (relationCount sheet) && between 1 200 (nodeCount sheet)))
 
-  -- 4 SCOPE: "a scope is outside 1 to 8"
+  -- 4 SCOPE, unless: "a scope is outside 1 to 8"
   unfoldable pub scoped : Bool
   scoped = each (sortCount sheet) (λ k. between 1 8 (scope sheet k))
 
-  -- 5 DECLARATION: "a missing sort, bad columns or mark, or a set's last byte not 0"
+  -- 5 DECLARATION, unless: "a missing sort, bad columns or mark, or a set's last byte not 0"
   abbrev pub isSort : ℕ → Bool
   isSort k = ltb k (sortCount sheet)
 
@@ -58,7 +55,7 @@ module _ (sheet : Sheet) where
   declared =
       each (variableCount sheet) (λ x. isSort (sortOf sheet x)) && each (relationCount sheet) relationDeclared
 
-  -- 6 NODE: "unknown kind, filled unused field, missing item, node operand not lower"
+  -- 6 NODE, unless: "unknown kind, filled unused field, missing item, node operand not lower"
   -- field x of node v, by what it names
   abbrev pub fieldFine : Field → ℕ → ℕ → Bool
   fieldFine Unused v x = eqb x 0
@@ -75,44 +72,60 @@ module _ (sheet : Sheet) where
   unfoldable pub nodesFine : Bool
   nodesFine = each (nodeCount sheet) nodeFine
 
-  -- 7 SHAPE: "operands of a shape the kind doesn't take"; nodes that the root does not reach too
+  -- 7 SHAPE, unless: "operands of a shape the kind doesn't take"; nodes that the root does not reach too
   unfoldable pub shaped : Bool
   shaped = each (nodeCount sheet) (λ v. isShaped (getD (shapes sheet) v Ill))
 
-  -- 8 ROOT: "the root is no formula, or a variable is unbound on some path down from it"
+  -- 8 ROOT, unless: "the root is no formula, or a variable is unbound on some path down from it"
   unfoldable pub rooted : Bool
   rooted =
       isFormula (getD (shapes sheet) (root sheet) Ill)
       && each (variableCount sheet) (λ x. not (getD (free sheet x) (root sheet) false))
 
-  -- 9 WALK: "more than 1,000,000 node visits in the root's walk, the root's own included"
+  -- 9 WALK, unless: "more than 1,000,000 node visits in the root's walk, the root's own included"
   unfoldable pub walkable : Bool
   walkable = leb (getD (visits sheet) (root sheet) 0) 1000000
 
--- where each block stands and how many records it has
-abbrev pub layoutOf : List ℕ → Layout
-layoutOf s =
-    record {
-      sorts = record { start = 3; count = sortCount (sheetOf s) };
-      variables = record { start = variablesHead s + 2; count = variableCount (sheetOf s) };
-      relations = record { start = relationsHead s + 2; count = relationCount (sheetOf s) };
-      nodes = record { start = nodesHead s + 2; count = nodeCount (sheetOf s) };
-    }
+  -- where each block stands and how many records it has: "each headed by its length in bytes (two bytes ..)"
+  abbrev pub layoutOf : Layout
+  layoutOf =
+      let variables = 3 + length (sheet .sorts) + 2 in
+      let relations = variables + length (sheet .variables) + 2 in
+      let nodes = relations + length (sheet .relations) + 2 in
+      record {
+        sorts = record { start = 3; count = sortCount sheet };
+        variables = record { start = variables; count = variableCount sheet };
+        relations = record { start = relations; count = relationCount sheet };
+        nodes = record { start = nodes; count = nodeCount sheet };
+      }
 
 -- "Tested in this order, each over all of its input"
 abbrev pub unless : Bool → Refusal → Reading → Reading
 unless true r next = next
 unless false r next = Refused r
 
-unfoldable pub reading : List ℕ → Reading
-reading s =
-    let sheet = sheetOf s in
-    unless (not (badVersion s)) Refusal.Version
-    (unless (not (badLength s)) Refusal.Length
-    (unless (counted sheet) Refusal.Count
-    (unless (scoped sheet) Refusal.Scope
-    (unless (declared sheet) Refusal.Declaration
-    (unless (nodesFine sheet) Refusal.Node
-    (unless (shaped sheet) Refusal.Shape
+-- 7 to 9
+abbrev pub walkJudged : Sheet → Reading
+walkJudged sheet =
+    unless (shaped sheet) Refusal.Shape
     (unless (rooted sheet) Refusal.Root
-    (unless (walkable sheet) Refusal.Walk (Accepted (layoutOf s))))))))))
+    (unless (walkable sheet) Refusal.Walk (Accepted (layoutOf sheet))))
+
+-- 6 to 9, 5 to 9, and so on
+abbrev pub nodeJudged : Sheet → Reading
+nodeJudged sheet = unless (nodesFine sheet) Refusal.Node (walkJudged sheet)
+
+abbrev pub declarationJudged : Sheet → Reading
+declarationJudged sheet = unless (declared sheet) Refusal.Declaration (nodeJudged sheet)
+
+abbrev pub scopeJudged : Sheet → Reading
+scopeJudged sheet = unless (scoped sheet) Refusal.Scope (declarationJudged sheet)
+
+abbrev pub countJudged : Sheet → Reading
+countJudged sheet = unless (counted sheet) Refusal.Count (scopeJudged sheet)
+
+abbrev pub wholeJudged : Sheet → Reading
+wholeJudged sheet = unless (whole sheet) Refusal.Length (countJudged sheet)
+
+unfoldable pub reading : List ℕ → Reading
+reading s = unless (versioned s) Refusal.Version (unless (filled s) Refusal.Length (wholeJudged (sheetOf s)))

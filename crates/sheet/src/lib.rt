@@ -3,6 +3,7 @@ ghost use mathlib.Core.Path.{_≡_};
 ghost use Rattle.sheet.specs.Reading.{reading};
 use bytes::after;
 use bytes::byte;
+use judge::judge_blocks;
 use refusal::Refusal;
 
 pub mod bytes; // bytes.rt: bytes, lengths, tests
@@ -28,4 +29,29 @@ pub struct Layout {
 pub enum Reading {
     Accepted(Layout),
     Refused(Refusal),
+}
+
+// Refused by the first number that applies, else accepted. Each block goes to its reader as the part of the sheet where it stands.
+pub fn read(sheet: &[u8]) -> Reading
+    ensures { λ r. ⌜ r ≡ reading (now (sheet .entry)) ⌝ }
+{
+    if byte(sheet, 0) != 1 {
+        return Reading::Refused(Refusal::Version);
+    }
+    let variables = after(sheet, 1);
+    let relations = after(sheet, variables);
+    let nodes = after(sheet, relations);
+    let end = after(sheet, nodes);
+    if end != sheet.len() {
+        return Reading::Refused(Refusal::Length);
+    }
+    let a = variables + 2;
+    let b = relations + 2;
+    let c = nodes + 2;
+    judge_blocks(
+        &sheet[3..variables],
+        &sheet[a..relations],
+        &sheet[b..nodes],
+        &sheet[c..end],
+    )
 }

@@ -1,0 +1,162 @@
+-- The invariant: the array holds the visits of the nodes passed, capped.
+use borrow.Author.Needs.{needs}
+use mathlib.Core.Path.{_≡_, refl, _∙_, sym, ap}
+use Prim.Native.Nat.{ℕ, _≤_, _-_, _/_}
+use mathlib.Core.List.{List, []}
+use native.Mathlib.Omega.{arith}
+use lib.ListN.{length, getD, length-set, length-replicate}
+use Rattle.sheet.specs.Blocks.{Sheet, scope, sortOf, kind, fieldA, fieldB}
+use Rattle.kinds.specs.Kinds.{rowOf}
+use Rattle.sheet.specs.Filling.{Fills, capped}
+use Rattle.sheet.proofs.FillingLaws.{fills-none, fills-more}
+use Rattle.sheet.specs.Tables.{table, visitsStep}
+use Rattle.sheet.proofs.Visits.{capped-le, capped-visits}
+use Rattle.sheet.proofs.tables.visits_of.Statement.{statement}
+use Rattle.sheet.proofs.tables.visits_of.Tie as tie
+
+abbrev Inv-loop : tie.InvT-loop
+Inv-loop sorts variables nodes count visits₀ v₀ visits v =
+    (v ≤ count)
+    × (length visits ≡ 200)
+    × ((sheet : Sheet) → sheet .sorts ≡ sorts → sheet .variables ≡ variables → sheet .nodes ≡ nodes
+    → Fills capped 0 (table (visitsStep sheet) v) visits)
+
+abbrev μ-loop : tie.MeasureT-loop
+μ-loop sorts variables nodes count visits₀ v₀ visits v = count - v
+
+loop-holds : tie.Need-loop-holds Inv-loop μ-loop
+loop-holds c = (omega arith, length-replicate {A = ℕ} 200 0, λ sheet s x n. fills-none capped 0 _ 200)
+
+mul-byte : tie.Need-mul-byte Inv-loop μ-loop
+mul-byte c = omega arith
+
+byte-requires : tie.Need-byte-requires Inv-loop μ-loop
+byte-requires c κs = search needs
+
+row-of-requires : tie.Need-row-of-requires Inv-loop μ-loop
+row-of-requires c κs = search needs
+
+mul-byte-2 : tie.Need-mul-byte-2 Inv-loop μ-loop
+mul-byte-2 c = omega arith
+
+add-byte : tie.Need-add-byte Inv-loop μ-loop
+add-byte c = omega arith
+
+byte-requires-2 : tie.Need-byte-requires-2 Inv-loop μ-loop
+byte-requires-2 c κs = search needs
+
+mul-byte-3 : tie.Need-mul-byte-3 Inv-loop μ-loop
+mul-byte-3 c = omega arith
+
+add-byte-2 : tie.Need-add-byte-2 Inv-loop μ-loop
+add-byte-2 c = omega arith
+
+byte-requires-3 : tie.Need-byte-requires-3 Inv-loop μ-loop
+byte-requires-3 c κs = search needs
+
+byte-requires-4 : tie.Need-byte-requires-4 Inv-loop μ-loop
+byte-requires-4 c κs = search needs
+
+byte-requires-5 : tie.Need-byte-requires-5 Inv-loop μ-loop
+byte-requires-5 c κs = search needs
+
+count-at-requires : tie.Need-count-at-requires Inv-loop μ-loop
+count-at-requires c κs = search needs
+
+count-at-requires-2 : tie.Need-count-at-requires-2 Inv-loop μ-loop
+count-at-requires-2 c κs = search needs
+
+-- no entry of the array is large
+entry-low : (c : tie.After-count-at2 Inv-loop μ-loop) (i : ℕ) → getD (c .before .before .before .before .before .before .before .before .before .loop .visits) i 0 ≤ 1000001
+entry-low c i =
+    let a = c .before .before .before .before .before .before .before .before .before .before .before .before .before .args in
+    let sheet : Sheet = record { sorts = a .sorts .now; variables = a .variables .now; relations = []; nodes = a .nodes .now } in
+    rw (c .before .before .before .before .before .before .before .before .before .loop .inv .2 sheet refl refl refl .at i) (capped-le _)
+
+visits-by-requires : tie.Need-visits-by-requires Inv-loop μ-loop
+visits-by-requires c κs =
+    (omega (arith, c .before .before .byte5 .ensures .1), rw (c .before .count-at .ensures) (entry-low c _), rw (c .count-at2 .ensures) (entry-low c _))
+
+mul-visits : tie.Need-mul-visits Inv-loop μ-loop
+mul-visits c = search needs
+
+array-write-visits : tie.Need-array-write-visits Inv-loop μ-loop
+array-write-visits c = omega arith
+
+add-v : tie.Need-add-v Inv-loop μ-loop
+add-v c = omega arith
+
+loop-less : tie.Need-loop-less Inv-loop μ-loop
+loop-less c = omega arith
+
+-- a step reads the array where the definition reads the table, and what was capped may be capped after
+same-step : (sheet : Sheet) (v : ℕ) (entries array : List ℕ) → Fills capped 0 entries array
+    → capped (visitsStep sheet v array) ≡ capped (visitsStep sheet v entries)
+unfolding visitsStep
+same-step sheet v entries array f =
+    rw (f .at (fieldA sheet v), f .at (fieldB sheet v))
+    (capped-visits (rowOf (kind sheet v)) (scope sheet (sortOf sheet (fieldA sheet v)))
+    (getD entries (fieldA sheet v) 0) (getD entries (fieldB sheet v) 0))
+
+found : (c : tie.After-visits-by Inv-loop μ-loop) (sheet : Sheet) → sheet .sorts ≡ c .before .before .before .before .before .before .before .before .before .before .before .before .before .before .args .sorts .now
+    → sheet .variables ≡ c .before .before .before .before .before .before .before .before .before .before .before .before .before .before .args .variables .now → sheet .nodes ≡ c .before .before .before .before .before .before .before .before .before .before .before .before .before .before .args .nodes .now
+    → c .visits-by .result ≡ capped (visitsStep sheet (c .before .before .before .before .before .before .before .before .before .before .loop .v) (c .before .before .before .before .before .before .before .before .before .before .loop .visits))
+unfolding visitsStep
+found c sheet s x n =
+    rw (
+      n,
+      x,
+      s,
+      ← c .before .before .before .before .before .before .before .before .byte .ensures .0,
+      ← c .before .before .before .before .before .before .before .row-of .ensures,
+      ← c .before .before .before .before .before .before .byte2 .ensures .0,
+      ← c .before .before .before .before .before .byte3 .ensures .0,
+      ← c .before .before .before .before .byte4 .ensures .0,
+      ← c .before .before .before .byte5 .ensures .0,
+      ← c .before .before .count-at .ensures,
+      ← c .before .count-at2 .ensures,
+    )
+    (c .visits-by .ensures)
+
+loop-again : tie.Need-loop-again Inv-loop μ-loop
+loop-again c =
+    let l = c .before .before .before .before .before .before .before .before .before .before .loop in (
+      omega arith,
+      simp length-set (l .inv .1),
+      λ sheet s x n. fills-more capped 0 (visitsStep sheet) (l .v) (l .visits) (c .visits-by .result) (omega arith) (l .inv .2 sheet s x n)
+          (found c sheet s x n ∙ same-step sheet (l .v) _ (l .visits) (l .inv .2 sheet s x n)),
+    )
+
+returns : tie.Need-returns Inv-loop μ-loop
+returns c sheet s x n =
+    let l = c .before .loop in
+    let q : l .v ≡ length (sheet .nodes) / 3 = rw n (omega arith) in
+    rw (← q) (l .inv .2 sheet s x n)
+
+pub visits-of-spec : {M : Type 1} → statement M
+visits-of-spec =
+    tie.close
+    (tie.spec
+    Inv-loop
+    μ-loop
+    loop-holds
+    mul-byte
+    byte-requires
+    row-of-requires
+    mul-byte-2
+    add-byte
+    byte-requires-2
+    mul-byte-3
+    add-byte-2
+    byte-requires-3
+    byte-requires-4
+    byte-requires-5
+    count-at-requires
+    count-at-requires-2
+    visits-by-requires
+    mul-visits
+    array-write-visits
+    add-v
+    loop-less
+    loop-again
+    returns)
