@@ -15,7 +15,7 @@ use Rattle.sheet.specs.Reading.{reading}
 use Rattle.relational.specs.Trees.{Expression, Formula}
 use Rattle.relational.specs.Meaning.{Environment}
 use Rattle.relational.specs.Evaluation.{valueOf, truthOf}
-use Rattle.relational.proofs.Accepted.{isAccepted, accepted-holds}
+use Rattle.relational.proofs.Accepted.{accepted-holds}
 use Rattle.clauses.specs.Builder.{Gate, Built}
 use Rattle.clauses.specs.Gates.{gateClauses, gatesClauses}
 use Rattle.clauses.specs.Translation.{translate, translateFormula}
@@ -90,4 +90,4 @@ module _ (s : List ℕ) (layout : Layout) (accepted : reading s ≡ Accepted lay
   -- `listed`: the search takes the clauses as they are written, where they fit the limits
   pub listed : variableTotal (sheetOf s) ≤ 16000 → wordTotal (sheetOf s) ≤ 2147483647
       → isList (variableTotal (sheetOf s)) (words (sheetOf s)) ≡ true
-  listed = words-listed (sheetOf s) (accepted-rows s (ap isAccepted accepted))
+  listed = words-listed (sheetOf s) (accepted-rows s layout accepted)

@@ -6,3 +6,4 @@ mod Verdicts
 mod Counts
 pub mod Acceptance
 mod Parts
+pub mod Cases

@@ -1,0 +1,87 @@
+-- Calls on K1 to K4 of document 01, and refusals, computed by the definitions: one theorem over all rows.
+use mathlib.Core.Path.{_≡_, refl}
+use mathlib.Core.List.{List, [], _∷_, map}
+use Prim.Native.Nat.{ℕ}
+use lib.IntN.{ℤ, pos, negsuc}
+use Rattle.prelude.specs.Tests.{all, any}
+use Rattle.clause_list.specs.ClauseList.{cut, wellCut, isList}
+use Rattle.search_rules.specs.Rules.{truthOf, negated, literal, isFalsified, isSatisfied, conflict, openOf, sameLiteral, only, unitOf}
+use Rattle.search_rules.specs.Rules.{firstUnit, lowestOpen, wordOf, byteOf, placeOf, valuesOf, trailOf, turn, decide, next}
+use Rattle.search_rules.specs.Run.{total, count, run}
+use Rattle.search.specs.Answers.{Answer, found, none, spent, refused, answerAt, valuesAt, trailAt, outcome}
+
+-- what is lent is one byte and one word longer than v asks for
+record Row : Type 0 where
+  list : List ℤ
+  v : ℕ
+  budget : ℕ
+  answer : Answer
+  values : List ℕ
+  trail : List ℤ
+
+-- (1) (4 -2) (4 -3) (-4 2 3) (4)
+abbrev k1 : List ℤ
+k1 = pos 1 ∷ pos 1 ∷ pos 2 ∷ pos 4 ∷ negsuc 1 ∷ pos 2 ∷ pos 4 ∷ negsuc 2 ∷ pos 3 ∷ negsuc 3 ∷ pos 2 ∷ pos 3 ∷ pos 1 ∷ pos 4 ∷ []
+
+-- (1) (-2 -3) (2 3) (4 -2) (4 -3) (-4 2 3) and the root's literal
+abbrev k2 : ℤ → List ℤ
+k2 root =
+    pos 1 ∷ pos 1 ∷ pos 2 ∷ negsuc 1 ∷ negsuc 2 ∷ pos 2 ∷ pos 2 ∷ pos 3 ∷ pos 2 ∷ pos 4 ∷ negsuc 1 ∷ pos 2 ∷ pos 4 ∷ negsuc 2
+    ∷ pos 3 ∷ negsuc 3 ∷ pos 2 ∷ pos 3 ∷ pos 1 ∷ root ∷ []
+
+abbrev lentValues : List ℕ
+lentValues = 7 ∷ 7 ∷ 7 ∷ 7 ∷ 9 ∷ []
+
+abbrev lentTrail : List ℤ
+lentTrail = pos 7 ∷ pos 7 ∷ pos 7 ∷ pos 7 ∷ pos 9 ∷ []
+
+abbrev rows : List Row
+rows =
+    record {
+      list = k1;
+      v = 4;
+      budget = 1000000;
+      answer = found 4;
+      values = 1 ∷ 0 ∷ 1 ∷ 1 ∷ 9 ∷ [];
+      trail = pos 1 ∷ pos 4 ∷ negsuc 1 ∷ pos 3 ∷ pos 9 ∷ [];
+    }
+    ∷ record {
+      list = k2 (pos 4);
+      v = 4;
+      budget = 1000000;
+      answer = found 4;
+      values = 1 ∷ 0 ∷ 1 ∷ 1 ∷ 9 ∷ [];
+      trail = pos 1 ∷ pos 4 ∷ negsuc 1 ∷ pos 3 ∷ pos 9 ∷ [];
+    }
+    ∷ record {
+      list = k2 (negsuc 3);
+      v = 4;
+      budget = 1000000;
+      answer = none 4;
+      values = 2 ∷ 2 ∷ 2 ∷ 2 ∷ 9 ∷ [];
+      trail = pos 0 ∷ pos 0 ∷ pos 0 ∷ pos 0 ∷ pos 9 ∷ [];
+    }
+    ∷ record {
+      list = k1;
+      v = 4;
+      budget = 3;
+      answer = spent 3;
+      values = 1 ∷ 3 ∷ 2 ∷ 1 ∷ 9 ∷ [];
+      trail = pos 1 ∷ pos 4 ∷ negsuc 1 ∷ pos 0 ∷ pos 9 ∷ [];
+    }
+    -- 12: v of 0 and past 16,000, a count past the end, a literal 0 and one beyond v; 13: a slice of 5 where 6 are needed
+    ∷ record { list = []; v = 0; budget = 1; answer = refused 12; values = lentValues; trail = lentTrail }
+    ∷ record { list = []; v = 16001; budget = 1; answer = refused 12; values = lentValues; trail = lentTrail }
+    ∷ record { list = pos 2 ∷ pos 1 ∷ []; v = 4; budget = 1; answer = refused 12; values = lentValues; trail = lentTrail }
+    ∷ record { list = pos 1 ∷ pos 0 ∷ []; v = 4; budget = 1; answer = refused 12; values = lentValues; trail = lentTrail }
+    ∷ record { list = pos 1 ∷ negsuc 4 ∷ []; v = 4; budget = 1; answer = refused 12; values = lentValues; trail = lentTrail }
+    ∷ record { list = pos 1 ∷ negsuc 2147483647 ∷ []; v = 4; budget = 1; answer = refused 12; values = lentValues; trail = lentTrail }
+    ∷ record { list = negsuc 0 ∷ []; v = 4; budget = 1; answer = refused 12; values = lentValues; trail = lentTrail }
+    ∷ record { list = k1; v = 6; budget = 1; answer = refused 13; values = lentValues; trail = lentTrail }
+    ∷ []
+
+pub cases : map (λ row. outcome (row .list) (row .v) lentValues lentTrail (row .budget)) rows
+    ≡ map (λ row. record { answer = row .answer; values = row .values; trail = row .trail }) rows
+unfolding truthOf negated literal isFalsified isSatisfied conflict openOf sameLiteral only unitOf firstUnit lowestOpen wordOf byteOf placeOf
+    valuesOf trailOf turn decide next total count run answerAt valuesAt trailAt outcome all any cut wellCut isList
+cases = refl

@@ -1,0 +1,4 @@
+pub mod Theorems
+pub mod Cases
+pub mod Outcomes
+mod Settled

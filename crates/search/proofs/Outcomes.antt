@@ -1,0 +1,90 @@
+-- The outcome of a call, case by case, and the end of a run as the answer that it gives.
+use mathlib.Core.Path.{_≡_, refl, _∙_, ap}
+use mathlib.Core.Bool.{Bool, true, false, cond, _&&_}
+use mathlib.Core.List.{List, _++_, map}
+use Prim.Native.Nat.{ℕ, _+_, _<_, _≤_}
+use native.Mathlib.Omega.{arith}
+use lib.Dec.{leb}
+use lib.IntN.{ℤ}
+use lib.ListN.{length, drop}
+use borrow.Author.Tests.{le-leb, lt-leb}
+use Rattle.prelude.proofs.Laws.{and-both, and-not-left, and-not-right}
+use Rattle.clause_list.specs.ClauseList.{isList}
+use Rattle.search_rules.specs.Rules.{State, settle}
+use Rattle.search_rules.specs.Run.{Tally, total, End, wasNone, wasFound, wasSpent, run}
+use Rattle.search_rules.proofs.StepView.{Ends, run-ends}
+use Rattle.search_core.specs.declared.run.End.the-variants.{None, Found, Spent}
+use Rattle.search_core.specs.declared.run.Ran.{Ran}
+use Rattle.search_core.specs.Inner.{tallyOf, tallyAt, Ended}
+use Rattle.search.specs.Answers.{Answer, found, none, spent, refused, answerAt, valuesAt, trailAt, Outcome, refuse, finish, searchRun, outcome}
+
+module _ (list : List ℤ) (v : ℕ) (values : List ℕ) (trail : List ℤ) (budget : ℕ) where
+  abbrev long : Bool
+  long = leb v (length values) && leb v (length trail)
+
+  by-tests : (b c : Bool) → isList v list ≡ b → long ≡ c
+      → outcome list v values trail budget ≡ cond b (cond c (finish v values trail (searchRun list v budget)) (refuse 13 values trail))
+          (refuse 12 values trail)
+  unfolding outcome
+  by-tests b c p q =
+      ap (λ x. cond x (cond long (finish v values trail (searchRun list v budget)) (refuse 13 values trail)) (refuse 12 values trail)) p
+      ∙ ap (λ x. cond b (cond x (finish v values trail (searchRun list v budget)) (refuse 13 values trail)) (refuse 12 values trail)) q
+
+  pub no-list : isList v list ≡ false → outcome list v values trail budget ≡ refuse 12 values trail
+  no-list p = by-tests false long p refl
+
+  pub short-values : isList v list ≡ true → length values < v → outcome list v values trail budget ≡ refuse 13 values trail
+  short-values p h = by-tests true false p (and-not-left _ _ (lt-leb v (length values) h))
+
+  pub short-trail : isList v list ≡ true → length trail < v → outcome list v values trail budget ≡ refuse 13 values trail
+  short-trail p h = by-tests true false p (and-not-right (leb v (length values)) _ (lt-leb v (length trail) h))
+
+  pub runs : isList v list ≡ true → v ≤ length values → v ≤ length trail
+      → outcome list v values trail budget ≡ finish v values trail (searchRun list v budget)
+  runs p h k = by-tests true true p (and-both _ _ (le-leb v (length values) h) (le-leb v (length trail) k))
+
+-- a refusal, as `search` ensures it
+pub declines : (n : ℕ) (values : List ℕ) (trail : List ℤ) (o : Outcome) → o ≡ refuse n values trail
+    → (refused n ≡ o .answer) × ((values ≡ o .values) × (trail ≡ o .trail))
+declines n values trail o e = rw e (refl, (refl, refl))
+
+-- the end of a run, as `search` ensures it
+pub finishes : (v : ℕ) (end : End) (values vs : List ℕ) (trail ts : List ℤ) (a : Answer) (o : Outcome) → o ≡ finish v values trail end
+    → a ≡ answerAt end → vs ≡ valuesAt v end → ts ≡ trailAt v end
+    → (a ≡ o .answer) × ((vs ++ drop v values ≡ o .values) × (ts ++ drop v trail ≡ o .trail))
+finishes v end values vs trail ts a o e p q r = rw (e, p, q, r) (refl, (refl, refl))
+
+-- a run counts at most its budget
+within : (clauses : List (List ℤ)) (v b : ℕ) (end : End) → Ends (λ t state. Unit {0}) clauses v b end → total (tallyAt end) ≤ b
+unfolding Ends
+within clauses v b (wasNone t) h = h .3
+within clauses v b (wasFound t s) h = h .2
+within clauses v b (wasSpent t s) h = let e = h .2 in omega arith
+
+pub figure-within : (clauses : List (List ℤ)) (v n : ℕ) (t : Tally) (state : State) → total (tallyAt (run clauses v n t state)) ≤ total t + n
+figure-within clauses v n t state =
+    within clauses v (total t + n) (run clauses v n t state)
+    (run-ends clauses v (λ t state. Unit {0}) (λ t state kind s p e. tt) n t state (run clauses v n t state) tt refl)
+
+-- the answers of `fresh`
+pub finish-none : (v : ℕ) (end : End) (r : Ran) (values : List ℕ) (trail : List ℤ) → Ended v end r values trail → r .end ≡ None
+    → (none (total (tallyOf (r .position))) ≡ answerAt end) × ((values ≡ valuesAt v end) × (trail ≡ trailAt v end))
+unfolding answerAt valuesAt trailAt
+finish-none v (wasNone t) r values trail h e = (ap (λ u. none (total u)) (h .tally-is), (h .stored .values-are, h .stored .trail-is))
+finish-none v (wasFound t s) r values trail h e = absurd (let d : r .end ≡ Found = h .end-is in let z : _≡_ {A = ℕ} 0 1 = cc in omega arith)
+finish-none v (wasSpent t s) r values trail h e = absurd (let d : r .end ≡ Spent = h .end-is in let z : _≡_ {A = ℕ} 0 1 = cc in omega arith)
+
+pub finish-found : (v : ℕ) (end : End) (r : Ran) (values : List ℕ) (trail : List ℤ) → Ended v end r values trail → r .end ≡ Found
+    → (found (total (tallyOf (r .position))) ≡ answerAt end) × ((map settle values ≡ valuesAt v end) × (trail ≡ trailAt v end))
+unfolding answerAt valuesAt trailAt
+finish-found v (wasNone t) r values trail h e = absurd (let d : r .end ≡ None = h .end-is in let z : _≡_ {A = ℕ} 0 1 = cc in omega arith)
+finish-found v (wasFound t s) r values trail h e =
+    (ap (λ u. found (total u)) (h .tally-is), (ap (map settle) (h .stored .values-are), h .stored .trail-is))
+finish-found v (wasSpent t s) r values trail h e = absurd (let d : r .end ≡ Spent = h .end-is in let z : _≡_ {A = ℕ} 0 1 = cc in omega arith)
+
+pub finish-spent : (v : ℕ) (end : End) (r : Ran) (values : List ℕ) (trail : List ℤ) → Ended v end r values trail → r .end ≡ Spent
+    → (spent (total (tallyOf (r .position))) ≡ answerAt end) × ((values ≡ valuesAt v end) × (trail ≡ trailAt v end))
+unfolding answerAt valuesAt trailAt
+finish-spent v (wasNone t) r values trail h e = absurd (let d : r .end ≡ None = h .end-is in let z : _≡_ {A = ℕ} 0 1 = cc in omega arith)
+finish-spent v (wasFound t s) r values trail h e = absurd (let d : r .end ≡ Found = h .end-is in let z : _≡_ {A = ℕ} 0 1 = cc in omega arith)
+finish-spent v (wasSpent t s) r values trail h e = (ap (λ u. spent (total u)) (h .tally-is), (h .stored .values-are, h .stored .trail-is))

@@ -1,0 +1,118 @@
+-- What the answer of a call means, for every list, v, values, trail and budget: over the outcome that `search` ensures.
+-- The same of the rules' run from any state, and `resume`, are in search_rules/proofs/Theorems.antt.
+use mathlib.Core.Path.{_≡_, refl, sym, _∙_, ap}
+use mathlib.Core.Bool.{Bool, true, false}
+use mathlib.Core.Logic.{_⊎_, inl, inr, ⊎-elim, _↔_}
+use mathlib.Core.List.{List, [], _++_, map}
+use mathlib.Core.Option.{some}
+use Prim.Native.Nat.{ℕ, _≤_}
+use native.Mathlib.Omega.{arith}
+use native.Mathlib.Nat.{zero-add}
+use lib.Dec.{leb}
+use lib.IntN.{ℤ}
+use lib.ListN.{length, take, drop, length-map}
+use lib.Seq.{take-at}
+use borrow.Author.Tests.{leb-true, leb-false}
+use Rattle.clause_list.specs.ClauseList.{clausesOf, isList, Satisfying}
+use Rattle.search_rules.specs.Rules.{State, valuesOf, trailOf, settle}
+use Rattle.search_rules.specs.Run.{Tally, zeros, total, End, wasNone, wasFound, wasSpent, after, EndedWithin}
+use Rattle.search_rules.proofs.Invariant.{length-values}
+use Rattle.search_rules.proofs.Ranges.{fine-list, ranged}
+use Rattle.search_rules.proofs.Theorems as rules
+use Rattle.search.specs.Answers.{Answer, found, none, spent, refused, answerAt, valuesAt, trailAt, Outcome, refuse, finish, searchRun, outcome}
+use Rattle.search.proofs.Outcomes.{no-list, short-values, short-trail, runs}
+
+module _ (list : List ℤ) (v : ℕ) (values : List ℕ) (trail : List ℤ) (budget : ℕ) where
+  abbrev call : Outcome
+  call = outcome list v values trail budget
+
+  -- a call is refused, or runs the rules
+  record Runs : Type 0 where
+    is-list : isList v list ≡ true
+    ends : call ≡ finish v values trail (searchRun list v budget)
+
+  abbrev Called : Type 0
+  Called = ((n : ℕ) × (call ≡ refuse n values trail)) ⊎ Runs
+
+  called : Called
+  called = by (isList v list) (leb v (length values)) (leb v (length trail)) refl refl refl
+    where
+      by : (p h k : Bool) → isList v list ≡ p → leb v (length values) ≡ h → leb v (length trail) ≡ k → Called
+      by false h k d e f = inl (12, no-list list v values trail budget d)
+      by true false k d e f = inl (13, short-values list v values trail budget d (leb-false _ _ e))
+      by true true false d e f = inl (13, short-trail list v values trail budget d (leb-false _ _ f))
+      by true true true d e f = inr (record { is-list = d; ends = runs list v values trail budget d (leb-true _ _ e) (leb-true _ _ f) })
+
+  -- an answer that is no refusal is that of the run
+  answered : (a : Answer) → ((n : ℕ) → refused n ≡ a → ⊥) → call .answer ≡ a → Runs × (answerAt (searchRun list v budget) ≡ a)
+  answered a h e = ⊎-elim (λ c. absurd (h (c .0) (sym (ap (λ o. o .answer) (c .1)) ∙ e))) (λ r. (r, sym (ap (λ o. o .answer) (r .ends)) ∙ e)) called
+
+  was-none : (end : End) (steps : ℕ) → answerAt end ≡ none steps → (t : Tally) × (end ≡ wasNone t)
+  unfolding answerAt
+  was-none (wasNone t) steps e = (t, refl)
+  was-none (wasFound t s) steps e = absurd (let z : _≡_ {A = ℕ} 0 1 = cc in omega arith)
+  was-none (wasSpent t s) steps e = absurd (let z : _≡_ {A = ℕ} 0 1 = cc in omega arith)
+
+  was-found : (end : End) (steps : ℕ) → answerAt end ≡ found steps → (t : Tally) × (s : State) × (end ≡ wasFound t s)
+  unfolding answerAt
+  was-found (wasNone t) steps e = absurd (let z : _≡_ {A = ℕ} 0 1 = cc in omega arith)
+  was-found (wasFound t s) steps e = (t, s, refl)
+  was-found (wasSpent t s) steps e = absurd (let z : _≡_ {A = ℕ} 0 1 = cc in omega arith)
+
+  was-spent : (end : End) (steps : ℕ) → answerAt end ≡ spent steps → (t : Tally) × (s : State) × (end ≡ wasSpent t s) × (total t ≡ steps)
+  unfolding answerAt
+  was-spent (wasNone t) steps e = absurd (let z : _≡_ {A = ℕ} 0 1 = cc in omega arith)
+  was-spent (wasFound t s) steps e = absurd (let z : _≡_ {A = ℕ} 0 1 = cc in omega arith)
+  was-spent (wasSpent t s) steps e = (t, s, refl, cc)
+
+  -- "none" only if no assignment satisfies all clauses
+  pub none-unsatisfiable : (steps : ℕ) → call .answer ≡ none steps → (a : List ℕ) → Satisfying v (clausesOf list) a → ⊥
+  none-unsatisfiable steps e =
+      let r = answered (none steps) (λ n d. let z : _≡_ {A = ℕ} 0 1 = cc in omega arith) e in
+      let w = was-none (searchRun list v budget) steps (r .1) in
+      rules.none-unsatisfiable (clausesOf list) v budget (w .0) (w .1)
+
+  -- "found" only with values, each 0 or 1, that satisfy every clause
+  pub found-satisfies : (steps : ℕ) → call .answer ≡ found steps → Satisfying v (clausesOf list) (take v (call .values))
+  unfolding valuesAt
+  found-satisfies steps e =
+      let r = answered (found steps) (λ n d. let z : _≡_ {A = ℕ} 0 1 = cc in omega arith) e in
+      let w = was-found (searchRun list v budget) steps (r .1) in
+      let s = rules.found-satisfies (clausesOf list) v (ranged v list (fine-list v list (r .0 .is-list))) budget zeros (w .0) [] (w .1) (w .2) in
+      let m : length (map settle (valuesOf v (w .1))) ≡ v = length-map (valuesOf v (w .1)) settle ∙ length-values v (w .1) in
+      let q : call .values ≡ map settle (valuesOf v (w .1)) ++ drop v values =
+            ap (λ o. o .values) (r .0 .ends) ∙ ap (λ x. valuesAt v x ++ drop v values) (w .2) in
+      rw (q, take-at (map settle (valuesOf v (w .1))) (drop v values) v m) s
+
+  -- "spent", of a call that is not refused, exactly when no end is reached after at most the budget's steps
+  pub spent-exactly : isList v list ≡ true → v ≤ length values → v ≤ length trail
+      → ((steps : ℕ) × (call .answer ≡ spent steps)) ↔ (EndedWithin (clausesOf list) v budget [] → ⊥)
+  unfolding answerAt
+  spent-exactly p h k =
+      let x = rules.spent-exactly (clausesOf list) v budget zeros [] in
+      let r = ap (λ o. o .answer) (runs list v values trail budget p h k) in (
+        λ y. let w = was-spent (searchRun list v budget) (y .0) (sym r ∙ y .1) in x .0 (w .0, w .1, w .2),
+        λ n. let w = x .1 n in (total (w .0), r ∙ ap answerAt (w .2)),
+      )
+
+  -- the state is then the one after the budget's steps
+  pub record Spent (steps : ℕ) : Type 0 where
+    pub all-done : steps ≡ budget
+    pub state : State
+    pub is-after : after (clausesOf list) v budget [] ≡ some state
+    pub values-are : call .values ≡ valuesOf v state ++ drop v values
+    pub trail-is : call .trail ≡ trailOf v state ++ drop v trail
+
+  pub spent-state : (steps : ℕ) → call .answer ≡ spent steps → Spent steps
+  unfolding valuesAt trailAt total
+  spent-state steps e =
+      let r = answered (spent steps) (λ n d. let z : _≡_ {A = ℕ} 0 1 = cc in omega arith) e in
+      let w = was-spent (searchRun list v budget) steps (r .1) in
+      let s = rules.spent-state (clausesOf list) v budget zeros (w .0) [] (w .1) (w .2) in
+      record {
+        all-done = sym (w .3) ∙ s .1 ∙ zero-add budget;
+        state = w .1;
+        is-after = s .0;
+        values-are = ap (λ o. o .values) (r .0 .ends) ∙ ap (λ x. valuesAt v x ++ drop v values) (w .2);
+        trail-is = ap (λ o. o .trail) (r .0 .ends) ∙ ap (λ x. trailAt v x ++ drop v trail) (w .2);
+      }

@@ -1,0 +1,2 @@
+-- What a call of the search answers and leaves.
+pub mod Answers

@@ -1,0 +1,4 @@
+pub mod Slices
+mod Lowest
+mod StepCode
+mod RunCode

@@ -1,0 +1,175 @@
+-- `search_core::steps::back` meets its contract. The loop's invariant: for every state that the slices held at first, they hold one
+-- with the same turn. Assumes nothing.
+use mathlib.Core.Path.{_≡_, refl, sym, _∙_, ap}
+use Prim.Native.Nat.{ℕ, _*_, _-_, _<_}
+use native.Mathlib.Omega.{arith}
+use lib.IntN.{pos}
+use lib.ListN.{getD, length-set}
+use mir.Syntax.{w32, w64}
+use mir.Val.{Fits, toZ, ofZ}
+use mir.Facts.{toZ-ofZ}
+use borrow.Author.Needs.{sfits-of, scaled-fits}
+use Rattle.search_core.specs.Inner.{Stored, SomeStored}
+use Rattle.search_rules.specs.Rules.{State, wordOf, byteOf, placeOf}
+use Rattle.search_core.proofs.Slices.{Went, Top, top-of, off-top, turn-top, turn-on, opposite, went-none, size-values, size-trail}
+use Rattle.search_core.proofs.steps.back.Statement.{statement}
+use Rattle.search_core.proofs.steps.back.Tie as tie
+
+abbrev Inv-loop : tie.InvT-loop
+Inv-loop values₀ trail₀ length n₀ values trail n =
+    (state : State) → Stored (lib.ListN.length values₀) state values₀ trail₀ length → Went (lib.ListN.length values₀) state values trail n
+
+abbrev μ-loop : tie.MeasureT-loop
+μ-loop values₀ trail₀ length n₀ values trail n = n
+
+-- the slices at the call
+module _ (c : tie.Start Inv-loop μ-loop) where
+  abbrev v : ℕ
+  v = lib.ListN.length (c .args .values .now)
+
+  abbrev Held : State → Type 0
+  Held state = Stored v state (c .args .values .now) (c .args .trail .now) (c .args .length)
+
+  held : SomeStored v (c .args .values .now) (c .args .trail .now) (c .args .length)
+  held = c .pre .1
+
+  long : lib.ListN.length (c .args .trail .now) ≡ v
+  long = size-trail _ _ _ _ _ (held .stored)
+
+-- in a turn of the loop
+module _ (c : tie.In-loop Inv-loop μ-loop) where
+  abbrev s : tie.Start Inv-loop μ-loop
+  s = c .before .before .before
+
+  abbrev went : (state : State) → Held s state → Went (v s) state (c .before .loop .values) (c .before .loop .trail) (c .before .loop .n)
+  went = c .before .loop .inv
+
+  topped : (state : State) (i : Held s state) → Top (v s) (went state i .now-at) (c .before .loop .values) (c .before .loop .trail)
+      (c .before .loop .n)
+  topped state i = top-of (v s) _ _ _ _ (went state i .stored) (c .loop-test .taken)
+
+  abbrev top : Top (v s) (went (held s .state) (held s .stored) .now-at) (c .before .loop .values) (c .before .loop .trail) (c .before .loop .n)
+  top = topped (held s .state) (held s .stored)
+
+  wide : lib.ListN.length (c .before .loop .values) ≡ v s
+  wide = size-values _ _ _ _ _ (went (held s .state) (held s .stored) .stored)
+
+  deep : lib.ListN.length (c .before .loop .trail) ≡ v s
+  deep = size-trail _ _ _ _ _ (went (held s .state) (held s .stored) .stored)
+
+  scaled : Fits w64 ((c .before .loop .n - 1) * 4)
+  scaled = scaled-fits _ (v s) _ (top .below) (rw (← long s) (s .good .1 .0 .1))
+
+loop-holds : tie.Need-loop-holds Inv-loop μ-loop
+loop-holds c state i = record { now-at = state; stored = i; alike = refl }
+
+sub-top : tie.Need-sub-top Inv-loop μ-loop
+sub-top c = c .loop-test .taken
+
+mul-l : tie.Need-mul-l Inv-loop μ-loop
+mul-l c = scaled c
+
+slice-copy-out-l : tie.Need-slice-copy-out-l Inv-loop μ-loop
+slice-copy-out-l c = omega (arith, top c .below, deep c)
+
+word-is : (c : tie.After-l Inv-loop μ-loop)
+    → toZ w32 (ofZ w32 (getD (c .before .before .loop .trail) (c .before .before .loop .n - 1) (pos 0)))
+    ≡ getD (c .before .before .loop .trail) (c .before .before .loop .n - 1) (pos 0)
+word-is c = toZ-ofZ (sfits-of (c .l .given))
+
+place-requires : tie.Need-place-requires Inv-loop μ-loop
+place-requires c κs =
+    let r = top (c .before) .range in
+    let k = s (c .before) .pre .0 in
+    rw (word-is c ∙ top (c .before) .the-word) (r .0, (let h = r .1 in omega arith))
+
+module _ (c : tie.After-place Inv-loop μ-loop) where
+  at-is : (state : State) (i : Held (s (c .before .before)) state) → c .place .result ≡ placeOf (wordOf (topped (c .before .before) state i .e))
+  at-is state i = c .place .ensures ∙ ap placeOf (word-is (c .before) ∙ topped (c .before .before) state i .the-word)
+
+  in-values : c .place .result < lib.ListN.length (c .before .before .before .loop .values)
+  in-values =
+      let h = held (s (c .before .before)) in
+      omega (arith, at-is (h .state) (h .stored), top (c .before .before) .here, wide (c .before .before))
+
+slice-read-if1 : tie.Need-slice-read-if1 Inv-loop μ-loop
+slice-read-if1 c = in-values (c .before)
+
+slice-write-values : tie.Need-slice-write-values Inv-loop μ-loop
+slice-write-values c = in-values (c .before .before)
+
+is-three : (c : tie.Then1 Inv-loop μ-loop) (state : State) (i : Held (s (c .before .before .before .before)) state)
+    → byteOf (topped (c .before .before .before .before) state i .e) ≡ 3
+is-three c state i =
+    sym (topped (c .before .before .before .before) state i .the-byte) ∙ (rw (at-is (c .before .before) state i) at (c .if1 .taken))
+
+sub-trail : tie.Need-sub-trail Inv-loop μ-loop
+sub-trail c =
+    let h = held (s (c .before .before .before .before)) in
+    let t = topped (c .before .before .before .before) (h .state) (h .stored) in
+    opposite _ (t .e) _ (s (c .before .before .before .before) .pre .0) (t .range) (is-three c (h .state) (h .stored))
+    (word-is (c .before .before .before) ∙ t .the-word) .0
+
+mul-t16 : tie.Need-mul-t16 Inv-loop μ-loop
+mul-t16 c = scaled (c .before .before .before .before)
+
+slice-set-from-trail : tie.Need-slice-set-from-trail Inv-loop μ-loop
+slice-set-from-trail c = slice-copy-out-l (c .before .before .before .before)
+
+same-length : tie.Need-same-length Inv-loop μ-loop
+same-length c = simp length-set (wide (c .before .before .before .before))
+
+same-length-2 : tie.Need-same-length-2 Inv-loop μ-loop
+same-length-2 c = let q = c .before .before .before .before in simp length-set (deep q ∙ sym (long (s q)))
+
+returns : tie.Need-returns Inv-loop μ-loop
+returns c state i =
+    let q = c .before .before .before .before in
+    let t = topped q state i in
+    let b = is-three c state i in
+    let o = opposite _ (t .e) _ (s q .pre .0) (t .range) b (word-is (c .before .before .before) ∙ t .the-word) in
+    rw (← went q state i .alike, at-is (c .before .before) state i) (turn-top _ _ _ _ _ t _ b (toZ-ofZ (o .0) ∙ o .1))
+
+slice-write-values-2 : tie.Need-slice-write-values-2 Inv-loop μ-loop
+slice-write-values-2 c = in-values (c .before .before)
+
+mul-trail : tie.Need-mul-trail Inv-loop μ-loop
+mul-trail c = scaled (c .before .before .before .before)
+
+slice-set-of-trail : tie.Need-slice-set-of-trail Inv-loop μ-loop
+slice-set-of-trail c = slice-copy-out-l (c .before .before .before .before)
+
+loop-less : tie.Need-loop-less Inv-loop μ-loop
+loop-less c = omega (arith, c .before .before .before .before .loop-test .taken)
+
+loop-again : tie.Need-loop-again Inv-loop μ-loop
+loop-again c state i =
+    let p = c .before .before .before .before in
+    let t = topped p state i in
+    let q = at-is (c .before .before) state i in
+    record {
+      now-at = t .rest;
+      stored = rw q (off-top _ _ _ _ _ t);
+      alike = turn-on _ _ _ _ _ t (λ b. c .if1 .left (rw q (t .the-byte ∙ b))) ∙ went p state i .alike;
+    }
+
+-- after the loop
+ended : (c : tie.At-loop Inv-loop μ-loop) → Went (v (c .before .before)) (held (c .before .before) .state) (c .loop .values) (c .loop .trail)
+    (c .loop .n)
+ended c = c .loop .inv (held (c .before .before) .state) (held (c .before .before) .stored)
+
+same-length-3 : tie.Need-same-length-3 Inv-loop μ-loop
+same-length-3 c = size-values _ _ _ _ _ (ended (c .before) .stored)
+
+same-length-4 : tie.Need-same-length-4 Inv-loop μ-loop
+same-length-4 c = size-trail _ _ _ _ _ (ended (c .before) .stored) ∙ sym (long (c .before .before .before))
+
+returns-2 : tie.Need-returns-2 Inv-loop μ-loop
+returns-2 c state i = went-none _ _ _ _ _ (c .before .loop .inv state i) (c .loop-test .left)
+
+pub back-spec : {M : Type 1} → statement M
+back-spec =
+    tie.close
+    (tie.spec Inv-loop μ-loop loop-holds sub-top mul-l slice-copy-out-l place-requires slice-read-if1 slice-write-values
+    sub-trail mul-t16 slice-set-from-trail same-length same-length-2 returns slice-write-values-2 mul-trail
+    slice-set-of-trail loop-less loop-again same-length-3 same-length-4 returns-2)

@@ -1,0 +1,85 @@
+-- Cited by contracts of private functions only: nothing here needs belief.
+use mathlib.Core.Path.{_≡_}
+use mathlib.Core.List.{List, []}
+use Prim.Native.Nat.{ℕ, _≤_}
+use lib.IntN.{ℤ}
+use lib.ListN.{length}
+use Rattle.search_core.specs.declared.steps.StepKind.{StepKind}
+use Rattle.search_core.specs.declared.steps.StepKind.the-variants.{Propagation, Decision, Backtrack}
+use Rattle.search_core.specs.declared.steps.Moved.{Moved}
+use Rattle.search_core.specs.declared.steps.Moved.the-variants.{NoneLeft, AllSet, To}
+use Rattle.search_core.specs.declared.run.Position.{Position}
+use Rattle.search_core.specs.declared.run.End.{End}
+use Rattle.search_core.specs.declared.run.End.the-variants.{None, Found, Spent}
+use Rattle.search_core.specs.declared.run.Ran.{Ran}
+use Rattle.search_rules.specs.Inner.{WasOpen}
+use Rattle.search_rules.specs.Rules.{State, valuesOf, trailOf, Kind, propagation, decision, backtrack, Next, endNone, endFound, step}
+use Rattle.search_rules.specs.Run.{Tally, count, wasNone, wasFound, wasSpent}
+use Rattle.search_rules.specs.Run.{End as RunEnd}
+
+-- the slices and the length hold the state
+pub record Stored (v : ℕ) (state : State) (values : List ℕ) (trail : List ℤ) (n : ℕ) : Type 0 where
+  pub values-are : values ≡ valuesOf v state
+  pub trail-is : trail ≡ trailOf v state
+  pub length-is : n ≡ length state
+  pub was-open : WasOpen v state
+
+pub record SomeStored (v : ℕ) (values : List ℕ) (trail : List ℤ) (n : ℕ) : Type 0 where
+  pub state : State
+  pub stored : Stored v state values trail n
+
+-- what `back` leaves: the new length, 0 where no decision is left
+abbrev pub Turned : ℕ → Next → ℕ → List ℕ → List ℤ → Type 0
+Turned v endNone n values trail = Stored v [] values trail n
+Turned v endFound n values trail = ⊥
+Turned v (step kind state) n values trail = Stored v state values trail n × (1 ≤ n)
+
+abbrev pub kindAs : Kind → StepKind
+kindAs propagation = Propagation
+kindAs decision = Decision
+kindAs backtrack = Backtrack
+
+-- what `step` answers and leaves
+abbrev pub Stepped : ℕ → State → Next → Moved → List ℕ → List ℤ → Type 0
+Stepped v state endNone moved values trail = (moved ≡ NoneLeft) × Stored v [] values trail 0
+Stepped v state endFound moved values trail = (moved ≡ AllSet) × Stored v state values trail (length state)
+Stepped v state (step kind s) moved values trail = (moved ≡ To (kindAs kind) (length s)) × Stored v s values trail (length s)
+
+abbrev pub tallyOf : Position → Tally
+tallyOf p = record { propagations = p .propagations; decisions = p .decisions; backtracks = p .backtracks }
+
+abbrev pub kindOf : StepKind → Kind
+kindOf Propagation = propagation
+kindOf Decision = decision
+kindOf Backtrack = backtrack
+
+pub record Advanced (p : Position) (kind : StepKind) (n : ℕ) (r : Position) : Type 0 where
+  pub length-is : r .length ≡ n
+  pub tally-is : tallyOf r ≡ count (kindOf kind) (tallyOf p)
+
+-- how the rules stand: spent where they go on
+abbrev pub endAfter : Next → End
+endAfter endNone = None
+endAfter endFound = Found
+endAfter (step kind state) = Spent
+
+abbrev pub endOf : RunEnd → End
+endOf (wasNone t) = None
+endOf (wasFound t state) = Found
+endOf (wasSpent t state) = Spent
+
+abbrev pub tallyAt : RunEnd → Tally
+tallyAt (wasNone t) = t
+tallyAt (wasFound t state) = t
+tallyAt (wasSpent t state) = t
+
+abbrev pub stateAt : RunEnd → State
+stateAt (wasNone t) = []
+stateAt (wasFound t state) = state
+stateAt (wasSpent t state) = state
+
+-- what `run` answers and leaves
+pub record Ended (v : ℕ) (end : RunEnd) (r : Ran) (values : List ℕ) (trail : List ℤ) : Type 0 where
+  pub end-is : r .end ≡ endOf end
+  pub tally-is : tallyOf (r .position) ≡ tallyAt end
+  pub stored : Stored v (stateAt end) values trail (r .position .length)

@@ -1,0 +1,176 @@
+// The run of the step rules within a budget, from any state, by value.
+ghost use mathlib.Core.Path.{_≡_};
+ghost use mathlib.Core.Bool.{true, false};
+ghost use Prim.Native.Nat.{ℕ, _+_, _<_, _≤_, _^_};
+ghost use lib.Dec.{eqb};
+ghost use lib.ListN.{length};
+ghost use Rattle.prelude.specs.Tests.{any};
+ghost use Rattle.clause_list.specs.ClauseList.{clausesOf};
+ghost use Rattle.literal.specs.Literals.{lastVariable};
+ghost use Rattle.search_rules.specs.Rules.{State, valuesOf, next};
+ghost use Rattle.search_rules.specs.Run.{total, count, run};
+ghost use Rattle.search_rules.specs.Inner.{Fine, WasOpen};
+ghost use Rattle.search_core.specs.Inner.{Stored, SomeStored, kindAs, tallyOf, Advanced, endAfter, Ended};
+use crate::steps::Moved;
+use crate::steps::StepKind;
+use crate::steps::back;
+use crate::steps::lowest_open;
+use crate::steps::step;
+use search_scan::Seen;
+use search_scan::scan;
+
+// Where a run stands: how much of the trail is in use, and the steps done by kind.
+pub struct Position {
+    pub length: usize,
+    pub propagations: u64,
+    pub decisions: u64,
+    pub backtracks: u64,
+}
+
+pub enum End {
+    None,
+    Found,
+    Spent,
+}
+
+pub struct Ran {
+    pub end: End,
+    pub position: Position,
+}
+
+// The position after one step more.
+fn advance(p: Position, kind: StepKind, length: usize) -> Position
+    requires { ⌜ total (tallyOf p) + 1 < 2 ^ 64 ⌝ }
+    ensures { λ r. ⌜ Advanced p kind length r ⌝ }
+{
+    match kind {
+        StepKind::Propagation => Position {
+            length,
+            propagations: p.propagations + 1,
+            decisions: p.decisions,
+            backtracks: p.backtracks,
+        },
+        StepKind::Decision => Position {
+            length,
+            propagations: p.propagations,
+            decisions: p.decisions + 1,
+            backtracks: p.backtracks,
+        },
+        StepKind::Backtrack => Position {
+            length,
+            propagations: p.propagations,
+            decisions: p.decisions,
+            backtracks: p.backtracks + 1,
+        },
+    }
+}
+
+// Whether some variable is false by decision.
+fn any_decision(values: &[u8]) -> bool
+    ensures { λ r. ⌜ r ≡ any (λ b. eqb b 3) (now (values .entry)) ⌝ }
+{
+    let mut i = 0;
+    while i < values.len() {
+        if values[i] == 3 {
+            return true;
+        }
+        i += 1;
+    }
+    false
+}
+
+// Whether the rules end here; Spent where they do not.
+fn ends(list: &[i32], values: &[u8]) -> End
+    requires { ⌜ Fine (length (now values)) (now list) ⌝ }
+    requires { ⌜ length (now values) ≤ lastVariable ⌝ }
+    ensures { λ r. ⌜ ((state : State) → WasOpen (length (now (values .entry))) state
+        → now (values .entry) ≡ valuesOf (length (now (values .entry))) state
+        → r ≡ endAfter (next (clausesOf (now (list .entry))) (length (now (values .entry))) state)) ⌝ }
+{
+    let seen = scan(list, values);
+    match seen {
+        Seen::Conflict => {
+            let more = any_decision(values);
+            if more {
+                return End::Spent;
+            }
+            End::None
+        }
+        Seen::UnitClause(_) => End::Spent,
+        Seen::Neither => {
+            let i = lowest_open(values);
+            if i == values.len() {
+                return End::Found;
+            }
+            End::Spent
+        }
+    }
+}
+
+// The run from the state that the slices and the position hold.
+pub fn run(list: &[i32], values: &mut [u8], trail: &mut [i32], start: Position, budget: u64) -> Ran
+    requires { ⌜ Fine (length (now values)) (now list) ⌝ }
+    requires { ⌜ length (now values) ≤ lastVariable ⌝ }
+    requires { ⌜ SomeStored (length (now values)) (now values) (now trail) (start .length) ⌝ }
+    requires { ⌜ total (tallyOf start) + budget < 2 ^ 64 ⌝ }
+    ensures { λ r. ⌜ ((state : State) → Stored (length (now (values .entry))) state (now (values .entry)) (now (trail .entry)) (start .length)
+        → Ended (length (now (values .entry)))
+        (run (clausesOf (now (list .entry))) (length (now (values .entry))) budget (tallyOf start) state)
+        r (now (values .exit)) (now (trail .exit))) ⌝ }
+{
+    let mut p = start;
+    let mut left = budget;
+    while left > 0 {
+        let at = p.length;
+        let moved = step(list, values, trail, at);
+        match moved {
+            Moved::NoneLeft => {
+                return Ran {
+                    end: End::None,
+                    position: emptied(p),
+                };
+            }
+            Moved::AllSet => {
+                return Ran {
+                    end: End::Found,
+                    position: p,
+                };
+            }
+            Moved::To(kind, n) => {
+                p = advance(p, kind, n);
+            }
+        }
+        left -= 1;
+    }
+    let end = ends(list, values);
+    match end {
+        End::None => {
+            let at = p.length;
+            back(values, trail, at);
+            Ran {
+                end: End::None,
+                position: emptied(p),
+            }
+        }
+        End::Found => Ran {
+            end: End::Found,
+            position: p,
+        },
+        End::Spent => Ran {
+            end: End::Spent,
+            position: p,
+        },
+    }
+}
+
+// The position of a fresh state, with the steps done.
+fn emptied(p: Position) -> Position
+    ensures { λ r. ⌜ (r .length ≡ 0) × (tallyOf r ≡ tallyOf p) ⌝ }
+{
+    Position {
+        length: 0,
+        propagations: p.propagations,
+        decisions: p.decisions,
+        backtracks: p.backtracks,
+    }
+}

@@ -1,0 +1,127 @@
+// The step rules over values and trail, whose first `length` words are in use.
+ghost use mathlib.Core.Path.{_≡_};
+ghost use mathlib.Core.Option.{Option·getD};
+ghost use Prim.Native.Nat.{_<_, _≤_};
+ghost use lib.ListN.{length, set};
+ghost use lib.IntN.{negsuc};
+ghost use Rattle.clause_list.specs.ClauseList.{clausesOf};
+ghost use Rattle.literal.specs.Literals.{lastVariable};
+ghost use Rattle.search_rules.specs.Rules.{State, lowestOpen, propagated, byteOf, placeOf, turn, next};
+ghost use Rattle.search_rules.specs.Inner.{InRange, Fine};
+ghost use Rattle.search_core.specs.Inner.{Stored, SomeStored, Turned, Stepped};
+use search_scan::Seen;
+use search_scan::place;
+use search_scan::scan;
+
+pub enum StepKind {
+    Propagation,
+    Decision,
+    Backtrack,
+}
+
+// What a step came to: an end, or its kind and the new length.
+pub enum Moved {
+    NoneLeft,
+    AllSet,
+    To(StepKind, usize),
+}
+
+// The place of the lowest open variable, or the number of variables.
+pub fn lowest_open(values: &[u8]) -> usize
+    ensures { λ r. ⌜ r ≡ Option·getD (lowestOpen 0 (now (values .entry))) (length (now (values .entry))) ⌝ }
+{
+    let mut i = 0;
+    while i < values.len() {
+        if values[i] == 2 {
+            return i;
+        }
+        i += 1;
+    }
+    i
+}
+
+// Opens all back to the latest decision, which becomes true. The new length, 0 where there is no decision.
+pub fn back(values: &mut [u8], trail: &mut [i32], length: usize) -> usize
+    requires { ⌜ lib.ListN.length (now values) ≤ lastVariable ⌝ }
+    requires { ⌜ SomeStored (lib.ListN.length (now values)) (now values) (now trail) length ⌝ }
+    ensures { λ r. ⌜ ((state : State) → Stored (lib.ListN.length (now (values .entry))) state (now (values .entry)) (now (trail .entry)) length
+        → Turned (lib.ListN.length (now (values .entry))) (turn state) r (now (values .exit)) (now (trail .exit))) ⌝ }
+{
+    let mut n = length;
+    while n > 0 {
+        let top = n - 1;
+        let l = trail[top];
+        let at = place(l);
+        if values[at] == 3 {
+            values[at] = 1;
+            trail[top] = -l;
+            return n;
+        }
+        values[at] = 2;
+        trail[top] = 0;
+        n = top;
+    }
+    0
+}
+
+// A literal is set true, and goes on top of the trail.
+fn propagate(values: &mut [u8], trail: &mut [i32], length: usize, l: i32)
+    requires { ⌜ lib.ListN.length (now values) ≤ lastVariable ⌝ }
+    requires { ⌜ InRange (lib.ListN.length (now values)) l ⌝ }
+    requires { ⌜ length < lib.ListN.length (now trail) ⌝ }
+    ensures { λ r. ⌜ now (values .exit) ≡ set (now (values .entry)) (placeOf l) (byteOf (propagated l)) ⌝ }
+    ensures { λ r. ⌜ now (trail .exit) ≡ set (now (trail .entry)) length l ⌝ }
+{
+    let at = place(l);
+    let mut b: u8 = 0;
+    if l > 0 {
+        b = 1;
+    }
+    values[at] = b;
+    trail[length] = l;
+}
+
+// The variable at a place is made false by decision, and goes on top of the trail.
+fn decide(values: &mut [u8], trail: &mut [i32], length: usize, i: usize)
+    requires { ⌜ (i < lib.ListN.length (now values)) × (i < lastVariable) ⌝ }
+    requires { ⌜ length < lib.ListN.length (now trail) ⌝ }
+    ensures { λ r. ⌜ now (values .exit) ≡ set (now (values .entry)) i 3 ⌝ }
+    ensures { λ r. ⌜ now (trail .exit) ≡ set (now (trail .entry)) length (negsuc i) ⌝ }
+{
+    values[i] = 3;
+    trail[length] = -(i as i32 + 1);
+}
+
+// One step of the rules, or their end.
+pub fn step(list: &[i32], values: &mut [u8], trail: &mut [i32], length: usize) -> Moved
+    requires { ⌜ Fine (lib.ListN.length (now values)) (now list) ⌝ }
+    requires { ⌜ lib.ListN.length (now values) ≤ lastVariable ⌝ }
+    requires { ⌜ SomeStored (lib.ListN.length (now values)) (now values) (now trail) length ⌝ }
+    ensures { λ r. ⌜ ((state : State) → Stored (lib.ListN.length (now (values .entry))) state (now (values .entry)) (now (trail .entry)) length
+        → Stepped (lib.ListN.length (now (values .entry))) state
+        (next (clausesOf (now (list .entry))) (lib.ListN.length (now (values .entry))) state)
+        r (now (values .exit)) (now (trail .exit))) ⌝ }
+{
+    let seen = scan(list, values);
+    match seen {
+        Seen::Conflict => {
+            let n = back(values, trail, length);
+            if n == 0 {
+                return Moved::NoneLeft;
+            }
+            Moved::To(StepKind::Backtrack, n)
+        }
+        Seen::UnitClause(l) => {
+            propagate(values, trail, length, l);
+            Moved::To(StepKind::Propagation, length + 1)
+        }
+        Seen::Neither => {
+            let i = lowest_open(values);
+            if i == values.len() {
+                return Moved::AllSet;
+            }
+            decide(values, trail, length, i);
+            Moved::To(StepKind::Decision, length + 1)
+        }
+    }
+}

@@ -1,0 +1,9 @@
+pub mod Booleans
+pub mod Ranges
+pub mod Assignments
+pub mod StepView
+pub mod Invariant
+pub mod Found
+pub mod Reached
+pub mod Theorems
+pub mod Cases

@@ -1,0 +1,4 @@
+-- The rules of the search and their run.
+pub mod Rules
+pub mod Run
+pub mod Inner
