@@ -1,0 +1,2 @@
+mod Symbols
+mod Steps

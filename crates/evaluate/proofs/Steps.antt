@@ -1,0 +1,1 @@
+-- What a node gives, from what its operands give: a lemma for each form.
