@@ -1,2 +1,4 @@
 mod Symbols
 mod Steps
+mod Layouts
+mod Loops

@@ -23,10 +23,10 @@ use Rattle.evaluate.specs.Walking.{expressionForm, formulaForm, treeAt, 
 
 -- ---- trees of other kinds have no value and no truth
 module _ (sheet : Sheet) (instance : List ℕ) where
-  abbrev Valueless : Tree → Type 0
+  abbrev pub Valueless : Tree → Type 0
   Valueless t = (env : Environment) → valueOfTree sheet instance env t ≡ setOf 0 []
 
-  abbrev Truthless : Tree → Type 0
+  abbrev pub Truthless : Tree → Type 0
   Truthless t = (env : Environment) → truthInTree sheet instance env t ≡ false
 
   no-value-broken : Valueless broken
@@ -57,7 +57,7 @@ module _ (sheet : Sheet) (instance : List ℕ) where
     under-formula broken grow h = b
 
   -- ---- what a form says of a symbol
-  abbrev ExpressionSays : Symbol → ExpressionForm → Type 0
+  abbrev pub ExpressionSays : Symbol → ExpressionForm → Type 0
   ExpressionSays s of-expression.Leaf = (l : Leaf) × (s ≡ leaf-symbol l)
   ExpressionSays s of-expression.Binary = (o : Binary) × (s ≡ binary-symbol o)
   ExpressionSays s of-expression.Unary = (o : Unary) × (s ≡ unary-symbol o)
@@ -87,7 +87,7 @@ module _ (sheet : Sheet) (instance : List ℕ) where
   expression-says negation-symbol = λ a x y. under-formula Valueless no-value-broken x _ (λ f. no-value-formula _)
   expression-says unknown-symbol = λ a x y. no-value-broken
 
-  abbrev FormulaSays : Symbol → FormulaForm → Type 0
+  abbrev pub FormulaSays : Symbol → FormulaForm → Type 0
   FormulaSays s of-formula.Comparison = (o : Comparison) × (s ≡ comparison-symbol o)
   FormulaSays s of-formula.Test = (o : Test) × (s ≡ test-symbol o)
   FormulaSays s of-formula.Negation = s ≡ negation-symbol
@@ -125,7 +125,7 @@ module _ (sheet : Sheet) (instance : List ℕ) where
 
 -- ---- the tree of a node
 module _ (sheet : Sheet) (v : ℕ) (node : v < nodeCount sheet) where
-  abbrev before : ℕ → Tree
+  abbrev pub before : ℕ → Tree
   before a = getD (table (treeStep sheet) v) a broken
 
   pub tree-of : (s : Symbol) → symbolOf (kind sheet v) ≡ s
@@ -150,25 +150,49 @@ module _ (sheet : Sheet) (v : ℕ) (node : v < nodeCount sheet) where
         ap (λ (t : Symbol). fieldFine sheet (rowOfSymbol t .b) v (fieldB sheet v)) (sym e)
         ∙ ap (λ row. fieldFine sheet (row .b) v (fieldB sheet v)) (sym (row-of-symbol (kind sheet v))) ∙ facts .fine-b v node
 
--- ---- operands of a tree
-isExpressionTree : Tree → Bool
+  -- the tree of a node whose operands are lower
+  pub tree-lower : (s : Symbol) → symbolOf (kind sheet v) ≡ s → fieldA sheet v < v → fieldB sheet v < v
+      → treeAt sheet v ≡ treeBy s (fieldA sheet v) (treeAt sheet (fieldA sheet v)) (treeAt sheet (fieldB sheet v))
+  tree-lower s e la lb =
+      tree-of s e ∙ ap₂ (treeBy s (fieldA sheet v)) (tree-before (fieldA sheet v) la) (tree-before (fieldB sheet v) lb)
+
+-- ---- operands of a tree that is not broken
+module _ (good : Tree → Bool) (bad : good broken ≡ false) (t : Tree) (h : good t ≡ true) where
+  not-broken {ℓ} : {A : Type ℓ} → t ≡ broken → A
+  not-broken e = absurd (false≢true (sym bad ∙ ap good (sym e) ∙ h))
+
+  pub two-expressions : (make : Expression → Expression → Tree) (x y : Tree) → t ≡ (withExpression x λ e. withExpression y λ f. make e f)
+      → (p : Expression) × (q : Expression) × (x ≡ expression p) × (y ≡ expression q) × (t ≡ make p q)
+  two-expressions make (expression p) (expression q) e = (p, q, refl, refl, e)
+  two-expressions make (expression p) (formula f) e = not-broken e
+  two-expressions make (expression p) broken e = not-broken e
+  two-expressions make (formula f) y e = not-broken e
+  two-expressions make broken y e = not-broken e
+
+  pub one-expression : (make : Expression → Tree) (x : Tree) → t ≡ withExpression x make → (p : Expression) × (x ≡ expression p) × (t ≡ make p)
+  one-expression make (expression p) e = (p, refl, e)
+  one-expression make (formula f) e = not-broken e
+  one-expression make broken e = not-broken e
+
+  pub two-formulas : (make : Formula → Formula → Tree) (x y : Tree) → t ≡ (withFormula x λ f. withFormula y λ g. make f g)
+      → (p : Formula) × (q : Formula) × (x ≡ formula p) × (y ≡ formula q) × (t ≡ make p q)
+  two-formulas make (formula p) (formula q) e = (p, q, refl, refl, e)
+  two-formulas make (formula p) (expression f) e = not-broken e
+  two-formulas make (formula p) broken e = not-broken e
+  two-formulas make (expression f) y e = not-broken e
+  two-formulas make broken y e = not-broken e
+
+  pub one-formula : (make : Formula → Tree) (x : Tree) → t ≡ withFormula x make → (p : Formula) × (x ≡ formula p) × (t ≡ make p)
+  one-formula make (formula p) e = (p, refl, e)
+  one-formula make (expression f) e = not-broken e
+  one-formula make broken e = not-broken e
+
+abbrev pub isExpressionTree : Tree → Bool
 isExpressionTree (expression e) = true
 isExpressionTree (formula f) = false
 isExpressionTree broken = false
 
-isFormulaTree : Tree → Bool
+abbrev pub isFormulaTree : Tree → Bool
 isFormulaTree (expression e) = false
 isFormulaTree (formula f) = true
 isFormulaTree broken = false
-
-pub grown-expression : (x : Tree) (grow : Expression → Tree) (good : Tree → Bool) → good broken ≡ false → good (withExpression x grow) ≡ true
-    → (e : Expression) × (x ≡ expression e)
-grown-expression (expression e) grow good b h = (e, refl)
-grown-expression (formula f) grow good b h = absurd (false≢true (sym b ∙ h))
-grown-expression broken grow good b h = absurd (false≢true (sym b ∙ h))
-
-pub grown-formula : (x : Tree) (grow : Formula → Tree) (good : Tree → Bool) → good broken ≡ false → good (withFormula x grow) ≡ true
-    → (f : Formula) × (x ≡ formula f)
-grown-formula (expression e) grow good b h = absurd (false≢true (sym b ∙ h))
-grown-formula (formula f) grow good b h = (f, refl)
-grown-formula broken grow good b h = absurd (false≢true (sym b ∙ h))

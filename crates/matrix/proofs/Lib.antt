@@ -1,6 +1,6 @@
-mod Filling
-mod Results
-mod Counting
+pub mod Filling
+pub mod Results
+pub mod Counting
 mod Powers
 mod Arities
 pub mod Symbols
