@@ -2,3 +2,4 @@ mod Symbols
 mod Steps
 mod Layouts
 mod Loops
+mod Roots

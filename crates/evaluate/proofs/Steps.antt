@@ -138,8 +138,7 @@ module _ (sheet : Sheet) (instance : List ℕ) (facts : Facts sheet) (v : ℕ) (
         at-node
         (λ m.
         Present sheet (m .kind) (m .a)
-        × ((env : Environment) → leafBy sheet instance env (m .kind) (m .a) ≡ valueOfTree sheet instance env (treeAt sheet v)))
-        (
+        × ((env : Environment) → leafBy sheet instance env (m .kind) (m .a) ≡ valueOfTree sheet instance env (treeAt sheet v))) (
           record {
             relation = λ e.
                 ltb-true (fieldA sheet v) (relationCount sheet)
@@ -148,14 +147,14 @@ module _ (sheet : Sheet) (instance : List ℕ) (facts : Facts sheet) (v : ℕ) (
                 omega (
                   arith,
                   ltb-true (fieldA sheet v) (variableCount sheet)
-                  (field-a sheet v node facts (leaf-symbol variable) (symbol-2 (kind sheet v) e)),
+                      (field-a sheet v node facts (leaf-symbol variable) (symbol-2 (kind sheet v) e)),
                   facts .counts .few-variables,
                 );
           },
           λ env.
-          leaf-of sheet instance env (kind sheet v) (says .0) (fieldA sheet v) (says .1)
-          ∙ value-leaf sheet instance env (says .0) (fieldA sheet v)
-          ∙ ap (valueOfTree sheet instance env) (sym (tree-of sheet v node (leaf-symbol (says .0)) (says .1))),
+              leaf-of sheet instance env (kind sheet v) (says .0) (fieldA sheet v) (says .1)
+              ∙ value-leaf sheet instance env (says .0) (fieldA sheet v)
+              ∙ ap (valueOfTree sheet instance env) (sym (tree-of sheet v node (leaf-symbol (says .0)) (says .1))),
         )
 
     pub binary-step : IsExpression sheet v → expressionForm (rowOf (n .kind) .rule) ≡ of-expression.Binary
@@ -176,16 +175,15 @@ module _ (sheet : Sheet) (instance : List ℕ) (facts : Facts sheet) (v : ℕ) (
         IsExpression sheet (m .a) × (m .a < v) × IsExpression sheet (m .b) × (m .b < v)
         × ((env : Environment) (P Q : Matrix Bool) → P ≡ valueOfTree sheet instance env (treeAt sheet (m .a))
         → Q ≡ valueOfTree sheet instance env (treeAt sheet (m .b))
-        → binaryBy (m .kind) P Q ≡ valueOfTree sheet instance env (treeAt sheet v)))
-        (
+        → binaryBy (m .kind) P Q ≡ valueOfTree sheet instance env (treeAt sheet v))) (
           lower-expression (fieldA sheet v) (g .0) la (g .2),
           la,
           lower-expression (fieldB sheet v) (g .1) lb (g .3),
           lb,
           λ env P Q ep eq.
-          binary-of (kind sheet v) (says .0) P Q (says .1)
-          ∙ ap₂ (valueBinary (says .0)) (ep ∙ ap (valueOfTree sheet instance env) (g .2)) (eq ∙ ap (valueOfTree sheet instance env) (g .3))
-          ∙ value-binary sheet instance env (says .0) (g .0) (g .1) ∙ ap (valueOfTree sheet instance env) (sym (g .4)),
+              binary-of (kind sheet v) (says .0) P Q (says .1)
+              ∙ ap₂ (valueBinary (says .0)) (ep ∙ ap (valueOfTree sheet instance env) (g .2)) (eq ∙ ap (valueOfTree sheet instance env) (g .3))
+              ∙ value-binary sheet instance env (says .0) (g .0) (g .1) ∙ ap (valueOfTree sheet instance env) (sym (g .4)),
         )
 
     pub unary-step : IsExpression sheet v → expressionForm (rowOf (n .kind) .rule) ≡ of-expression.Unary
@@ -205,14 +203,13 @@ module _ (sheet : Sheet) (instance : List ℕ) (facts : Facts sheet) (v : ℕ) (
         (λ m.
         IsExpression sheet (m .a) × (m .a < v)
         × ((env : Environment) (P : Matrix Bool) → P ≡ valueOfTree sheet instance env (treeAt sheet (m .a))
-        → unaryBy (m .kind) P ≡ valueOfTree sheet instance env (treeAt sheet v)))
-        (
+        → unaryBy (m .kind) P ≡ valueOfTree sheet instance env (treeAt sheet v))) (
           lower-expression (fieldA sheet v) (g .0) la (g .1),
           la,
           λ env P ep.
-          unary-of (kind sheet v) (says .0) P (says .1)
-          ∙ ap (valueUnary (says .0)) (ep ∙ ap (valueOfTree sheet instance env) (g .1))
-          ∙ value-unary sheet instance env (says .0) (g .0) ∙ ap (valueOfTree sheet instance env) (sym (g .2)),
+              unary-of (kind sheet v) (says .0) P (says .1)
+              ∙ ap (valueUnary (says .0)) (ep ∙ ap (valueOfTree sheet instance env) (g .1))
+              ∙ value-unary sheet instance env (says .0) (g .0) ∙ ap (valueOfTree sheet instance env) (sym (g .2)),
         )
 
     pub comprehension-step : IsExpression sheet v → expressionForm (rowOf (n .kind) .rule) ≡ of-expression.Comprehension
@@ -234,14 +231,13 @@ module _ (sheet : Sheet) (instance : List ℕ) (facts : Facts sheet) (v : ℕ) (
         (λ m.
         IsFormula sheet (m .b) × (m .b < v) × (m .a < 4)
         × ((env : Environment) → setOf (scope sheet (sortOf sheet (m .a))) (truths sheet instance env (m .a) (treeAt sheet (m .b)))
-        ≡ valueOfTree sheet instance env (treeAt sheet v)))
-        (
+        ≡ valueOfTree sheet instance env (treeAt sheet v))) (
           lower-formula (fieldB sheet v) (g .0) lb (g .1),
           lb,
           omega (arith, facts .counts .few-variables),
           λ env.
-          ap (λ t. setOf (scope sheet (sortOf sheet (fieldA sheet v))) (truths sheet instance env (fieldA sheet v) t)) (g .1)
-          ∙ value-comprehension sheet instance env (fieldA sheet v) (g .0) ∙ ap (valueOfTree sheet instance env) (sym (g .2)),
+              ap (λ t. setOf (scope sheet (sortOf sheet (fieldA sheet v))) (truths sheet instance env (fieldA sheet v) t)) (g .1)
+              ∙ value-comprehension sheet instance env (fieldA sheet v) (g .0) ∙ ap (valueOfTree sheet instance env) (sym (g .2)),
         )
 
     pub no-expression : expressionForm (rowOf (n .kind) .rule) ≡ of-expression.Other
@@ -270,16 +266,15 @@ module _ (sheet : Sheet) (instance : List ℕ) (facts : Facts sheet) (v : ℕ) (
         IsExpression sheet (m .a) × (m .a < v) × IsExpression sheet (m .b) × (m .b < v)
         × ((env : Environment) (P Q : Matrix Bool) → P ≡ valueOfTree sheet instance env (treeAt sheet (m .a))
         → Q ≡ valueOfTree sheet instance env (treeAt sheet (m .b))
-        → comparisonBy (m .kind) P Q ≡ truthInTree sheet instance env (treeAt sheet v)))
-        (
+        → comparisonBy (m .kind) P Q ≡ truthInTree sheet instance env (treeAt sheet v))) (
           lower-expression (fieldA sheet v) (g .0) la (g .2),
           la,
           lower-expression (fieldB sheet v) (g .1) lb (g .3),
           lb,
           λ env P Q ep eq.
-          comparison-of (kind sheet v) (says .0) P Q (says .1)
-          ∙ ap₂ (truthComparison (says .0)) (ep ∙ ap (valueOfTree sheet instance env) (g .2)) (eq ∙ ap (valueOfTree sheet instance env) (g .3))
-          ∙ truth-comparison sheet instance env (says .0) (g .0) (g .1) ∙ ap (truthInTree sheet instance env) (sym (g .4)),
+              comparison-of (kind sheet v) (says .0) P Q (says .1)
+              ∙ ap₂ (truthComparison (says .0)) (ep ∙ ap (valueOfTree sheet instance env) (g .2)) (eq ∙ ap (valueOfTree sheet instance env) (g .3))
+              ∙ truth-comparison sheet instance env (says .0) (g .0) (g .1) ∙ ap (truthInTree sheet instance env) (sym (g .4)),
         )
 
     pub test-step : IsFormula sheet v → formulaForm (rowOf (n .kind) .rule) ≡ of-formula.Test
@@ -299,14 +294,13 @@ module _ (sheet : Sheet) (instance : List ℕ) (facts : Facts sheet) (v : ℕ) (
         (λ m.
         IsExpression sheet (m .a) × (m .a < v)
         × ((env : Environment) (P : Matrix Bool) → P ≡ valueOfTree sheet instance env (treeAt sheet (m .a))
-        → testBy (m .kind) (count (P .cells)) ≡ truthInTree sheet instance env (treeAt sheet v)))
-        (
+        → testBy (m .kind) (count (P .cells)) ≡ truthInTree sheet instance env (treeAt sheet v))) (
           lower-expression (fieldA sheet v) (g .0) la (g .1),
           la,
           λ env P ep.
-          test-of (kind sheet v) (says .0) (P .cells) (says .1)
-          ∙ ap (λ (m : Matrix Bool). truthTest (says .0) (m .cells)) (ep ∙ ap (valueOfTree sheet instance env) (g .1))
-          ∙ truth-test sheet instance env (says .0) (g .0) ∙ ap (truthInTree sheet instance env) (sym (g .2)),
+              test-of (kind sheet v) (says .0) (P .cells) (says .1)
+              ∙ ap (λ (m : Matrix Bool). truthTest (says .0) (m .cells)) (ep ∙ ap (valueOfTree sheet instance env) (g .1))
+              ∙ truth-test sheet instance env (says .0) (g .0) ∙ ap (truthInTree sheet instance env) (sym (g .2)),
         )
 
     pub negation-step : IsFormula sheet v → formulaForm (rowOf (n .kind) .rule) ≡ of-formula.Negation
@@ -324,13 +318,12 @@ module _ (sheet : Sheet) (instance : List ℕ) (facts : Facts sheet) (v : ℕ) (
         at-node
         (λ m.
         IsFormula sheet (m .a) × (m .a < v)
-        × ((env : Environment) → not (truthInTree sheet instance env (treeAt sheet (m .a))) ≡ truthInTree sheet instance env (treeAt sheet v)))
-        (
+        × ((env : Environment) → not (truthInTree sheet instance env (treeAt sheet (m .a))) ≡ truthInTree sheet instance env (treeAt sheet v))) (
           lower-formula (fieldA sheet v) (g .0) la (g .1),
           la,
           λ env.
-          ap (λ t. not (truthInTree sheet instance env t)) (g .1) ∙ truth-negation sheet instance env (g .0)
-          ∙ ap (truthInTree sheet instance env) (sym (g .2)),
+              ap (λ t. not (truthInTree sheet instance env t)) (g .1) ∙ truth-negation sheet instance env (g .0)
+              ∙ ap (truthInTree sheet instance env) (sym (g .2)),
         )
 
     pub connective-step : IsFormula sheet v → formulaForm (rowOf (n .kind) .rule) ≡ of-formula.Connective
@@ -351,16 +344,15 @@ module _ (sheet : Sheet) (instance : List ℕ) (facts : Facts sheet) (v : ℕ) (
         IsFormula sheet (m .a) × (m .a < v) × IsFormula sheet (m .b) × (m .b < v)
         × ((env : Environment) (p q : Bool) → p ≡ truthInTree sheet instance env (treeAt sheet (m .a))
         → q ≡ truthInTree sheet instance env (treeAt sheet (m .b))
-        → connectiveBy (m .kind) (p, q) ≡ truthInTree sheet instance env (treeAt sheet v)))
-        (
+        → connectiveBy (m .kind) (p, q) ≡ truthInTree sheet instance env (treeAt sheet v))) (
           lower-formula (fieldA sheet v) (g .0) la (g .2),
           la,
           lower-formula (fieldB sheet v) (g .1) lb (g .3),
           lb,
           λ env p q ep eq.
-          connective-of (kind sheet v) (says .0) p q (says .1)
-          ∙ ap₂ (truthConnective (says .0)) (ep ∙ ap (truthInTree sheet instance env) (g .2)) (eq ∙ ap (truthInTree sheet instance env) (g .3))
-          ∙ truth-connective sheet instance env (says .0) (g .0) (g .1) ∙ ap (truthInTree sheet instance env) (sym (g .4)),
+              connective-of (kind sheet v) (says .0) p q (says .1)
+              ∙ ap₂ (truthConnective (says .0)) (ep ∙ ap (truthInTree sheet instance env) (g .2)) (eq ∙ ap (truthInTree sheet instance env) (g .3))
+              ∙ truth-connective sheet instance env (says .0) (g .0) (g .1) ∙ ap (truthInTree sheet instance env) (sym (g .4)),
         )
 
     pub quantifier-step : IsFormula sheet v → formulaForm (rowOf (n .kind) .rule) ≡ of-formula.Quantifier
@@ -381,15 +373,14 @@ module _ (sheet : Sheet) (instance : List ℕ) (facts : Facts sheet) (v : ℕ) (
         (λ m.
         IsFormula sheet (m .b) × (m .b < v) × (m .a < 4)
         × ((env : Environment) → quantifierBy (m .kind) (truths sheet instance env (m .a) (treeAt sheet (m .b)))
-        ≡ truthInTree sheet instance env (treeAt sheet v)))
-        (
+        ≡ truthInTree sheet instance env (treeAt sheet v))) (
           lower-formula (fieldB sheet v) (g .0) lb (g .1),
           lb,
           omega (arith, facts .counts .few-variables),
           λ env.
-          quantifier-of (kind sheet v) (says .0) (truths sheet instance env (fieldA sheet v) (treeAt sheet (fieldB sheet v))) (says .1)
-          ∙ ap (λ t. truthQuantifier (says .0) (truths sheet instance env (fieldA sheet v) t)) (g .1)
-          ∙ truth-quantified sheet instance env (says .0) (fieldA sheet v) (g .0) ∙ ap (truthInTree sheet instance env) (sym (g .2)),
+              quantifier-of (kind sheet v) (says .0) (truths sheet instance env (fieldA sheet v) (treeAt sheet (fieldB sheet v))) (says .1)
+              ∙ ap (λ t. truthQuantifier (says .0) (truths sheet instance env (fieldA sheet v) t)) (g .1)
+              ∙ truth-quantified sheet instance env (says .0) (fieldA sheet v) (g .0) ∙ ap (truthInTree sheet instance env) (sym (g .2)),
         )
 
     pub no-formula : formulaForm (rowOf (n .kind) .rule) ≡ of-formula.Other

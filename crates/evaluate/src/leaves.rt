@@ -31,7 +31,15 @@ pub(crate) fn bind(env: [usize; 4], x: usize, atom: usize) -> [usize; 4]
     inner
 }
 
-fn relation(sorts: &[u8], variables: &[u8], relations: &[u8], nodes: &[u8], instance: &[u8], starts: &[usize], r: usize) -> Value
+fn relation(
+    sorts: &[u8],
+    variables: &[u8],
+    relations: &[u8],
+    nodes: &[u8],
+    instance: &[u8],
+    starts: &[usize],
+    r: usize,
+) -> Value
     requires { ⌜ walking.Ready (blocks.fourBlocks (now sorts) (now variables) (now relations) (now nodes)) (now starts) ⌝ }
     requires { ⌜ r < blocks.relationCount (blocks.fourBlocks (now sorts) (now variables) (now relations) (now nodes)) ⌝ }
     ensures { λ v. ⌜ ((env : meaning.Environment) → Gives v (spec.valueLeaf (blocks.fourBlocks (now (sorts .entry)) (now (variables .entry)) (now (relations .entry)) (now (nodes .entry))) (now (instance .entry)) trees.relation r env)) ⌝ }
@@ -54,7 +62,17 @@ pub(crate) fn quantify(kind: usize, a: bool, b: bool) -> bool
 }
 
 // The value of a leaf of a kind over field a.
-pub(crate) fn leaf(sorts: &[u8], variables: &[u8], relations: &[u8], nodes: &[u8], instance: &[u8], starts: &[usize], env: [usize; 4], kind: usize, a: usize) -> Value
+pub(crate) fn leaf(
+    sorts: &[u8],
+    variables: &[u8],
+    relations: &[u8],
+    nodes: &[u8],
+    instance: &[u8],
+    starts: &[usize],
+    env: [usize; 4],
+    kind: usize,
+    a: usize,
+) -> Value
     requires { ⌜ walking.Ready (blocks.fourBlocks (now sorts) (now variables) (now relations) (now nodes)) (now starts) ⌝ }
     requires { ⌜ walking.Present (blocks.fourBlocks (now sorts) (now variables) (now relations) (now nodes)) kind a ⌝ }
     requires { ⌜ length env ≡ 4 ⌝ }

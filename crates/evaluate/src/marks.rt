@@ -34,7 +34,10 @@ fn rows_hold(
     let mut fine = true;
     let mut i: usize = 0;
     while i < rows {
-        fine = both(fine, row_holds(instance, mark, first + i * columns, columns));
+        fine = both(
+            fine,
+            row_holds(instance, mark, first + i * columns, columns),
+        );
         i += 1;
     }
     fine
@@ -56,7 +59,10 @@ pub(crate) fn marks_hold(
     let mut fine = true;
     let mut r: usize = 0;
     while r < count {
-        fine = both(fine, rows_hold(sorts, variables, relations, nodes, instance, starts, r));
+        fine = both(
+            fine,
+            rows_hold(sorts, variables, relations, nodes, instance, starts, r),
+        );
         r += 1;
     }
     fine

@@ -45,7 +45,17 @@ fn expression(
     let b = node.b;
     let form = expression_form(kind);
     match form {
-        ExpressionForm::Leaf => leaf(sorts, variables, relations, nodes, instance, starts, env, kind, a),
+        ExpressionForm::Leaf => leaf(
+            sorts,
+            variables,
+            relations,
+            nodes,
+            instance,
+            starts,
+            env,
+            kind,
+            a,
+        ),
         ExpressionForm::Binary => {
             let p = expression(sorts, variables, relations, nodes, instance, starts, env, a);
             let q = expression(sorts, variables, relations, nodes, instance, starts, env, b);
@@ -55,7 +65,17 @@ fn expression(
             let p = expression(sorts, variables, relations, nodes, instance, starts, env, a);
             unary(kind, p)
         }
-        ExpressionForm::Comprehension => comprehension(sorts, variables, relations, nodes, instance, starts, env, b, a),
+        ExpressionForm::Comprehension => comprehension(
+            sorts,
+            variables,
+            relations,
+            nodes,
+            instance,
+            starts,
+            env,
+            b,
+            a,
+        ),
         ExpressionForm::Other => full(0),
     }
 }
@@ -83,7 +103,16 @@ fn comprehension(
     let mut k: usize = 0;
     while k < n {
         let inner = bind(env, x, k);
-        cells[k] = formula(sorts, variables, relations, nodes, instance, starts, inner, body);
+        cells[k] = formula(
+            sorts,
+            variables,
+            relations,
+            nodes,
+            instance,
+            starts,
+            inner,
+            body,
+        );
         k += 1;
     }
     Value {
@@ -118,7 +147,20 @@ fn quantified(
     let mut k: usize = 0;
     while k < n {
         let inner = bind(env, x, k);
-        truth = quantify(kind, truth, formula(sorts, variables, relations, nodes, instance, starts, inner, body));
+        truth = quantify(
+            kind,
+            truth,
+            formula(
+                sorts,
+                variables,
+                relations,
+                nodes,
+                instance,
+                starts,
+                inner,
+                body,
+            ),
+        );
         k += 1;
     }
     truth
@@ -155,13 +197,33 @@ pub(crate) fn formula(
             let p = expression(sorts, variables, relations, nodes, instance, starts, env, a);
             test(kind, p)
         }
-        FormulaForm::Negation => !formula(sorts, variables, relations, nodes, instance, starts, env, a),
+        FormulaForm::Negation => !formula(
+            sorts,
+            variables,
+            relations,
+            nodes,
+            instance,
+            starts,
+            env,
+            a,
+        ),
         FormulaForm::Connective => {
             let p = formula(sorts, variables, relations, nodes, instance, starts, env, a);
             let q = formula(sorts, variables, relations, nodes, instance, starts, env, b);
             connect(kind, p, q)
         }
-        FormulaForm::Quantifier => quantified(sorts, variables, relations, nodes, instance, starts, env, b, a, kind),
+        FormulaForm::Quantifier => quantified(
+            sorts,
+            variables,
+            relations,
+            nodes,
+            instance,
+            starts,
+            env,
+            b,
+            a,
+            kind,
+        ),
         FormulaForm::Other => false,
     }
 }

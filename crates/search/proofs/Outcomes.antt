@@ -24,7 +24,7 @@ module _ (list : List ℤ) (v : ℕ) (values : List ℕ) (trail : List ℤ) (bud
 
   by-tests : (b c : Bool) → isList v list ≡ b → long ≡ c
       → outcome list v values trail budget ≡ cond b (cond c (finish v values trail (searchRun list v budget)) (refuse 13 values trail))
-          (refuse 12 values trail)
+      (refuse 12 values trail)
   unfolding outcome
   by-tests b c p q =
       ap (λ x. cond x (cond long (finish v values trail (searchRun list v budget)) (refuse 13 values trail)) (refuse 12 values trail)) p

@@ -81,7 +81,7 @@ module _ (list : List ℤ) (v : ℕ) (values : List ℕ) (trail : List ℤ) (bud
       let s = rules.found-satisfies (clausesOf list) v (ranged v list (fine-list v list (r .0 .is-list))) budget zeros (w .0) [] (w .1) (w .2) in
       let m : length (map settle (valuesOf v (w .1))) ≡ v = length-map (valuesOf v (w .1)) settle ∙ length-values v (w .1) in
       let q : call .values ≡ map settle (valuesOf v (w .1)) ++ drop v values =
-            ap (λ o. o .values) (r .0 .ends) ∙ ap (λ x. valuesAt v x ++ drop v values) (w .2) in
+      ap (λ o. o .values) (r .0 .ends) ∙ ap (λ x. valuesAt v x ++ drop v values) (w .2) in
       rw (q, take-at (map settle (valuesOf v (w .1))) (drop v values) v m) s
 
   -- "spent", of a call that is not refused, exactly when no end is reached after at most the budget's steps

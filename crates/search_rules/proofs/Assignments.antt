@@ -109,10 +109,10 @@ module _ (values : List ℕ) (a : Assignment) (agrees : (i : ℕ) → Agrees (tr
   open-step : (k l : ℤ) (clause : List ℤ) (t : Truth) → literal values l ≡ t
       → isSatisfied t || any (λ l. isSatisfied (literal values l)) clause ≡ false
       → all (sameLiteral k)
-        (elim t as (λ _. List ℤ)
-          [ falsified ↦ openOf values clause | satisfied ↦ openOf values clause | unassigned ↦ l ∷ openOf values clause ]) ≡ true
+      (elim t as (λ _. List ℤ)
+      [ falsified ↦ openOf values clause | satisfied ↦ openOf values clause | unassigned ↦ l ∷ openOf values clause ]) ≡ true
       → (any (λ l. isSatisfied (literal values l)) clause ≡ false → all (sameLiteral k) (openOf values clause) ≡ true
-        → Holds a clause → holds a k ≡ true)
+      → Holds a clause → holds a k ≡ true)
       → (holds a l ≡ true) ⊎ Holds a clause → holds a k ≡ true
   unfolding isSatisfied all
   open-step k l clause falsified d s e p h = ⊎-elim (λ q. absurd (clash _ q (falsified-false l d))) (p s e) h

@@ -95,7 +95,7 @@ module _ (v : ℕ) (values : List ℕ) where
   -- the first of a clause's open literals
   open-step : (k l : ℤ) (clause ls : List ℤ) → InRange v l → (t : Truth) → literal values l ≡ t
       → elim t as (λ _. List ℤ) [ falsified ↦ openOf values clause | satisfied ↦ openOf values clause | unassigned ↦ l ∷ openOf values clause ]
-          ≡ k ∷ ls
+      ≡ k ∷ ls
       → (openOf values clause ≡ k ∷ ls → OpenIn v values k) → OpenIn v values k
   open-step k l clause ls r falsified d e p = p e
   open-step k l clause ls r satisfied d e p = p e

@@ -31,9 +31,12 @@ fine-of v zero (w ∷ ws) h e = absurd (omega arith)
 fine-of v (suc rounds) [] h e = tt
 fine-of v (suc rounds) (w ∷ ws) h e =
     let b = and-true _ _ e in
-    let c = and-true _ _ (b .1) in
-    (count-word (length ws) w (b .0), count-high (length ws) w (b .0), all-in v _ (c .0),
-     fine-of v rounds (drop (natAbs w) ws) (omega (arith, length-drop (natAbs w) ws)) (c .1))
+    let c = and-true _ _ (b .1) in (
+      count-word (length ws) w (b .0),
+      count-high (length ws) w (b .0),
+      all-in v _ (c .0),
+      fine-of v rounds (drop (natAbs w) ws) (omega (arith, length-drop (natAbs w) ws)) (c .1),
+    )
 
 pub fine-list : (v : ℕ) (list : List ℤ) → isList v list ≡ true → Fine v list
 unfolding Fine

@@ -94,7 +94,7 @@ module _ (clauses : List (List ℤ)) (v : ℕ) where
   goes-not-ended n start s kind s' a g w =
       let m : w .steps + (n - w .steps) ≡ n = (let l = w .within in omega arith) in
       let d : after clauses v (n - w .steps) (w .state) ≡ some s = sym (after-add (w .steps) (n - w .steps) start (w .state) (w .reached))
-          ∙ (rw m a) in
+      ∙ (rw m a) in
       let q : w .state ≡ s = after-end (n - w .steps) (w .state) s (w .ends) d .1 in
       let x : (next clauses v s ≡ endNone) ⊎ (next clauses v s ≡ endFound) = rw q at (w .ends) in
       ⊎-elim (λ y. let z : _≡_ {A = ℕ} 0 1 = cc in omega arith) (λ y. let z : _≡_ {A = ℕ} 0 1 = cc in omega arith) x

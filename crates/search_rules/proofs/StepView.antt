@@ -87,13 +87,16 @@ module _ (clauses : List (List ℤ)) (v : ℕ) where
 
       unit : (u : Option ℤ) → firstUnit values clauses ≡ u → conflict values clauses ≡ false
           → Step clauses v state
-            (elim u as (λ _. Next) [ some l ↦ step propagation (propagated l ∷ state) | none ↦ decide state (lowestOpen 0 values) ])
+          (elim u as (λ _. Next) [ some l ↦ step propagation (propagated l ∷ state) | none ↦ decide state (lowestOpen 0 values) ])
       unit none u c = low c u
       unit (some l) u c = propagates refl c u
 
       by : (b : Bool) → conflict values clauses ≡ b
-          → Step clauses v state (elim b as (λ _. Next) [ true ↦ turn state | false ↦ elim (firstUnit values clauses) as (λ _. Next)
-              [ some l ↦ step propagation (propagated l ∷ state) | none ↦ decide state (lowestOpen 0 values) ] ])
+          → Step clauses v state (elim b as (λ _. Next) [
+            | true ↦ turn state
+            | false ↦ elim (firstUnit values clauses) as (λ _. Next)
+                [ some l ↦ step propagation (propagated l ∷ state) | none ↦ decide state (lowestOpen 0 values) ]
+          ])
       by true c = ⊎-elim (λ d. ends-none d c d) (λ d. backtracks (d .1) c (d .1)) (turns-of state)
       by false c = unit (firstUnit values clauses) refl c
 

@@ -62,7 +62,7 @@ module _ (clauses : List (List ℤ)) (v : ℕ) where
     where
       by : (n : ℕ) (x : Next) → next clauses v state ≡ x
           → run clauses v n t state
-            ≡ again n (elim x as (λ _. End) [ endNone ↦ wasNone t | endFound ↦ wasFound t state | step kind s ↦ wasSpent t state ])
+          ≡ again n (elim x as (λ _. End) [ endNone ↦ wasNone t | endFound ↦ wasFound t state | step kind s ↦ wasSpent t state ])
       by zero endNone e = rw (e, run)
       by zero endFound e = rw (e, run)
       by zero (step kind s) e = refl

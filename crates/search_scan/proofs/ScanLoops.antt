@@ -285,18 +285,33 @@ done ws vs i₀ at i o u h n =
 module _ (ws : List ℤ) (vs : List ℕ) (at u n : ℕ) (h : Head ws vs at u n) where
   pub on-held : look vs allFalse (slice (at + 1) (at + 1 + n) ws) ≡ isHeld → Outer ws vs (at + 1 + n) u
   on-held e = record {
-    within = h .within; fuel = h .fuel; fine = h .fine; so = h .so; kept = h .kept;
-    same = sym (pass-held vs (h .so) _ _ e) ∙ h .same }
+    within = h .within;
+    fuel = h .fuel;
+    fine = h .fine;
+    so = h .so;
+    kept = h .kept;
+    same = sym (pass-held vs (h .so) _ _ e) ∙ h .same;
+  }
 
   pub on-several : look vs allFalse (slice (at + 1) (at + 1 + n) ws) ≡ several → Outer ws vs (at + 1 + n) u
   on-several e = record {
-    within = h .within; fuel = h .fuel; fine = h .fine; so = h .so; kept = h .kept;
-    same = sym (pass-several vs (h .so) _ _ e) ∙ h .same }
+    within = h .within;
+    fuel = h .fuel;
+    fine = h .fine;
+    so = h .so;
+    kept = h .kept;
+    same = sym (pass-several vs (h .so) _ _ e) ∙ h .same;
+  }
 
   pub on-unit : (k : ℤ) (u' : ℕ) → look vs allFalse (slice (at + 1) (at + 1 + n) ws) ≡ sole k → Kept (keep (h .so) k) u' → Outer ws vs (at + 1 + n) u'
   on-unit k u' e g = record {
-    within = h .within; fuel = h .fuel; fine = h .fine; so = keep (h .so) k; kept = g;
-    same = sym (pass-unit vs (h .so) _ _ k e) ∙ h .same }
+    within = h .within;
+    fuel = h .fuel;
+    fine = h .fine;
+    so = keep (h .so) k;
+    kept = g;
+    same = sym (pass-unit vs (h .so) _ _ k e) ∙ h .same;
+  }
 
   pub on-conflict : look vs allFalse (slice (at + 1) (at + 1 + n) ws) ≡ allFalse → conflicting ≡ seen vs (clausesOf ws)
   on-conflict e = sym (pass-conflict vs (h .so) _ _ e) ∙ h .same

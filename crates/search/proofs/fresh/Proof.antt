@@ -42,9 +42,17 @@ module _ (c : tie.After-run-arg2) where
 
 run-requires : tie.Need-run-requires
 unfolding total
-run-requires c κs =
-    (rw (wide c) (s c .pre .0), (rw (wide c) (s c .pre .1 .0), (record { state = []; stored = rw (wide c) (held c) }, omega
-        (arith, s c .fits .budget))))
+run-requires c κs = (
+  rw (wide c) (s c .pre .0),
+  (
+    rw (wide c) (s c .pre .1 .0),
+    (
+      record { state = []; stored = rw (wide c) (held c) },
+      omega
+          (arith, s c .fits .budget),
+    ),
+  ),
+)
 
 -- the run's end, and its figure
 module _ (c : tie.After-run) where
@@ -102,7 +110,7 @@ returns-2 : tie.Need-returns-2
 unfolding total
 returns-2 c =
     let f = finish-found _ _ _ _ _ (ended (c .before .before .before .before .before .before .before .before .before .before .before .before))
-        (c .before .before .before .before .enum-told2 .given .1) in
+    (c .before .before .before .before .enum-told2 .given .1) in
     (f .0, (c .before .before .settle-all .ensures ∙ f .1 .0, f .1 .1))
 
 same-length-5 : tie.Need-same-length-5

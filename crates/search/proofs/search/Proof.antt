@@ -70,8 +70,8 @@ returns-4 c =
     let w = c .before .before .before .before in
     let e = rw (wide w) at (c .before .before .before .fresh .ensures) in
     finishes _ _ _ _ _ _ _ _ (runs _ _ _ _ _ (accepts (c .before .before .before .before .before .before .before .before))
-        (c .before .before .before .before .before .before .before .if2 .left) (c .before .before .before .before .before .before .if3 .left))
-        (e .0) (e .1 .0) (e .1 .1)
+    (c .before .before .before .before .before .before .before .if2 .left) (c .before .before .before .before .before .before .if3 .left))
+    (e .0) (e .1 .0) (e .1 .1)
 
 pub search-spec : {M : Type 1} → statement M
 search-spec =

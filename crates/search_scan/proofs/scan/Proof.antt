@@ -79,8 +79,11 @@ shared-slice-copy-out-l : tie.Need-shared-slice-copy-out-l Inv-loop μ-loop Inv-
 shared-slice-copy-out-l c = omega (arith, head (c .before .before) .within)
 
 truth-requires : tie.Need-truth-requires Inv-loop μ-loop Inv-clauses μ-clauses
-truth-requires c κs = (rw (lit-is c) (literal-in _ _ _ _ _ (head (c .before .before .before) .within) (c .before .loop-test .taken) _ _
-    (c .before .before .loop .inv)), c .before .before .before .before .before .before .before .pre .1)
+truth-requires c κs = (
+  rw (lit-is c) (literal-in _ _ _ _ _ (head (c .before .before .before) .within) (c .before .loop-test .taken) _ _
+      (c .before .before .loop .inv)),
+  c .before .before .before .before .before .before .before .pre .1,
+)
 
 clauses-less : tie.Need-clauses-less Inv-loop μ-loop Inv-clauses μ-clauses
 clauses-less c = omega (arith, head (c .before .before .before .before .before) .within)
@@ -108,9 +111,9 @@ clauses-again-3 c =
     let less = c .before .before .before .before .before .before .before .loop-test .taken in
     let inv = c .before .before .before .before .before .before .before .before .loop .inv in
     on-skip _ _ _ _ _ hd (is-several _ _ _ _ _ (hd .within) less _ _ inv
-        (code-open _ _ (says (c .before .before .before .before .before)) (c .before .before .before .if2 .taken))
+    (code-open _ _ (says (c .before .before .before .before .before)) (c .before .before .before .if2 .taken))
     (meets-other _ _ _ (literal-in _ _ _ _ _ (hd .within) less _ _ inv) (sfits-of (c .before .before .before .before .before .before .l .given))
-        refl _ _ (inv .seen) (c .before .if4 .left) (c .if5 .taken)))
+    refl _ _ (inv .seen) (c .before .if4 .left) (c .if5 .taken)))
 
 add-i-2 : tie.Need-add-i-2 Inv-loop μ-loop Inv-clauses μ-clauses
 add-i-2 c = omega (arith, head (c .before .before .before .before .before .before) .within)
@@ -128,10 +131,10 @@ loop-again c =
     let range = literal-in _ _ _ _ _ (hd .within) less _ _ inv in
     ⊎-elim
     (λ w. is-open _ _ _ _ _ (hd .within) less _ _ inv _ (w .1 .left) (code-open _ _ (says st) (w .0 .taken))
-        (rw (w .3) (meets-first _ _ _ range fits refl _ _ (inv .seen) (w .2 .taken))))
+    (rw (w .3) (meets-first _ _ _ range fits refl _ _ (inv .seen) (w .2 .taken))))
     (⊎-elim
     (λ w. is-open _ _ _ _ _ (hd .within) less _ _ inv _ (w .1 .left) (code-open _ _ (says st) (w .0 .taken))
-        (rw (w .4) (meets-same _ _ _ range fits refl _ _ (inv .seen) (w .2 .left) (w .3 .left))))
+    (rw (w .4) (meets-same _ _ _ range fits refl _ _ (inv .seen) (w .2 .left) (w .3 .left))))
     (λ w. rw (w .1) (is-false _ _ _ _ _ (hd .within) less _ _ inv (code-false _ _ (says st) (c .before .if1 .left) (w .0 .left)))))
     (c .if2 .came)
 

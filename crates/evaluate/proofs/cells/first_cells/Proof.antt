@@ -13,7 +13,7 @@ use Rattle.evaluate.proofs.cells.first_cells.Statement.{statement}
 use Rattle.evaluate.proofs.cells.first_cells.Tie as tie
 
 abbrev Inv-loop : tie.InvT-loop
-Inv-loop sorts relations n starts₀ count₀ r₀ starts count r = 
+Inv-loop sorts relations n starts₀ count₀ r₀ starts count r =
     (r ≤ n)
     × ((count ≤ 64 * r)
     × ((length starts ≡ 16)
@@ -56,13 +56,17 @@ loop-again c =
     let rows = c .before .row-count in
     let columns = c .row-length in (
       omega arith,
-      (omega (arith, mul-le-mul (rows .ensures .0) (columns .ensures .0), l .inv .1 .0),
-      (length-set (l .starts) (l .r) (l .count) ∙ l .inv .1 .1 .0,
-      λ sheet es er.
-      let i = l .inv .1 .1 .1 sheet es er in (
-        next-first sheet (l .r) (l .count) (rows .result) (columns .result) (i .0) (rows .ensures .1 sheet es er) (columns .ensures .1 sheet es er),
-        starts-more sheet (l .starts) (l .r) (l .count) (omega (arith, l .inv .1 .1 .0)) (i .0) (i .1),
-      ))),
+      (
+        omega (arith, mul-le-mul (rows .ensures .0) (columns .ensures .0), l .inv .1 .0),
+        (
+          length-set (l .starts) (l .r) (l .count) ∙ l .inv .1 .1 .0,
+          λ sheet es er.
+              let i = l .inv .1 .1 .1 sheet es er in (
+                next-first sheet (l .r) (l .count) (rows .result) (columns .result) (i .0) (rows .ensures .1 sheet es er) (columns .ensures .1 sheet es er),
+                starts-more sheet (l .starts) (l .r) (l .count) (omega (arith, l .inv .1 .1 .0)) (i .0) (i .1),
+              ),
+        ),
+      ),
     )
 
 returns : tie.Need-returns Inv-loop μ-loop
@@ -71,11 +75,11 @@ returns c =
     let a = c .before .before .before .before in (
       omega (arith, l .inv .1 .0, a .pre .0),
       λ sheet es er.
-      let i = l .inv .1 .1 .1 sheet es er in
-      let k : l .r ≡ length (sheet .relations) / 4 = rw er (omega arith) in (
-        i .0 ∙ ap (firstCell sheet) k,
-        record { long = l .inv .1 .1 .0; first = λ q h. i .1 q (omega (arith, k)) },
-      ),
+          let i = l .inv .1 .1 .1 sheet es er in
+          let k : l .r ≡ length (sheet .relations) / 4 = rw er (omega arith) in (
+            i .0 ∙ ap (firstCell sheet) k,
+            record { long = l .inv .1 .1 .0; first = λ q h. i .1 q (omega (arith, k)) },
+          ),
     )
 
 pub first-cells-spec : {M : Type 1} → statement M

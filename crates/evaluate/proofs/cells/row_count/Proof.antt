@@ -37,8 +37,8 @@ returns-2 c =
     let a = c .before .before .before .before .before .before in (
       rw (c .byte3 .ensures .0) (a .pre .1 (c .before .byte2 .result)),
       λ sheet es er.
-      c .byte3 .ensures .0 ∙ (rw (c .before .byte2 .ensures .0, ← es, ← er) refl)
-      ∙ count-relation sheet (a .args .r) (λ e. c .before .before .if1 .left (c .before .before .before .byte .ensures .0 ∙ (rw (← er) e))),
+          c .byte3 .ensures .0 ∙ (rw (c .before .byte2 .ensures .0, ← es, ← er) refl)
+          ∙ count-relation sheet (a .args .r) (λ e. c .before .before .if1 .left (c .before .before .before .byte .ensures .0 ∙ (rw (← er) e))),
     )
 
 pub row-count-spec : {M : Type 1} → statement M

@@ -42,8 +42,8 @@ returns c =
     let a = c .before .before .before .before .before .before in (
       rw (c .byte3 .ensures .0) (a .pre .1 (c .before .byte2 .result)),
       λ sheet es er.
-      c .byte3 .ensures .0 ∙ (rw (c .before .byte2 .ensures .0, ← es, ← er) refl)
-      ∙ length-set-row sheet (a .args .r) (rw er (sym (c .before .before .before .byte .ensures .0) ∙ c .before .before .if1 .taken)),
+          c .byte3 .ensures .0 ∙ (rw (c .before .byte2 .ensures .0, ← es, ← er) refl)
+          ∙ length-set-row sheet (a .args .r) (rw er (sym (c .before .before .before .byte .ensures .0) ∙ c .before .before .if1 .taken)),
     )
 
 returns-2 : tie.Need-returns-2
@@ -51,9 +51,9 @@ returns-2 c =
     let a = c .before .before .before .before .before .before in (
       rw (c .byte5 .ensures .0) (a .pre .1 (c .before .byte4 .result)),
       λ sheet es er.
-      c .byte5 .ensures .0 ∙ (rw (c .before .byte4 .ensures .0, ← es, ← er) refl)
-      ∙ length-relation-row sheet (a .args .r)
-      (λ e. c .before .before .if1 .left (c .before .before .before .byte .ensures .0 ∙ (rw (← er) e))),
+          c .byte5 .ensures .0 ∙ (rw (c .before .byte4 .ensures .0, ← es, ← er) refl)
+          ∙ length-relation-row sheet (a .args .r)
+          (λ e. c .before .before .if1 .left (c .before .before .before .byte .ensures .0 ∙ (rw (← er) e))),
     )
 
 pub row-length-spec : {M : Type 1} → statement M

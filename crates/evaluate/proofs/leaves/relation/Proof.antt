@@ -40,11 +40,14 @@ given-requires c κs =
     let a = c .before .before .before .before .before .before .before .before .before .before in
     let sheet = fourBlocks (a .args .sorts .now) (a .args .variables .now) (a .args .relations .now) (a .args .nodes .now) in
     let r = a .args .r in
-    let rows = c .before .row-count in
-    ((omega (arith, a .pre .0 .cells .first r (a .pre .1), first-few sheet (a .pre .0 .facts .scope-few) r, a .pre .0 .facts .counts .few-relations),
-    (rows .ensures .0, c .row-length .ensures .0)),
-    rw (c .before .before .byte .ensures .0, rows .ensures .1 sheet refl refl)
-    (set-or-relation sheet r (a .pre .0 .facts .columns-two r (a .pre .1))))
+    let rows = c .before .row-count in (
+      (
+        omega (arith, a .pre .0 .cells .first r (a .pre .1), first-few sheet (a .pre .0 .facts .scope-few) r, a .pre .0 .facts .counts .few-relations),
+        (rows .ensures .0, c .row-length .ensures .0),
+      ),
+      rw (c .before .before .byte .ensures .0, rows .ensures .1 sheet refl refl)
+          (set-or-relation sheet r (a .pre .0 .facts .columns-two r (a .pre .1))),
+    )
 
 returns : tie.Need-returns
 returns c env =

@@ -51,4 +51,4 @@ pub ends-spec : {M : Type 1} → statement M
 ends-spec =
     tie.close
     (tie.spec scan-requires enum-told any-decision-requires returns enum-told-2 enum-told-3 lowest-open-requires returns-2 returns-3 returns-4
-        returns-5)
+    returns-5)

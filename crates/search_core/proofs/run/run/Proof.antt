@@ -133,10 +133,10 @@ returns-3 c state i =
     let l = c .before .before .before .before .before .before .before .before .before .before .before .before .loop .inv in
     let f = l .far state i in
     let e = (rw (l .wide) at (c .before .before .before .before .before .before .before .before .before .ends .ensures)) (f .at)
-        (f .stored .was-open) (f .stored .values-are) in
+    (f .stored .was-open) (f .stored .values-are) in
     let b = (rw (l .wide) at (c .before .before .before .before .back .ensures)) (f .at) (f .stored) in
     far-emptied _ _ _ _ _ _ _ _ _ f _ _ _ _ _ refl (sym (c .before .before .before .before .before .before .before .enum-told3 .given .1) ∙ e)
-        (c .emptied2 .ensures .0) (c .emptied2 .ensures .1) b
+    (c .emptied2 .ensures .0) (c .emptied2 .ensures .1) b
 
 same-length-7 : tie.Need-same-length-7 Inv-loop μ-loop
 same-length-7 c = c .before .before .before .before .before .loop .inv .wide

@@ -90,7 +90,7 @@ add-t27 : tie.Need-add-t27
 add-t27 c =
     let s = c .before .before .before .before .before .before .before .before .before .before .before .before .before .before in
     let w = low-open _ _ (c .before .before .before .before .before .before .before .lowest-open .ensures)
-        (c .before .before .before .before .before .before .if2 .left) in
+    (c .before .before .before .before .before .before .if2 .left) in
     omega (arith, has-room _ _ _ _ _ (s .pre .1 .1 .stored) _ (w .0 .within) (w .0 .is-open), s .good .1 .1 .0 .0)
 
 same-length-4 : tie.Need-same-length-4
