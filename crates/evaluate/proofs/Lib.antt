@@ -1,0 +1,5 @@
+mod Symbols
+mod Steps
+mod Layouts
+mod Loops
+mod Roots

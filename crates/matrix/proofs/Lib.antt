@@ -1,0 +1,6 @@
+pub mod Filling
+pub mod Results
+pub mod Counting
+mod Powers
+mod Arities
+pub mod Symbols
