@@ -9,6 +9,8 @@ use lib.Dec.{eqb, leb}
 use lib.ListN.{length}
 use borrow.Author.Tests.{eq-eqb, ne-eqb}
 use Rattle.prelude.specs.Tests.{all}
+use Rattle.refusal.specs.declared.Refusal.{Refusal}
+use Rattle.refusal.specs.Refusals.{numberOf}
 use Rattle.sheet.specs.declared.Layout.{Layout}
 use Rattle.sheet.specs.declared.Reading.the-variants as r
 use Rattle.sheet.specs.Blocks.{Sheet, sheetOf}
@@ -55,3 +57,8 @@ module _ (sheet : Sheet) (instance : List ℕ) (count : ℕ) (e : count ≡ cell
       → truth ≡ holds sheet instance → cond truth yes no ≡ heldAnswer sheet instance
   unfolding heldAnswer withinScopes
   evaluated fine truth l h f t = rw (eq-eqb (length instance) (cellCount sheet) (l ∙ e), ← h, f, ← t)
+
+pub declined : (sheet instance : List ℕ) (refusal : Refusal) → reading sheet ≡ r.Refused refusal
+    → CheckAnswers sheet instance (refused (numberOf refusal))
+unfolding CheckAnswers
+declined sheet instance refusal e = rw e refl

@@ -1,10 +1,9 @@
+-- Refused as reading refuses, else the check over the blocks.
+use mathlib.Core.Path.{_≡_, refl, sym, ap, _∙_}
+use Rattle.instance.proofs.Held.{declined}
 use borrow.Author.Needs.{needs}
 use Rattle.instance.proofs.check.Statement.{statement}
 use Rattle.instance.proofs.check.Tie as tie
-use Rattle.instance.proofs.check.Reads as reads
-use Rattle.instance.proofs.check.Lts as lts
-use Rattle.instance.proofs.check_accepted.Reads as check-accepted-reads
-use Rattle.sheet.proofs.read.Reads as read-reads
 
 read-requires : tie.Need-read-requires
 read-requires c κs = search needs
@@ -16,10 +15,12 @@ enum-known-answer-2 : tie.Need-enum-known-answer-2
 enum-known-answer-2 c = search needs
 
 check-accepted-requires : tie.Need-check-accepted-requires
-check-accepted-requires c κs = ?
+check-accepted-requires c κs = sym (c .before .before .before .read .ensures) ∙ c .known-told2 .given
 
 returns : tie.Need-returns
-returns c = ?
+returns c =
+    let s = c .before .before .before .before .before .before in
+    declined (s .args .sheet .now) (s .args .instance .now) _ (sym (c .before .before .before .read .ensures) ∙ c .known-told .given)
 
 returns-2 : tie.Need-returns-2
 returns-2 c = search needs
