@@ -15,12 +15,12 @@ enum-known-answer-2 : tie.Need-enum-known-answer-2
 enum-known-answer-2 c = search needs
 
 check-accepted-requires : tie.Need-check-accepted-requires
-check-accepted-requires c κs = sym (c .before .before .before .read .ensures) ∙ c .known-told2 .given
+check-accepted-requires c κs = sym (c .before .before .before .read .ensures) ∙ c .before .answer2 .given .1
 
 returns : tie.Need-returns
 returns c =
     let s = c .before .before .before .before .before .before in
-    declined (s .args .sheet .now) (s .args .instance .now) _ (sym (c .before .before .before .read .ensures) ∙ c .known-told .given)
+    declined (s .args .sheet .now) (s .args .instance .now) _ (sym (c .before .before .before .read .ensures) ∙ c .before .answer .given .1)
 
 returns-2 : tie.Need-returns-2
 returns-2 c = search needs

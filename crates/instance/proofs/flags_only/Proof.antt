@@ -39,7 +39,7 @@ loop-again c =
     let s = c .before .before .before .before .before in (
       omega arith,
       all-more (λ b. leb b 1) (s .args .instance .now) (l .i) (l .fine) (c .both .result) (c .before .before .loop-test .taken) (l .inv .1)
-      (rw (← c .before .byte .ensures .0) (c .both .ensures)),
+          (rw (← c .before .byte .ensures .0) (c .both .ensures)),
     )
 
 returns : tie.Need-returns Inv-loop μ-loop
