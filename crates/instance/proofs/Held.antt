@@ -1,0 +1,64 @@
+-- What the boolean evaluation answers is what the definition asks.
+use mathlib.Core.Path.{_≡_, refl, sym, ap, _∙_}
+use mathlib.Core.Logic.{_↔_}
+use mathlib.Core.Bool.{Bool, true, false, cond, _&&_, true≢false}
+use mathlib.Core.List.{List}
+use Prim.Native.Nat.{ℕ}
+use native.Mathlib.Omega.{arith}
+use lib.Dec.{eqb, leb}
+use lib.ListN.{length}
+use borrow.Author.Tests.{eq-eqb, ne-eqb}
+use Rattle.prelude.specs.Tests.{all}
+use Rattle.refusal.specs.declared.Refusal.{Refusal}
+use Rattle.refusal.specs.Refusals.{numberOf}
+use Rattle.sheet.specs.declared.Layout.{Layout}
+use Rattle.sheet.specs.declared.Reading.the-variants as r
+use Rattle.sheet.specs.Blocks.{Sheet, sheetOf}
+use Rattle.sheet.specs.Reading.{reading}
+use Rattle.relational.specs.Cells.{cellCount, withinScopes}
+use Rattle.relational.specs.Meaning.{Satisfies}
+use Rattle.relational.specs.Evaluation.{holds}
+use Rattle.relational.proofs.Accepted.{accepted-holds}
+use Rattle.instance.specs.Answers.{Answer, yes, no, refused, Answers, CheckAnswers}
+use Rattle.instance.specs.Held.{heldAnswer}
+
+by-truth : (layout : Layout) (within truth : Bool) (statement : Type 0) → (truth ≡ true) ↔ statement
+    → Answers (r.Accepted layout) within statement (cond within (cond truth yes no) (refused 11))
+by-truth layout false truth statement h = refl
+by-truth layout true true statement h = (
+  ((λ e. h .0 refl), λ s. refl),
+  ((λ e. absurd (let z : _≡_ {A = ℕ} 0 1 = cc in omega arith)), λ f. absurd (f (h .0 refl))),
+)
+by-truth layout true false statement h = (
+  ((λ e. absurd (let z : _≡_ {A = ℕ} 0 1 = cc in omega arith)), λ s. absurd (true≢false (sym (h .1 s)))),
+  ((λ e s. true≢false (sym (h .1 s))), λ f. refl),
+)
+
+pub held : (sheet instance : List ℕ) (layout : Layout) (answer : Answer) → reading sheet ≡ r.Accepted layout
+    → answer ≡ heldAnswer (sheetOf sheet) instance → CheckAnswers sheet instance answer
+unfolding CheckAnswers heldAnswer
+held sheet instance layout answer e h =
+    rw (e, h)
+    (by-truth layout (withinScopes (sheetOf sheet) instance) (holds (sheetOf sheet) instance) (Satisfies (sheetOf sheet) instance)
+    (accepted-holds sheet layout e instance))
+
+-- ---- the two tests of 11, and then the evaluation
+module _ (sheet : Sheet) (instance : List ℕ) (count : ℕ) (e : count ≡ cellCount sheet) where
+  pub other-length : (length instance ≡ count → ⊥) → refused 11 ≡ heldAnswer sheet instance
+  unfolding heldAnswer withinScopes
+  other-length h = rw (ne-eqb (length instance) (cellCount sheet) (λ q. h (q ∙ sym e)))
+
+  pub other-cells : (fine : Bool) → length instance ≡ count → fine ≡ all (λ (b : ℕ). leb b 1) instance → fine ≡ false
+      → refused 11 ≡ heldAnswer sheet instance
+  unfolding heldAnswer withinScopes
+  other-cells fine l h f = rw (eq-eqb (length instance) (cellCount sheet) (l ∙ e), ← h, f)
+
+  pub evaluated : (fine truth : Bool) → length instance ≡ count → fine ≡ all (λ (b : ℕ). leb b 1) instance → fine ≡ true
+      → truth ≡ holds sheet instance → cond truth yes no ≡ heldAnswer sheet instance
+  unfolding heldAnswer withinScopes
+  evaluated fine truth l h f t = rw (eq-eqb (length instance) (cellCount sheet) (l ∙ e), ← h, f, ← t)
+
+pub declined : (sheet instance : List ℕ) (refusal : Refusal) → reading sheet ≡ r.Refused refusal
+    → CheckAnswers sheet instance (refused (numberOf refusal))
+unfolding CheckAnswers
+declined sheet instance refusal e = rw e refl

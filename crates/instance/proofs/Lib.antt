@@ -1,0 +1,4 @@
+mod Cuts
+mod Flags
+mod Held
+pub mod Exact
