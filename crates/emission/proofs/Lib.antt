@@ -1,0 +1,4 @@
+pub mod Writes
+pub mod Ranges
+pub mod Steps
+pub mod Ors

@@ -1,0 +1,5 @@
+pub mod Numbers
+pub mod Fills
+pub mod Regulars
+pub mod Sizes
+pub mod Pairs
