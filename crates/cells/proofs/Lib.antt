@@ -1,2 +1,2 @@
-mod Layouts
+pub mod Layouts
 pub mod Blocks

@@ -13,7 +13,7 @@ use Rattle.sheet.specs.declared.Reading.{Reading}
 use Rattle.sheet.specs.declared.Reading.the-variants.{Accepted, Refused}
 use Rattle.sheet.specs.Blocks.{Sheet, sheetOf}
 use Rattle.sheet.specs.Reading.{reading}
-use Rattle.clauses.specs.Whole.{words, variableTotal, clauseTotal, wordTotal}
+use Rattle.encoding.specs.Whole.{words, variableTotal, clauseTotal, wordTotal}
 use Rattle.clauses.specs.Answers.{Answer, fits, refused, countAfter, countAnswer, writeAfter, writeAnswer, listBy, listAfter}
 
 isFits : Answer → Bool

@@ -13,11 +13,11 @@ use Rattle.sheet.specs.Reading.{counted, scoped, declared, nodesFine, shaped, r
 use Rattle.relational.specs.Trees.{symbolOf, treeStep, closure}
 use Rattle.relational.specs.Cells.{firstCell}
 use Rattle.relational.specs.Matrices.{Matrix, rounds}
-use Rattle.clauses.specs.Builder as b
-use Rattle.clauses.specs.Builder.{return}
-use Rattle.clauses.specs.Gates.{or, inputClauses, gatesClauses}
-use Rattle.clauses.specs.Translation.{afterRounds, translate, translateUnary}
-use Rattle.clauses.specs.Whole.{series, markClauses, rootWalk, clauses, words, variableTotal}
+use Rattle.encoding.specs.Builder as b
+use Rattle.encoding.specs.Builder.{return}
+use Rattle.encoding.specs.Gates.{or, inputClauses, gatesClauses}
+use Rattle.encoding.specs.Translation.{afterRounds, translate, translateUnary}
+use Rattle.encoding.specs.Whole.{series, markClauses, rootWalk, clauses, words, variableTotal}
 use Rattle.clauses.specs.Answers.{fits, countAnswer}
 
 -- one sort of two atoms, one set with a mark, two nodes: the set, and a node of the given kind and fields

@@ -1,2 +1,2 @@
-// The clauses of a sheet (document 01, "Clauses"), and their one-to-one match with its instances.
+// Counting and writing the clauses of a sheet (document 01, "Clauses").
 pub mod answer; // answer.rt: what counting and writing answer

@@ -9,8 +9,8 @@ use lib.Seq.{take-all, take-suc, take-suc-set}
 use Rattle.literal.specs.Literals.{Literal, positive, negative, opposite, literalOf, wordOf}
 use Rattle.clause_list.specs.ClauseList.{wordsOf}
 use Rattle.relational.proofs.Places.{map-append}
-use Rattle.clauses.specs.Builder.{Builder, return, _<$>_}
-use Rattle.clauses.specs.Gates.{Clause, gateOf, or, inputClauses, gatesClauses}
+use Rattle.encoding.specs.Builder.{Builder, return, _<$>_}
+use Rattle.encoding.specs.Gates.{Clause, gateOf, or, inputClauses, gatesClauses}
 use Rattle.emission.specs.declared.Tape.{Tape}
 use Rattle.emission.specs.Emission.{Inside, literalsOf, wordsFor, Appends, Room, Bounded, Within, Emits, EmitsLiteral}
 use Rattle.emission.proofs.Writes.{writes-then, writes-as, writes-length}

@@ -10,7 +10,7 @@ use mir.Val.{SFits}
 use Rattle.literal.specs.Literals.{Literal, positive, negative, opposite, literalOf, oppositeWord}
 use Rattle.literal.proofs.Words.{variable-of, opposite-is}
 use Rattle.literal.proofs.Signs.{read, back}
-use Rattle.clauses.specs.Translation.{absent}
+use Rattle.encoding.specs.Translation.{absent}
 use Rattle.emission.specs.Emission.{Inside, AllInside, literalsOf}
 
 pub inside-grows : {n m : ℕ} {l : Literal} → n ≤ m → Inside n l → Inside m l

@@ -13,10 +13,10 @@ use Rattle.prelude.proofs.Laws.{decided}
 use Rattle.literal.specs.Literals.{Literal, opposite}
 use Rattle.relational.specs.Matrices.{upto}
 use Rattle.relational.proofs.Places.{upto-suc}
-use Rattle.clauses.specs.Builder.{Gate, Built, Builder, return, _>>=_, _<$>_, each}
-use Rattle.clauses.specs.Gates.{or, and, gatesClauses}
-use Rattle.clauses.specs.Translation.{Two, same}
-use Rattle.clauses.proofs.Gate.{gates-append}
+use Rattle.encoding.specs.Builder.{Gate, Built, Builder, return, _>>=_, _<$>_, each}
+use Rattle.encoding.specs.Gates.{or, and, gatesClauses}
+use Rattle.encoding.specs.Translation.{Two, same}
+use Rattle.encoding.proofs.Gate.{gates-append}
 use Rattle.emission.specs.declared.Tape.{Tape}
 use Rattle.emission.specs.declared.Pairing.{Pairing}
 use Rattle.emission.specs.declared.Pairing.the-variants.{Either, Both, Without, Implies, Same, Apart}

@@ -15,7 +15,7 @@ use Rattle.literal.proofs.Words.{word-literal}
 use Rattle.clause_list.specs.ClauseList.{wordsOf}
 use Rattle.clause_list.proofs.Laws as list
 use Rattle.relational.proofs.Places.{map-append}
-use Rattle.clauses.specs.Gates.{Clause}
+use Rattle.encoding.specs.Gates.{Clause}
 use Rattle.emission.specs.declared.Tape.{Tape}
 use Rattle.emission.specs.Emission.{literalsOf, wordsFor, Writes, Appends}
 

@@ -14,9 +14,9 @@ use Rattle.prelude.specs.Stores.{putAll}
 use Rattle.literal.specs.Literals.{Literal, variable, literalOf, wordOf}
 use Rattle.clause_list.specs.ClauseList.{wordsOf}
 use Rattle.relational.specs.Matrices.{Place, Matrix, sameSize, matched, middles}
-use Rattle.clauses.specs.Builder.{Built, Builder, _>>=_, _<$>_, each}
-use Rattle.clauses.specs.Gates.{or, and, Clause, gatesClauses}
-use Rattle.clauses.specs.Translation.{Two, absent, either, both, without, implies, same, apart}
+use Rattle.encoding.specs.Builder.{Built, Builder, _>>=_, _<$>_, each}
+use Rattle.encoding.specs.Gates.{or, and, Clause, gatesClauses}
+use Rattle.encoding.specs.Translation.{Two, absent, either, both, without, implies, same, apart}
 use Rattle.emission.specs.declared.Tape.{Tape}
 use Rattle.emission.specs.declared.Literals.{Literals}
 use Rattle.emission.specs.declared.Pairing.{Pairing}

@@ -2,9 +2,9 @@
 ghost use mathlib.Core.Path.{_≡_};
 ghost use lib.IntN.{pos};
 ghost use Rattle.literal.specs.Literals.{literalOf, opposite};
-ghost use Rattle.clauses.specs.Gates as spec;
-ghost use Rattle.clauses.specs.Gates.{gateOf, inputClauses};
-ghost use Rattle.clauses.specs.Translation as two;
+ghost use Rattle.encoding.specs.Gates as spec;
+ghost use Rattle.encoding.specs.Gates.{gateOf, inputClauses};
+ghost use Rattle.encoding.specs.Translation as two;
 ghost use Rattle.emission.specs.Emission.{literalsOf, Inside, Inputs, Appends, Bounded, Within, EmitsList, EmitsTwo, pairing};
 use super::Made;
 use super::Pairing;

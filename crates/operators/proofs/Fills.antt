@@ -17,8 +17,8 @@ use Rattle.prelude.proofs.Laws.{decided}
 use Rattle.literal.specs.Literals.{Literal, literalOf}
 use Rattle.relational.specs.Matrices.{from, upto, cellAt, joinColumns}
 use Rattle.relational.proofs.Places.{map-append, place-below}
-use Rattle.clauses.specs.Builder.{Builder, each}
-use Rattle.clauses.specs.Translation.{Two, absent}
+use Rattle.encoding.specs.Builder.{Builder, each}
+use Rattle.encoding.specs.Translation.{Two, absent}
 use Rattle.emission.specs.declared.Tape.{Tape}
 use Rattle.emission.specs.declared.Literals.{Literals}
 use Rattle.emission.specs.Emission.{Inside, AllInside, literalsOf, Inputs, cellsOf, Cells, matrixOf, Operand, Bounded, EmitsLiteral, EmitsCells}

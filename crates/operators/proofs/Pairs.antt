@@ -11,8 +11,8 @@ use lib.Seq.{drop-cons, take-suc-set, length-take-le}
 use Rattle.literal.specs.Literals.{Literal, literalOf}
 use Rattle.relational.specs.Matrices.{pairs}
 use Rattle.relational.proofs.Places.{map-append}
-use Rattle.clauses.specs.Builder.{Builder, _<$>_, each}
-use Rattle.clauses.specs.Translation.{Two, absent, apart}
+use Rattle.encoding.specs.Builder.{Builder, _<$>_, each}
+use Rattle.encoding.specs.Translation.{Two, absent, apart}
 use Rattle.emission.specs.declared.Tape.{Tape}
 use Rattle.emission.specs.declared.Pairing.the-variants.{Apart}
 use Rattle.emission.specs.Emission.{AllInside, literalsOf, Inputs, Bounded, Emits, EmitsLiteral}

@@ -5,9 +5,9 @@ use Prim.Native.Nat.{ℕ, zero, suc}
 use Rattle.literal.specs.Literals.{Literal}
 use Rattle.relational.specs.Trees.{union, join}
 use Rattle.relational.specs.Matrices.{Place, Matrix, sameSize, joinSize, joinPlaces, matched, middles}
-use Rattle.clauses.specs.Builder.{Built, return, each}
-use Rattle.clauses.specs.Gates.{or}
-use Rattle.clauses.specs.Translation.{absent, both, joinCells, translateBinary, roundOf, afterRounds}
+use Rattle.encoding.specs.Builder.{Built, return, each}
+use Rattle.encoding.specs.Gates.{or}
+use Rattle.encoding.specs.Translation.{absent, both, joinCells, translateBinary, roundOf, afterRounds}
 use Rattle.emission.specs.declared.Pairing.{Pairing}
 use Rattle.emission.specs.declared.Pairing.the-variants.{Either, Both}
 use Rattle.emission.specs.Emission.{paired, joinCell}

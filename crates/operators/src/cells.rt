@@ -5,7 +5,7 @@ ghost use Prim.Native.Nat.{_*_, _<_, _≤_};
 ghost use lib.IntN.{ℤ};
 ghost use Rattle.relational.specs.Trees.{join, product, inverse, closure};
 ghost use Rattle.relational.specs.Matrices as matrices;
-ghost use Rattle.clauses.specs.Translation.{joinCells, translateBinary, translateUnary, roundOf};
+ghost use Rattle.encoding.specs.Translation.{joinCells, translateBinary, translateUnary, roundOf};
 ghost use Rattle.emission.specs.Emission.{matrixOf, Operand, Bounded, EmitsLiteral, EmitsCells, EmitsBinary, EmitsUnary};
 ghost use Rattle.emission.specs.Emission.{paired, pairedMatrix, joinCell};
 use emission::Literals;

@@ -1,6 +1,6 @@
 // Comparisons, and tests of an expression (document 01, "Clauses", the last list).
 ghost use Rattle.relational.specs.Trees.{some, none, lone};
-ghost use Rattle.clauses.specs.Translation.{translateTest};
+ghost use Rattle.encoding.specs.Translation.{translateTest};
 ghost use Rattle.emission.specs.Emission.{matrixOf, Operand, Bounded, EmitsLiteral, EmitsTest, compared};
 use super::cells::matched_cells;
 use emission::Literals;

@@ -13,7 +13,7 @@ use Rattle.prelude.proofs.Laws.{and-left, and-right, and-both}
 use Rattle.sheet.specs.Blocks.{sheetOf}
 use Rattle.sheet.specs.Reading.{reading}
 use Rattle.relational.specs.Cells.{cellCount, withinScopes}
-use Rattle.clauses.specs.Whole.{words, variableTotal, clauseTotal, wordTotal, readBack}
+use Rattle.encoding.specs.Whole.{words, variableTotal, clauseTotal, wordTotal, readBack}
 use Rattle.clauses.specs.Answers as count
 use Rattle.clauses.specs.Answers.{fits, countAfter, countAnswer, writeAfter, writeAnswer, listAfter}
 use Rattle.clauses.proofs.Answered.{write-fits}
@@ -60,14 +60,15 @@ module _ (s : List ℕ) (h : FitsLimits s) where
         (and-both _ _ (eq-eqb (length values) (variableTotal (sheetOf s)) one-each) read-bits)
         ∙ ap (λ b. cond b (copied (cellCount (sheetOf s))) (refused 13)) (le-leb (cellCount (sheetOf s)) (length lent) room)
 
-    pub reads-back : ReadsBack s values lent (readBack (sheetOf s) values)
+    pub instance-after : instanceAfter s values lent ≡ readBack (sheetOf s) values ++ drop (cellCount (sheetOf s)) lent
     unfolding instanceAfter
+    instance-after = ap (λ a. instanceBy a (readBack (sheetOf s) values) lent) answers-cells
+
+    pub reads-back : ReadsBack s values lent (readBack (sheetOf s) values)
     reads-back =
         record {
           answer = answers-cells ∙ ap copied (sym read-size);
-          copies =
-              ap (λ a. instanceBy a (readBack (sheetOf s) values) lent) answers-cells
-              ∙ ap (λ n. readBack (sheetOf s) values ++ drop n lent) (sym read-size);
+          copies = instance-after ∙ ap (λ n. readBack (sheetOf s) values ++ drop n lent) (sym read-size);
         }
 
 -- read-back answers one instance

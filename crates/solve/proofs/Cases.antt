@@ -10,10 +10,10 @@ use Rattle.sheet.specs.Reading.{counted, scoped, declared, nodesFine, shaped, r
 use Rattle.relational.specs.Trees.{symbolOf, treeStep}
 use Rattle.relational.specs.Cells.{firstCell}
 use Rattle.relational.specs.Matrices.{rounds}
-use Rattle.clauses.specs.Builder as builder
-use Rattle.clauses.specs.Gates.{or, inputClauses, gatesClauses}
-use Rattle.clauses.specs.Translation.{afterRounds, translate}
-use Rattle.clauses.specs.Whole.{series, markClauses, rootWalk, clauses, words, variableTotal}
+use Rattle.encoding.specs.Builder as builder
+use Rattle.encoding.specs.Gates.{or, inputClauses, gatesClauses}
+use Rattle.encoding.specs.Translation.{afterRounds, translate}
+use Rattle.encoding.specs.Whole.{series, markClauses, rootWalk, clauses, words, variableTotal}
 use Rattle.clauses.specs.Answers.{countAnswer, writeAnswer, listAfter}
 use Rattle.search_rules.specs.Rules.{truthOf, negated, literal, isFalsified, isSatisfied, conflict, openOf, sameLiteral, only, unitOf}
 use Rattle.search_rules.specs.Rules.{firstUnit, lowestOpen, wordOf, byteOf, placeOf, valuesOf, trailOf, turn, decide, next}

@@ -1,23 +1,26 @@
 -- Demand 3 holds of every sheet that fits the limits, in all slices that fit.
 use mathlib.Core.Path.{_≡_, sym, ap, _∙_, subst}
 use mathlib.Core.Bool.{Bool, true}
-use mathlib.Core.List.{List}
+use mathlib.Core.List.{List, _++_}
 use Prim.Native.Nat.{ℕ}
 use native.Mathlib.Omega.{arith}
 use lib.IntN.{ℤ}
+use lib.ListN.{take, drop}
 use Rattle.clause_list.specs.ClauseList.{clausesOf, isList, Satisfying}
 use Rattle.sheet.specs.Blocks.{sheetOf}
-use Rattle.clauses.specs.Whole.{words, variableTotal, clauseTotal, wordTotal, readBack}
-use Rattle.clauses.specs.Matching.{Solution}
-use Rattle.clauses.proofs.Theorems.{match, none, listed}
+use Rattle.relational.specs.Cells.{cellCount}
+use Rattle.encoding.specs.Whole.{words, variableTotal, clauseTotal, wordTotal, readBack}
+use Rattle.encoding.specs.Matching.{Solution}
+use Rattle.encoding.proofs.Theorems.{match, none, listed}
 use Rattle.search_rules.specs.Run.{End, wasNone, wasFound, wasSpent}
-use Rattle.search.specs.Answers.{refused, answerAt, searchRun}
+use Rattle.search.specs.Answers.{found, refused, answerAt, searchRun}
 use Rattle.search.proofs.Outcomes.{runs}
 use Rattle.search.proofs.Theorems.{none-unsatisfiable, found-satisfies, spent-exactly}
+use Rattle.solve.specs.Answers.{instanceAfter}
 use Rattle.solve.specs.Finding.{Slices}
 use Rattle.solve.specs.Demand3 as d
 use Rattle.solve.specs.Demand3.{FitsLimits, FitSlices, ReadsBack, ReadsSolution, ReadBackOnce, Answered, Demanded, Demand3}
-use Rattle.solve.proofs.Calls.{counts, writes, writes-words, reads-back, same-instance}
+use Rattle.solve.proofs.Calls.{counts, writes, writes-words, reads-back, instance-after, same-instance}
 
 -- the end of a run is no refusal
 no-refusal : (end : End) (number : ℕ) → answerAt end ≡ refused number → ⊥
@@ -80,6 +83,15 @@ module _ (s : List ℕ) (lent : Slices) (h : FitsLimits s) (k : FitSlices s lent
         found-only = λ steps e. reads _ (found-satisfies written v (lent .values) (lent .trail) n steps e);
         spent-exactly = spent-exactly written v (lent .values) (lent .trail) n is-list (k .values) (k .trail);
       }
+
+  -- what read-back of the values that "found" left leaves
+  pub found-instance : (n steps : ℕ) → d.searched s lent v w n .answer ≡ found steps
+      → instanceAfter s (take v (d.searched s lent v w n .values)) (lent .instance)
+      ≡ readBack (sheetOf s) (take v (d.searched s lent v w n .values)) ++ drop (cellCount (sheetOf s)) (lent .instance)
+  found-instance n steps e =
+      let a : List ℕ = take v (d.searched s lent v w n .values) in
+      let p = found-satisfies written v (lent .values) (lent .trail) n steps e in
+      instance-after s h a (lent .instance) (p .size) (solves a p .within) (k .instance)
 
   demanded : Demanded s lent
   demanded =

@@ -11,7 +11,7 @@ use borrow.Author.Tests.{leb-true, leb-false, le-leb}
 use Rattle.prelude.proofs.Laws.{clash, and-left, and-right, and-both}
 use Rattle.sheet.specs.Blocks.{sheetOf}
 use Rattle.relational.specs.Cells.{cellCount}
-use Rattle.clauses.specs.Whole.{variableTotal, wordTotal}
+use Rattle.encoding.specs.Whole.{variableTotal, wordTotal}
 use Rattle.clauses.specs.Answers as count
 use Rattle.clauses.specs.Answers.{countAnswer}
 use Rattle.clauses.proofs.Answered.{Counted, count-fits}
@@ -61,7 +61,7 @@ module _ (s : List ℕ) (lent : Slices) (budget : ℕ) where
     abbrev in-room : Bool
     in-room = haveRoom w v (cellCount (sheetOf s)) lent
 
-    is-after : (p q : Bool) → leb w 2147483647 ≡ p → in-room ≡ q
+    pub is-after : (p q : Bool) → leb w 2147483647 ≡ p → in-room ≡ q
         → finding s lent budget ≡ cond p (cond q (findIn s v w lent budget) (decline 13 lent)) (decline 12 lent)
     unfolding finding
     is-after p q f g =
@@ -69,7 +69,7 @@ module _ (s : List ℕ) (lent : Slices) (budget : ℕ) where
         ∙ ap (λ b. cond b (cond in-room (findIn s v w lent budget) (decline 13 lent)) (decline 12 lent)) f
         ∙ ap (λ b. cond p (cond b (findIn s v w lent budget) (decline 13 lent)) (decline 12 lent)) g
 
-    sized : Counted s v c w
+    pub sized : Counted s v c w
     sized = count-fits s v c w e
 
     by-tests : (p q : Bool) → leb w 2147483647 ≡ p → in-room ≡ q → Declined ⊎ Ran

@@ -8,7 +8,7 @@ use Rattle.prelude.specs.Tests.{all}
 use Rattle.refusal.specs.Refusals.{numberOf}
 use Rattle.sheet.specs.Blocks.{Sheet, sheetOf}
 use Rattle.relational.specs.Cells.{cellCount}
-use Rattle.clauses.specs.Whole.{readBack}
+use Rattle.encoding.specs.Whole.{readBack}
 use Rattle.clauses.specs.Answers as count
 use Rattle.clauses.specs.Answers.{countAnswer}
 use Rattle.solve.specs.declared.answer.ReadBack.{ReadBack}

@@ -7,6 +7,7 @@
 --   `writeAnswer`, `listAfter`         `clauses::write`: its answer, and the lent list afterwards, equal them
 --   `outcome`                          `search::search`: its answer, and the lent values and trail afterwards, equal its fields
 --   `readBackAnswer`, `instanceAfter`  `solve::read_back`: its answer, and the lent instance afterwards, equal them
+-- Counting, writing and read-back have definitions and no code yet: the contracts named for them land with their code.
 -- `Solution` (an instance within the scopes that satisfies marks and formula), `Satisfying` and `EndedWithin` are no code's answer:
 -- they are the paper's words, in clauses/specs/Matching, clause_list/specs/ClauseList and search_rules/specs/Run.
 use mathlib.Core.Path.{_≡_}
@@ -21,8 +22,8 @@ use Rattle.sheet.specs.declared.Reading.the-variants.{Accepted}
 use Rattle.sheet.specs.Blocks.{sheetOf}
 use Rattle.sheet.specs.Reading.{reading}
 use Rattle.relational.specs.Cells.{cellCount}
-use Rattle.clauses.specs.Whole.{words, variableTotal, wordTotal}
-use Rattle.clauses.specs.Matching.{Solution}
+use Rattle.encoding.specs.Whole.{words, variableTotal, wordTotal}
+use Rattle.encoding.specs.Matching.{Solution}
 use Rattle.clauses.specs.Answers.{fits, countAnswer, writeAnswer, listAfter}
 use Rattle.search_rules.specs.Run.{EndedWithin}
 use Rattle.search.specs.Answers.{Outcome, found, none, spent, refused, outcome}

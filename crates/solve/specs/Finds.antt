@@ -1,4 +1,4 @@
--- Demand 3 of one call of `find`, in the paper's words: a part of its contract. The other part says that the answer and all lent slices
+-- Demand 3 of one call of `find`, in the paper's words: a part of the contract that its code will carry. The other part says that the answer and all lent slices
 -- equal the definition `finding`, which has the number of each refusal.
 use mathlib.Core.Path.{_≡_}
 use mathlib.Core.Logic.{_↔_}
@@ -7,8 +7,8 @@ use Prim.Native.Nat.{ℕ}
 use lib.ListN.{length, drop}
 use Rattle.clause_list.specs.ClauseList.{clausesOf}
 use Rattle.sheet.specs.Blocks.{Sheet, sheetOf}
-use Rattle.clauses.specs.Whole.{words, variableTotal}
-use Rattle.clauses.specs.Matching.{Solution}
+use Rattle.encoding.specs.Whole.{words, variableTotal}
+use Rattle.encoding.specs.Matching.{Solution}
 use Rattle.search_rules.specs.Run.{EndedWithin}
 use Rattle.search.specs.Answers.{Answer, found, none, spent, refused}
 use Rattle.solve.specs.Finding.{Slices}

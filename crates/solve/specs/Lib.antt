@@ -3,3 +3,4 @@ pub mod Answers
 pub mod Finding
 pub mod Demand3
 pub mod Finds
+pub mod Private

@@ -50,8 +50,9 @@ part-first-cell-end-2 c = blocks (c .before .before .before .before .before .bef
 
 first-cell-requires : tie.Need-first-cell-requires
 first-cell-requires c κs =
-    let f = accepted-facts _ _ (c .before .before .before .before .before .before .before .pre) in
-    (omega (arith, few (c .before .before .before .before .before .before .before)), rw (part-is (blocks (c .before .before .before .before .before .before .before) .sorts)) record { most = f .scope-few })
+    let s = c .before .before .before .before .before .before .before in
+    let f = accepted-facts _ _ (s .pre) in
+    (omega (arith, few s), rw (part-is (blocks s .sorts)) record { most = f .scope-few })
 
 returns : tie.Need-returns
 returns c =

@@ -1,6 +1,6 @@
 -- `first_cell` meets its contract: the loop adds up the cells of the relations before.
 use borrow.Author.Needs.{needs}
-use Prim.Native.Nat.{_≤_, _-_}
+use Prim.Native.Nat.{_≤_, _-_, _*_}
 use native.Mathlib.Omega.{arith}
 use Rattle.cells.proofs.Layouts.{Earlier, earlier-none, earlier-more, earlier-done, cells-most}
 use Rattle.cells.proofs.first_cell.Statement.{statement}
@@ -21,16 +21,17 @@ row-count-requires c κs = search needs
 row-length-requires : tie.Need-row-length-requires Inv-loop μ-loop
 row-length-requires c κs = search needs
 
+-- the cells of relation i
+few : (c : tie.After-row-length Inv-loop μ-loop) → c .before .row-count .result * c .row-length .result ≤ 64
+few c =
+    cells-most (c .before .before .before .before .before .before .pre .1) (c .before .before .before .loop .i)
+    (c .before .row-count .ensures) (c .row-length .ensures)
+
 mul-n : tie.Need-mul-n Inv-loop μ-loop
-mul-n c = omega (arith, cells-most (c .before .before .before .before .before .before .pre .1) (c .before .before .before .loop .i) (c .before .row-count .ensures) (c .row-length .ensures))
+mul-n c = omega (arith, few c)
 
 add-n : tie.Need-add-n Inv-loop μ-loop
-add-n c =
-    omega (
-      arith,
-      cells-most (c .before .before .before .before .before .before .pre .1) (c .before .before .before .loop .i) (c .before .row-count .ensures) (c .row-length .ensures),
-      c .before .before .before .loop .inv .1 .most,
-    )
+add-n c = omega (arith, few c, c .before .before .before .loop .inv .1 .most)
 
 add-i : tie.Need-add-i Inv-loop μ-loop
 add-i c = search needs
@@ -41,7 +42,8 @@ loop-less c = search needs
 loop-again : tie.Need-loop-again Inv-loop μ-loop
 loop-again c = (
   omega arith,
-  earlier-more (c .before .before .before .before .before .before .pre .1) (c .before .before .before .loop .i) (c .before .row-count .ensures) (c .row-length .ensures)
+  earlier-more (c .before .before .before .before .before .before .pre .1) (c .before .before .before .loop .i)
+      (c .before .row-count .ensures) (c .row-length .ensures)
       (c .before .before .before .loop .inv .1),
 )
 

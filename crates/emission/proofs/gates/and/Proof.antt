@@ -11,7 +11,7 @@ use lib.Seq.{length-take-le}
 use borrow.Author.Needs.{needs}
 use Rattle.literal.specs.Literals.{opposite, literalOf}
 use Rattle.literal.proofs.Signs.{read}
-use Rattle.clauses.specs.Gates.{or}
+use Rattle.encoding.specs.Gates.{or}
 use Rattle.emission.specs.Emission.{literalsOf, Inside, AllInside}
 use Rattle.emission.proofs.Ranges.{opposite-read, literal-at, all-opposites}
 use Rattle.emission.proofs.Ors.{opposites-next, opposites-all, emits-turned}

@@ -2,7 +2,7 @@
 use mathlib.Core.Path.{_≡_}
 use Rattle.literal.specs.Literals.{opposite, literalOf}
 use Rattle.literal.proofs.Signs.{read}
-use Rattle.clauses.specs.Translation as two
+use Rattle.encoding.specs.Translation as two
 use Rattle.emission.proofs.Ranges.{opposite-read, inside-opposite}
 use borrow.Author.Needs.{needs}
 use Rattle.emission.proofs.gates.apart.Statement.{statement}

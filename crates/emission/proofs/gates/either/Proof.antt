@@ -3,7 +3,7 @@ use mathlib.Core.Path.{ap}
 use native.Mathlib.Omega.{arith}
 use Rattle.literal.specs.Literals.{literalOf}
 use Rattle.literal.proofs.Signs.{back}
-use Rattle.clauses.specs.Gates.{or}
+use Rattle.encoding.specs.Gates.{or}
 use Rattle.emission.proofs.Ranges.{all-two}
 use borrow.Author.Needs.{needs}
 use Rattle.emission.proofs.gates.either.Statement.{statement}

@@ -7,7 +7,7 @@ use lib.IntN.{pos}
 use Rattle.literal.specs.Literals.{Literal, positive, negative, opposite, literalOf}
 use Rattle.literal.proofs.Signs.{read, back}
 use Rattle.literal.proofs.Words.{positive-is}
-use Rattle.clauses.specs.Gates.{Clause, gateOf}
+use Rattle.encoding.specs.Gates.{Clause, gateOf}
 use Rattle.emission.specs.Emission.{literalsOf, Inside, Within}
 use Rattle.emission.proofs.Writes.{appends-as}
 use Rattle.emission.proofs.Ranges.{opposite-read}

@@ -10,7 +10,7 @@ use lib.ListN.{length, getD, take, length-take}
 use lib.Seq.{take-all}
 use Rattle.literal.specs.Literals.{positive, opposite, literalOf}
 use Rattle.literal.proofs.Signs.{read, back}
-use Rattle.clauses.specs.Gates.{Clause, inputClauses}
+use Rattle.encoding.specs.Gates.{Clause, inputClauses}
 use Rattle.emission.specs.Emission.{literalsOf, Appends, Inside}
 use Rattle.emission.proofs.Writes.{appends-none, appends-then, appends-as, writes-length}
 use Rattle.emission.proofs.Ranges.{opposite-read, literal-at}

@@ -5,7 +5,7 @@ use Prim.Native.Nat.{ℕ}
 use lib.IntN.{ℤ}
 use Rattle.literal.specs.Literals.{Literal, literalOf}
 use Rattle.literal.proofs.Signs.{back}
-use Rattle.clauses.specs.Translation.{Two}
+use Rattle.encoding.specs.Translation.{Two}
 use Rattle.emission.specs.declared.Tape.{Tape}
 use Rattle.emission.specs.declared.Pairing.{Pairing}
 use Rattle.emission.specs.declared.Pairing.the-variants.{Either, Both, Without, Implies, Same, Apart}

@@ -2,8 +2,8 @@
 use mathlib.Core.List.{[], _∷_}
 use Rattle.literal.specs.Literals.{literalOf}
 use Rattle.literal.proofs.Signs.{back}
-use Rattle.clauses.specs.Builder.{_>>=_}
-use Rattle.clauses.specs.Translation as two
+use Rattle.encoding.specs.Builder.{_>>=_}
+use Rattle.encoding.specs.Translation as two
 use Rattle.emission.proofs.Ranges.{inside-grows}
 use Rattle.emission.proofs.Steps.{emits-bind, regular-bind, regular-or, regular-and}
 use borrow.Author.Needs.{needs}

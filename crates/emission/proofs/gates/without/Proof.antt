@@ -3,8 +3,8 @@ use mathlib.Core.Path.{_≡_, sym, subst}
 use mathlib.Core.List.{[], _∷_}
 use Rattle.literal.specs.Literals.{opposite, literalOf}
 use Rattle.literal.proofs.Signs.{read, back}
-use Rattle.clauses.specs.Gates.{or}
-use Rattle.clauses.specs.Translation as two
+use Rattle.encoding.specs.Gates.{or}
+use Rattle.encoding.specs.Translation as two
 use Rattle.emission.specs.Emission.{EmitsLiteral}
 use Rattle.emission.proofs.Ranges.{opposite-read, opposite-twice}
 use Rattle.emission.proofs.Ors.{emits-turned}

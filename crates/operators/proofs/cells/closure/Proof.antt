@@ -4,7 +4,7 @@ use mathlib.Core.Path.{_≡_}
 use native.Mathlib.Omega.{arith}
 use Rattle.relational.specs.Trees.{closure}
 use Rattle.relational.specs.Matrices.{rounds}
-use Rattle.clauses.specs.Translation.{roundOf, afterRounds}
+use Rattle.encoding.specs.Translation.{roundOf, afterRounds}
 use Rattle.emission.specs.Emission.{matrixOf, EmitsMatrix}
 use Rattle.emission.proofs.Steps.{emits-return, emits-bind}
 use mathlib.Core.Path.{subst}

@@ -8,8 +8,8 @@ use lib.IntN.{ℤ, pos}
 use lib.ListN.{getD}
 use Rattle.literal.specs.Literals.{Literal, literalOf}
 use Rattle.literal.proofs.Signs.{back}
-use Rattle.clauses.specs.Builder.{return, each}
-use Rattle.clauses.specs.Translation.{absent}
+use Rattle.encoding.specs.Builder.{return, each}
+use Rattle.encoding.specs.Translation.{absent}
 use Rattle.emission.specs.Emission.{matrixOf, EmitsCells}
 use Rattle.emission.proofs.Steps.{regular-return, emits-return, emits-map, emits-as}
 use Rattle.operators.proofs.Numbers.{placeOf, places-by-number, some-columns, row-below, column-below}

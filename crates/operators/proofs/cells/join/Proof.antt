@@ -3,7 +3,7 @@ use mathlib.Core.Path.{refl, sym, ap, _∙_}
 use native.Mathlib.Omega.{arith}
 use Rattle.relational.specs.Trees.{join}
 use Rattle.relational.specs.Matrices.{joinColumns, joinSize}
-use Rattle.clauses.specs.Translation.{joinCells}
+use Rattle.encoding.specs.Translation.{joinCells}
 use Rattle.emission.specs.Emission.{matrixOf}
 use Rattle.emission.proofs.Steps.{emits-map}
 use native.Mathlib.Nat.{one-mul}

@@ -10,9 +10,9 @@ use borrow.Author.Needs.{needs}
 use Rattle.literal.specs.Literals.{literalOf}
 use Rattle.literal.proofs.Signs.{back}
 use Rattle.relational.specs.Matrices.{upto, cellAt, joinColumns, middles, places}
-use Rattle.clauses.specs.Builder.{each}
-use Rattle.clauses.specs.Gates.{or}
-use Rattle.clauses.specs.Translation.{Two, absent, both}
+use Rattle.encoding.specs.Builder.{each}
+use Rattle.encoding.specs.Gates.{or}
+use Rattle.encoding.specs.Translation.{Two, absent, both}
 use Rattle.emission.specs.Emission.{matrixOf, EmitsCells}
 use Rattle.emission.specs.declared.Pairing.the-variants.{Both}
 use Rattle.emission.proofs.Ranges.{inside-grows}

@@ -7,7 +7,7 @@ use native.Mathlib.Numerals.{add-one}
 use native.Mathlib.Omega.{arith}
 use borrow.Author.Needs.{needs}
 use Rattle.literal.proofs.Signs.{back}
-use Rattle.clauses.specs.Builder.{each}
+use Rattle.encoding.specs.Builder.{each}
 use Rattle.emission.specs.Emission.{matrixOf, EmitsCells, joinCell}
 use Rattle.emission.proofs.Steps.{emits-as}
 use Rattle.operators.proofs.Numbers.{placeOf, places-by-number, some-columns, row-below, column-below}

@@ -10,8 +10,8 @@ use lib.ListN.{getD}
 use Rattle.literal.specs.Literals.{literalOf}
 use Rattle.literal.proofs.Signs.{back}
 use Rattle.relational.specs.Matrices.{upto, cellAt}
-use Rattle.clauses.specs.Builder.{each}
-use Rattle.clauses.specs.Translation.{Two, absent}
+use Rattle.encoding.specs.Builder.{each}
+use Rattle.encoding.specs.Translation.{Two, absent}
 use Rattle.emission.specs.Emission.{matrixOf, EmitsCells, pairing}
 use Rattle.emission.proofs.Ranges.{inside-grows}
 use Rattle.emission.proofs.Steps.{regular-pairing}

@@ -11,8 +11,8 @@ use Rattle.literal.specs.Literals.{literalOf}
 use Rattle.literal.proofs.Signs.{back}
 use Rattle.relational.specs.Matrices.{Place, upto, cellAt, crossed, productSize}
 use Rattle.relational.proofs.Places.{map-map}
-use Rattle.clauses.specs.Builder.{each}
-use Rattle.clauses.specs.Translation.{Two, absent, both}
+use Rattle.encoding.specs.Builder.{each}
+use Rattle.encoding.specs.Translation.{Two, absent, both}
 use Rattle.emission.specs.Emission.{matrixOf, EmitsCells}
 use Rattle.emission.specs.declared.Pairing.the-variants.{Both}
 use Rattle.emission.proofs.Ranges.{inside-grows}

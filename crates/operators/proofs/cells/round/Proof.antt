@@ -1,6 +1,6 @@
 -- `operators::cells::round` meets its contract.
 use Rattle.relational.specs.Trees.{join, union}
-use Rattle.clauses.specs.Translation.{translateBinary}
+use Rattle.encoding.specs.Translation.{translateBinary}
 use Rattle.emission.specs.Emission.{matrixOf}
 use Rattle.emission.proofs.Steps.{emits-bind}
 use Rattle.operators.proofs.Fills.{operand-grow}

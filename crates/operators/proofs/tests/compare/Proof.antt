@@ -1,6 +1,6 @@
 -- `operators::tests::compare` meets its contract.
 use Prim.Native.Nat.{_*_}
-use Rattle.clauses.specs.Gates.{and}
+use Rattle.encoding.specs.Gates.{and}
 use Rattle.emission.specs.Emission.{matrixOf, paired}
 use Rattle.emission.proofs.Steps.{regular-and, emits-bind}
 use Rattle.operators.proofs.Fills.{front-inputs, front-length}

@@ -12,9 +12,9 @@ use mir.Val.{Fits}
 use Rattle.literal.specs.Literals.{Literal}
 use Rattle.literal.proofs.Signs.{back}
 use Rattle.relational.specs.Matrices as matrices
-use Rattle.clauses.specs.Builder.{each}
-use Rattle.clauses.specs.Gates.{and}
-use Rattle.clauses.specs.Translation.{absent, apart}
+use Rattle.encoding.specs.Builder.{each}
+use Rattle.encoding.specs.Gates.{and}
+use Rattle.encoding.specs.Translation.{absent, apart}
 use Rattle.emission.specs.declared.Pairing.the-variants.{Apart}
 use Rattle.emission.specs.Emission.{matrixOf, cellsOf, EmitsLiteral}
 use Rattle.emission.proofs.Ranges.{inside-grows}

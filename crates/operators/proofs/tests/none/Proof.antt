@@ -2,7 +2,7 @@
 use mathlib.Core.Path.{_≡_}
 use Rattle.literal.specs.Literals.{opposite, literalOf}
 use Rattle.literal.proofs.Signs.{read}
-use Rattle.clauses.specs.Gates.{or}
+use Rattle.encoding.specs.Gates.{or}
 use Rattle.emission.specs.Emission.{matrixOf}
 use Rattle.emission.proofs.Ranges.{opposite-read}
 use Rattle.emission.proofs.Ors.{emits-turned}

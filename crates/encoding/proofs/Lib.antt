@@ -1,0 +1,15 @@
+pub mod Values
+pub mod Gate
+pub mod Build
+pub mod Connect
+pub mod Operators
+pub mod Counts
+pub mod Walk
+pub mod Rows
+pub mod Ranges
+pub mod Parts
+pub mod Bytes
+pub mod Match
+pub mod Accepted
+pub mod Listed
+pub mod Theorems

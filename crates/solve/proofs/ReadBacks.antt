@@ -1,0 +1,118 @@
+-- Read-back over values of v variables, case by case, as its functions ensure it.
+use mathlib.Core.Path.{_≡_, refl, sym, ap, _∙_}
+use mathlib.Core.Bool.{Bool, true, false, cond, _&&_}
+use mathlib.Core.List.{List, _++_}
+use Prim.Native.Nat.{ℕ, suc, _+_, _-_, _≤_, _<_}
+use native.Mathlib.Omega.{arith}
+use lib.Dec.{eqb, leb}
+use lib.ListN.{length, take, drop, length-drop}
+use lib.Seq.{take-length, length-take-le}
+use borrow.Author.Tests.{le-leb, lt-leb, eq-eqb, ne-eqb}
+use Rattle.prelude.specs.Tests.{all}
+use Rattle.prelude.proofs.Laws.{and-both, and-not-left, and-not-right}
+use Rattle.sheet.specs.declared.Reading.{Reading}
+use Rattle.sheet.specs.declared.Reading.the-variants as reading
+use Rattle.sheet.specs.Blocks.{sheetOf}
+use Rattle.sheet.specs.Reading as spec
+use Rattle.refusal.specs.declared.Refusal.{Refusal}
+use Rattle.refusal.specs.Refusals.{numberOf}
+use Rattle.relational.specs.Cells.{cellCount}
+use Rattle.clauses.specs.declared.answer.Size.{Size}
+use Rattle.clauses.specs.declared.answer.Count.{Count}
+use Rattle.clauses.specs.declared.answer.Count.the-variants.{Fits, Refused}
+use Rattle.clauses.specs.Answers as count
+use Rattle.clauses.specs.Answers.{countAfter, countAnswer}
+use Rattle.clauses.proofs.Answered.{count-fits}
+use Rattle.encoding.proofs.Match.{cells-variables}
+use Rattle.solve.specs.Answers.{Answer, copied, refused, readBackAfter, readBackAnswer, instanceBy, instanceAfter}
+use Rattle.solve.specs.Private.{cellsAnswer, cellsLeft}
+
+-- the values of the cells, as code takes them
+pub cells-part : (cells : ℕ) (values : List ℕ) → take (cells + 1 - 1) (drop 1 values) ≡ take cells (drop 1 values)
+cells-part cells values = let e : cells + 1 - 1 ≡ cells = omega arith in ap (λ (n : ℕ). take n (drop 1 values)) e
+
+-- the copy of them
+pub copied-cells : (cells : ℕ) (values instance : List ℕ) → suc cells ≤ length values
+    → take (length (take (cells + 1 - 1) (drop 1 values))) (take (cells + 1 - 1) (drop 1 values))
+    ++ drop (length (take (cells + 1 - 1) (drop 1 values))) instance
+    ≡ take cells (drop 1 values) ++ drop cells instance
+copied-cells cells values instance h =
+    let p = cells-part cells values in
+    let l : cells ≤ length (drop 1 values) = omega (arith, length-drop 1 values) in
+    rw (p, take-length (take cells (drop 1 values)), length-take-le cells (drop 1 values) l)
+
+module _ (v cells : ℕ) (values instance : List ℕ) where
+  abbrev answer : Answer
+  answer = cellsAnswer v cells values (length instance)
+
+  abbrev read : List ℕ
+  read = take cells (drop 1 values)
+
+  abbrev bits : Bool
+  bits = all (λ (b : ℕ). leb b 1) read
+
+  -- an answer, and what it leaves
+  abbrev Gives : Answer → List ℕ → Type 0
+  Gives a left = (a ≡ answer) × (left ≡ cellsLeft v cells values instance)
+
+  gives : (a : Answer) → answer ≡ a → Gives a (instanceBy a read instance)
+  gives a e = (sym e, ap (λ x. instanceBy x read instance) (sym e))
+
+  by-tests : (p q : Bool) → (eqb (length values) v && bits) ≡ p → leb cells (length instance) ≡ q
+      → answer ≡ cond p (cond q (copied cells) (refused 13)) (refused 11)
+  by-tests p q f g =
+      ap (λ b. cond b (cond (leb cells (length instance)) (copied cells) (refused 13)) (refused 11)) f
+      ∙ ap (λ b. cond p (cond b (copied cells) (refused 13)) (refused 11)) g
+
+  pub wrong-length : (length values ≡ v → ⊥) → Gives (refused 11) instance
+  wrong-length h = gives (refused 11) (by-tests false _ (and-not-left _ bits (ne-eqb (length values) v h)) refl)
+
+  pub wrong-bits : bits ≡ false → Gives (refused 11) instance
+  wrong-bits h = gives (refused 11) (by-tests false _ (and-not-right (eqb (length values) v) bits h) refl)
+
+  pub too-short : length values ≡ v → bits ≡ true → length instance < cells → Gives (refused 13) instance
+  too-short e h l =
+      gives (refused 13) (by-tests true false (and-both _ bits (eq-eqb (length values) v e) h) (lt-leb cells (length instance) l))
+
+  pub copies : length values ≡ v → bits ≡ true → cells ≤ length instance → Gives (copied cells) (read ++ drop cells instance)
+  copies e h l =
+      gives (copied cells) (by-tests true true (and-both _ bits (eq-eqb (length values) v e) h) (le-leb cells (length instance) l))
+
+-- what counting answered, by the case that its answer is
+pub count-refused : (s : List ℕ) (r : Count) (x : Refusal) → count.answerOf r ≡ countAnswer s → r ≡ Refused x
+    → countAnswer s ≡ count.refused (numberOf x)
+count-refused s r x e f = sym e ∙ ap count.answerOf f
+
+pub count-sized : (s : List ℕ) (r : Count) (z : Size) → count.answerOf r ≡ countAnswer s → r ≡ Fits z
+    → countAnswer s ≡ count.fits (z .variables) (z .clauses) (z .words)
+count-sized s r z e f = sym e ∙ ap count.answerOf f
+
+-- from counting to read-back
+module _ (s values instance : List ℕ) where
+  pub refuses : (n : ℕ) → countAnswer s ≡ count.refused n
+      → (refused n ≡ readBackAnswer s values instance) × (instance ≡ instanceAfter s values instance)
+  unfolding readBackAnswer instanceAfter
+  refuses n e =
+      let f : readBackAnswer s values instance ≡ refused n = ap (λ a. readBackAfter a (sheetOf s) values (length instance)) e in
+      (sym f, ap (λ a. instanceBy a (take (cellCount (sheetOf s)) (drop 1 values)) instance) (sym f))
+
+  pub counts-cells : (v c w cells : ℕ) → countAnswer s ≡ count.fits v c w → cells ≡ cellCount (sheetOf s)
+      → (cellsAnswer v cells values (length instance) ≡ readBackAnswer s values instance)
+      × (cellsLeft v cells values instance ≡ instanceAfter s values instance)
+  unfolding readBackAnswer instanceAfter
+  counts-cells v c w cells e f =
+      rw f
+      (let g : readBackAnswer s values instance ≡ cellsAnswer v (cellCount (sheetOf s)) values (length instance) =
+      ap (λ a. readBackAfter a (sheetOf s) values (length instance)) e in
+      (sym g, ap (λ a. instanceBy a (take (cellCount (sheetOf s)) (drop 1 values)) instance) (sym g)))
+
+-- a variable for each cell, and variable 1
+pub room-for-cells : (s : List ℕ) (v c w cells : ℕ) → countAnswer s ≡ count.fits v c w → cells ≡ cellCount (sheetOf s) → suc cells ≤ v
+room-for-cells s v c w cells e f =
+    let d = count-fits s v c w e in
+    omega (arith, d .variables, cells-variables (sheetOf s))
+
+-- a sheet that is refused is refused by counting
+pub counting-refuses : (s : List ℕ) (r : Refusal) → spec.reading s ≡ reading.Refused r → countAnswer s ≡ count.refused (numberOf r)
+unfolding countAnswer
+counting-refuses s r e = ap (λ x. countAfter x (sheetOf s)) e

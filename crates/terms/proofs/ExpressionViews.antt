@@ -1,0 +1,169 @@
+-- What the tree of a node and its form say of the node's symbol, its fields, and the trees of the nodes that they name: expressions.
+use mathlib.Core.Path.{_≡_, refl, sym, _∙_}
+use mathlib.Core.Bool.{true}
+use Prim.Native.Nat.{ℕ, _<_}
+use Rattle.kinds.specs.Kinds.{rowOf}
+use Rattle.sheet.specs.Blocks.{Sheet, variableCount, relationCount, nodeCount, kind, fieldA, fieldB}
+use Rattle.sheet.specs.Reading.{fieldFine}
+use Rattle.sheet.specs.Facts.{Facts}
+use Rattle.relational.specs.Trees.{Leaf, relation, Binary, Unary, Comparison, Test, Connective, Quantifier, Expression, leaf, binary, unary, comprehension, Formula, comparison, test, negation, connective, quantified, Symbol, leaf-symbol, binary-symbol, unary-symbol, comparison-symbol, test-symbol, connective-symbol, quantifier-symbol, comprehension-symbol, negation-symbol, unknown-symbol, symbolOf, expression, formula}
+use Rattle.terms.specs.declared.nodes.ExpressionForm.{ExpressionForm}
+use Rattle.terms.specs.declared.nodes.ExpressionForm.the-variants as form
+use Rattle.terms.specs.declared.nodes.Node.{Node}
+use Rattle.terms.specs.Nodes.{expressionForm, nodeAt, treeAt}
+use Rattle.terms.proofs.Rows.{rowBy, row-by}
+use Rattle.terms.proofs.Views.{expressed, formed, whole-expression, no-both, formBy, form-by, field-a, field-b, before, tree-by, earlier, lower, same-expression}
+
+module _ (sheet : Sheet) (v : ℕ) (node : Node) where
+  pub record LeafAt (e : Expression) : Type 0 where
+    pub it : Leaf
+    pub symbol : symbolOf (node .kind) ≡ leaf-symbol it
+    pub relation : it ≡ relation → node .a < relationCount sheet
+    pub is : e ≡ leaf it (node .a)
+
+  pub record BinaryAt (e : Expression) : Type 0 where
+    pub it : Binary
+    pub symbol : symbolOf (node .kind) ≡ binary-symbol it
+    pub lower-a : node .a < v
+    pub lower-b : node .b < v
+    pub p : Expression
+    pub left : treeAt sheet (node .a) ≡ expression p
+    pub q : Expression
+    pub right : treeAt sheet (node .b) ≡ expression q
+    pub is : e ≡ binary it p q
+
+  pub record UnaryAt (e : Expression) : Type 0 where
+    pub it : Unary
+    pub symbol : symbolOf (node .kind) ≡ unary-symbol it
+    pub lower-a : node .a < v
+    pub p : Expression
+    pub left : treeAt sheet (node .a) ≡ expression p
+    pub is : e ≡ unary it p
+
+  pub record ComprehensionAt (e : Expression) : Type 0 where
+    pub names : node .a < variableCount sheet
+    pub lower-b : node .b < v
+    pub f : Formula
+    pub body : treeAt sheet (node .b) ≡ formula f
+    pub is : e ≡ comprehension (node .a) f
+
+  pub data ExpressionView (e : Expression) : ExpressionForm → Type 0 where
+    leaf-view : LeafAt e → ExpressionView e form.Leaf
+    binary-view : BinaryAt e → ExpressionView e form.Binary
+    unary-view : UnaryAt e → ExpressionView e form.Unary
+    comprehension-view : ComprehensionAt e → ExpressionView e form.Comprehension
+
+module _ (sheet : Sheet) (fine : Facts sheet) (v : ℕ) (there : v < nodeCount sheet) (e : Expression) (h : treeAt sheet v ≡ expression e) where
+  relation-lower : (l : Leaf) → l ≡ relation → fieldFine sheet (rowBy (leaf-symbol l) .a) v (fieldA sheet v) ≡ true → fieldA sheet v < relationCount sheet
+  relation-lower l p f = lower (fieldA sheet v) (relationCount sheet) (rw p at f)
+
+  expression-by : (s : Symbol) → symbolOf (kind sheet v) ≡ s → ExpressionView sheet v (nodeAt (sheet .nodes) v) e (formBy s)
+  expression-by (leaf-symbol l) q =
+      let s : Symbol = leaf-symbol l in
+      leaf-view
+      (record {
+        it = l;
+        symbol = q;
+        relation = λ p. relation-lower l p (field-a sheet fine v there s q);
+        is = same-expression (sym (tree-by sheet fine v there s q) ∙ h);
+      })
+  expression-by (binary-symbol o) q =
+      let s : Symbol = binary-symbol o in
+      let a : fieldA sheet v < v = lower (fieldA sheet v) v (field-a sheet fine v there s q) in
+      let b : fieldB sheet v < v = lower (fieldB sheet v) v (field-b sheet fine v there s q) in
+      let t = expressed (before sheet fine v there s q (fieldA sheet v)) _ (expression e) (whole-expression e) (sym (tree-by sheet fine v there s q) ∙ h) in
+      let u = expressed (before sheet fine v there s q (fieldB sheet v)) _ (expression e) (whole-expression e) (t .grown) in
+      binary-view
+      (record {
+        it = o;
+        symbol = q;
+        lower-a = a;
+        lower-b = b;
+        p = t .it;
+        left = sym (earlier sheet fine v there s q (fieldA sheet v) a) ∙ t .is;
+        q = u .it;
+        right = sym (earlier sheet fine v there s q (fieldB sheet v) b) ∙ u .is;
+        is = same-expression (u .grown);
+      })
+  expression-by (unary-symbol o) q =
+      let s : Symbol = unary-symbol o in
+      let a : fieldA sheet v < v = lower (fieldA sheet v) v (field-a sheet fine v there s q) in
+      let t = expressed (before sheet fine v there s q (fieldA sheet v)) _ (expression e) (whole-expression e) (sym (tree-by sheet fine v there s q) ∙ h) in
+      unary-view
+      (record {
+        it = o;
+        symbol = q;
+        lower-a = a;
+        p = t .it;
+        left = sym (earlier sheet fine v there s q (fieldA sheet v) a) ∙ t .is;
+        is = same-expression (t .grown);
+      })
+  expression-by (comparison-symbol o) q =
+      let s : Symbol = comparison-symbol o in
+      let t = expressed (before sheet fine v there s q (fieldA sheet v)) _ (expression e) (whole-expression e) (sym (tree-by sheet fine v there s q) ∙ h) in
+      let u = expressed (before sheet fine v there s q (fieldB sheet v)) _ (expression e) (whole-expression e) (t .grown) in
+      no-both e _ (u .grown)
+  expression-by (test-symbol o) q =
+      let s : Symbol = test-symbol o in
+      let t = expressed (before sheet fine v there s q (fieldA sheet v)) _ (expression e) (whole-expression e) (sym (tree-by sheet fine v there s q) ∙ h) in
+      no-both e _ (t .grown)
+  expression-by (connective-symbol o) q =
+      let s : Symbol = connective-symbol o in
+      let t = formed (before sheet fine v there s q (fieldA sheet v)) _ (expression e) (whole-expression e) (sym (tree-by sheet fine v there s q) ∙ h) in
+      let u = formed (before sheet fine v there s q (fieldB sheet v)) _ (expression e) (whole-expression e) (t .grown) in
+      no-both e _ (u .grown)
+  expression-by (quantifier-symbol o) q =
+      let s : Symbol = quantifier-symbol o in
+      let t = formed (before sheet fine v there s q (fieldB sheet v)) _ (expression e) (whole-expression e) (sym (tree-by sheet fine v there s q) ∙ h) in
+      no-both e _ (t .grown)
+  expression-by comprehension-symbol q =
+      let s : Symbol = comprehension-symbol in
+      let b : fieldB sheet v < v = lower (fieldB sheet v) v (field-b sheet fine v there s q) in
+      let t = formed (before sheet fine v there s q (fieldB sheet v)) _ (expression e) (whole-expression e) (sym (tree-by sheet fine v there s q) ∙ h) in
+      comprehension-view
+      (record {
+        names = lower (fieldA sheet v) (variableCount sheet) (field-a sheet fine v there s q);
+        lower-b = b;
+        f = t .it;
+        body = sym (earlier sheet fine v there s q (fieldB sheet v) b) ∙ t .is;
+        is = same-expression (t .grown);
+      })
+  expression-by negation-symbol q =
+      let s : Symbol = negation-symbol in
+      let t = formed (before sheet fine v there s q (fieldA sheet v)) _ (expression e) (whole-expression e) (sym (tree-by sheet fine v there s q) ∙ h) in
+      no-both e _ (t .grown)
+  expression-by unknown-symbol q = absurd (whole-expression e (sym h ∙ tree-by sheet fine v there unknown-symbol q))
+
+  expression-view : (x : ExpressionForm) → expressionForm (rowOf (kind sheet v) .rule) ≡ x → ExpressionView sheet v (nodeAt (sheet .nodes) v) e x
+  expression-view x p =
+      let z : expressionForm (rowOf (kind sheet v) .rule) ≡ formBy (symbolOf (kind sheet v)) = rw (row-by (kind sheet v)) (form-by (symbolOf (kind sheet v))) in
+      let w : formBy (symbolOf (kind sheet v)) ≡ x = sym z ∙ p in
+      rw (← w) (expression-by (symbolOf (kind sheet v)) refl)
+
+  module _ {node : Node} (en : node ≡ nodeAt (sheet .nodes) v) where
+    view : (x : ExpressionForm) → node .expression ≡ x → ExpressionView sheet v node e x
+    view x p = rw en (expression-view x (rw en at p))
+
+    pub at-leaf : node .expression ≡ form.Leaf → LeafAt sheet v node e
+    at-leaf p = the (view form.Leaf p)
+      where
+        the : ExpressionView sheet v node e form.Leaf → LeafAt sheet v node e
+        the (leaf-view x) = x
+
+    pub at-binary : node .expression ≡ form.Binary → BinaryAt sheet v node e
+    at-binary p = the (view form.Binary p)
+      where
+        the : ExpressionView sheet v node e form.Binary → BinaryAt sheet v node e
+        the (binary-view x) = x
+
+    pub at-unary : node .expression ≡ form.Unary → UnaryAt sheet v node e
+    at-unary p = the (view form.Unary p)
+      where
+        the : ExpressionView sheet v node e form.Unary → UnaryAt sheet v node e
+        the (unary-view x) = x
+
+    pub at-comprehension : node .expression ≡ form.Comprehension → ComprehensionAt sheet v node e
+    at-comprehension p = the (view form.Comprehension p)
+      where
+        the : ExpressionView sheet v node e form.Comprehension → ComprehensionAt sheet v node e
+        the (comprehension-view x) = x

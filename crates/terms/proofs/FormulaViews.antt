@@ -1,0 +1,185 @@
+-- What the tree of a node and its form say of the node's symbol, its fields, and the trees of the nodes that they name: formulas.
+use mathlib.Core.Path.{_≡_, refl, sym, _∙_}
+use mathlib.Core.Bool.{true}
+use Prim.Native.Nat.{ℕ, _<_}
+use Rattle.kinds.specs.Kinds.{rowOf}
+use Rattle.sheet.specs.Blocks.{Sheet, variableCount, nodeCount, kind, fieldA, fieldB}
+use Rattle.sheet.specs.Facts.{Facts}
+use Rattle.relational.specs.Trees.{Leaf, Binary, Unary, Comparison, Test, Connective, Quantifier, Expression, leaf, binary, unary, comprehension, Formula, comparison, test, negation, connective, quantified, Symbol, leaf-symbol, binary-symbol, unary-symbol, comparison-symbol, test-symbol, connective-symbol, quantifier-symbol, comprehension-symbol, negation-symbol, unknown-symbol, symbolOf, expression, formula}
+use Rattle.terms.specs.declared.nodes.FormulaForm.{FormulaForm}
+use Rattle.terms.specs.declared.nodes.FormulaForm.the-variants as claim
+use Rattle.terms.specs.declared.nodes.Node.{Node}
+use Rattle.terms.specs.Nodes.{formulaForm, nodeAt, treeAt}
+use Rattle.terms.proofs.Rows.{row-by}
+use Rattle.terms.proofs.Views.{expressed, formed, whole-formula, no-both, claimBy, claim-by, field-a, field-b, before, tree-by, earlier, lower, same-formula}
+
+module _ (sheet : Sheet) (v : ℕ) (node : Node) where
+  pub record ComparisonAt (f : Formula) : Type 0 where
+    pub it : Comparison
+    pub symbol : symbolOf (node .kind) ≡ comparison-symbol it
+    pub lower-a : node .a < v
+    pub lower-b : node .b < v
+    pub p : Expression
+    pub left : treeAt sheet (node .a) ≡ expression p
+    pub q : Expression
+    pub right : treeAt sheet (node .b) ≡ expression q
+    pub is : f ≡ comparison it p q
+
+  pub record TestAt (f : Formula) : Type 0 where
+    pub it : Test
+    pub symbol : symbolOf (node .kind) ≡ test-symbol it
+    pub lower-a : node .a < v
+    pub p : Expression
+    pub left : treeAt sheet (node .a) ≡ expression p
+    pub is : f ≡ test it p
+
+  pub record NegationAt (f : Formula) : Type 0 where
+    pub lower-a : node .a < v
+    pub p : Formula
+    pub left : treeAt sheet (node .a) ≡ formula p
+    pub is : f ≡ negation p
+
+  pub record ConnectiveAt (f : Formula) : Type 0 where
+    pub it : Connective
+    pub symbol : symbolOf (node .kind) ≡ connective-symbol it
+    pub lower-a : node .a < v
+    pub lower-b : node .b < v
+    pub p : Formula
+    pub left : treeAt sheet (node .a) ≡ formula p
+    pub q : Formula
+    pub right : treeAt sheet (node .b) ≡ formula q
+    pub is : f ≡ connective it p q
+
+  pub record QuantifierAt (f : Formula) : Type 0 where
+    pub it : Quantifier
+    pub symbol : symbolOf (node .kind) ≡ quantifier-symbol it
+    pub names : node .a < variableCount sheet
+    pub lower-b : node .b < v
+    pub p : Formula
+    pub body : treeAt sheet (node .b) ≡ formula p
+    pub is : f ≡ quantified it (node .a) p
+
+  pub data FormulaView (f : Formula) : FormulaForm → Type 0 where
+    comparison-view : ComparisonAt f → FormulaView f claim.Comparison
+    test-view : TestAt f → FormulaView f claim.Test
+    negation-view : NegationAt f → FormulaView f claim.Negation
+    connective-view : ConnectiveAt f → FormulaView f claim.Connective
+    quantifier-view : QuantifierAt f → FormulaView f claim.Quantifier
+
+module _ (sheet : Sheet) (fine : Facts sheet) (v : ℕ) (there : v < nodeCount sheet) (f : Formula) (h : treeAt sheet v ≡ formula f) where
+  formula-by : (s : Symbol) → symbolOf (kind sheet v) ≡ s → FormulaView sheet v (nodeAt (sheet .nodes) v) f (claimBy s)
+  formula-by (leaf-symbol l) q = no-both (leaf l (fieldA sheet v)) f (sym h ∙ tree-by sheet fine v there (leaf-symbol l) q)
+  formula-by (binary-symbol o) q =
+      let s : Symbol = binary-symbol o in
+      let t = expressed (before sheet fine v there s q (fieldA sheet v)) _ (formula f) (whole-formula f) (sym (tree-by sheet fine v there s q) ∙ h) in
+      let u = expressed (before sheet fine v there s q (fieldB sheet v)) _ (formula f) (whole-formula f) (t .grown) in
+      no-both _ f (sym (u .grown))
+  formula-by (unary-symbol o) q =
+      let s : Symbol = unary-symbol o in
+      let t = expressed (before sheet fine v there s q (fieldA sheet v)) _ (formula f) (whole-formula f) (sym (tree-by sheet fine v there s q) ∙ h) in
+      no-both _ f (sym (t .grown))
+  formula-by (comparison-symbol o) q =
+      let s : Symbol = comparison-symbol o in
+      let a : fieldA sheet v < v = lower (fieldA sheet v) v (field-a sheet fine v there s q) in
+      let b : fieldB sheet v < v = lower (fieldB sheet v) v (field-b sheet fine v there s q) in
+      let t = expressed (before sheet fine v there s q (fieldA sheet v)) _ (formula f) (whole-formula f) (sym (tree-by sheet fine v there s q) ∙ h) in
+      let u = expressed (before sheet fine v there s q (fieldB sheet v)) _ (formula f) (whole-formula f) (t .grown) in
+      comparison-view
+      (record {
+        it = o;
+        symbol = q;
+        lower-a = a;
+        lower-b = b;
+        p = t .it;
+        left = sym (earlier sheet fine v there s q (fieldA sheet v) a) ∙ t .is;
+        q = u .it;
+        right = sym (earlier sheet fine v there s q (fieldB sheet v) b) ∙ u .is;
+        is = same-formula (u .grown);
+      })
+  formula-by (test-symbol o) q =
+      let s : Symbol = test-symbol o in
+      let a : fieldA sheet v < v = lower (fieldA sheet v) v (field-a sheet fine v there s q) in
+      let t = expressed (before sheet fine v there s q (fieldA sheet v)) _ (formula f) (whole-formula f) (sym (tree-by sheet fine v there s q) ∙ h) in
+      test-view (record { it = o; symbol = q; lower-a = a; p = t .it; left = sym (earlier sheet fine v there s q (fieldA sheet v) a) ∙ t .is; is = same-formula (t .grown) })
+  formula-by (connective-symbol o) q =
+      let s : Symbol = connective-symbol o in
+      let a : fieldA sheet v < v = lower (fieldA sheet v) v (field-a sheet fine v there s q) in
+      let b : fieldB sheet v < v = lower (fieldB sheet v) v (field-b sheet fine v there s q) in
+      let t = formed (before sheet fine v there s q (fieldA sheet v)) _ (formula f) (whole-formula f) (sym (tree-by sheet fine v there s q) ∙ h) in
+      let u = formed (before sheet fine v there s q (fieldB sheet v)) _ (formula f) (whole-formula f) (t .grown) in
+      connective-view
+      (record {
+        it = o;
+        symbol = q;
+        lower-a = a;
+        lower-b = b;
+        p = t .it;
+        left = sym (earlier sheet fine v there s q (fieldA sheet v) a) ∙ t .is;
+        q = u .it;
+        right = sym (earlier sheet fine v there s q (fieldB sheet v) b) ∙ u .is;
+        is = same-formula (u .grown);
+      })
+  formula-by (quantifier-symbol o) q =
+      let s : Symbol = quantifier-symbol o in
+      let b : fieldB sheet v < v = lower (fieldB sheet v) v (field-b sheet fine v there s q) in
+      let t = formed (before sheet fine v there s q (fieldB sheet v)) _ (formula f) (whole-formula f) (sym (tree-by sheet fine v there s q) ∙ h) in
+      quantifier-view
+      (record {
+        it = o;
+        symbol = q;
+        names = lower (fieldA sheet v) (variableCount sheet) (field-a sheet fine v there s q);
+        lower-b = b;
+        p = t .it;
+        body = sym (earlier sheet fine v there s q (fieldB sheet v) b) ∙ t .is;
+        is = same-formula (t .grown);
+      })
+  formula-by comprehension-symbol q =
+      let s : Symbol = comprehension-symbol in
+      let t = formed (before sheet fine v there s q (fieldB sheet v)) _ (formula f) (whole-formula f) (sym (tree-by sheet fine v there s q) ∙ h) in
+      no-both _ f (sym (t .grown))
+  formula-by negation-symbol q =
+      let s : Symbol = negation-symbol in
+      let a : fieldA sheet v < v = lower (fieldA sheet v) v (field-a sheet fine v there s q) in
+      let t = formed (before sheet fine v there s q (fieldA sheet v)) _ (formula f) (whole-formula f) (sym (tree-by sheet fine v there s q) ∙ h) in
+      negation-view (record { lower-a = a; p = t .it; left = sym (earlier sheet fine v there s q (fieldA sheet v) a) ∙ t .is; is = same-formula (t .grown) })
+  formula-by unknown-symbol q = absurd (whole-formula f (sym h ∙ tree-by sheet fine v there unknown-symbol q))
+
+  formula-view : (x : FormulaForm) → formulaForm (rowOf (kind sheet v) .rule) ≡ x → FormulaView sheet v (nodeAt (sheet .nodes) v) f x
+  formula-view x p =
+      let z : formulaForm (rowOf (kind sheet v) .rule) ≡ claimBy (symbolOf (kind sheet v)) = rw (row-by (kind sheet v)) (claim-by (symbolOf (kind sheet v))) in
+      let w : claimBy (symbolOf (kind sheet v)) ≡ x = sym z ∙ p in
+      rw (← w) (formula-by (symbolOf (kind sheet v)) refl)
+
+  module _ {node : Node} (en : node ≡ nodeAt (sheet .nodes) v) where
+    view : (x : FormulaForm) → node .formula ≡ x → FormulaView sheet v node f x
+    view x p = rw en (formula-view x (rw en at p))
+
+    pub at-comparison : node .formula ≡ claim.Comparison → ComparisonAt sheet v node f
+    at-comparison p = the (view claim.Comparison p)
+      where
+        the : FormulaView sheet v node f claim.Comparison → ComparisonAt sheet v node f
+        the (comparison-view x) = x
+
+    pub at-test : node .formula ≡ claim.Test → TestAt sheet v node f
+    at-test p = the (view claim.Test p)
+      where
+        the : FormulaView sheet v node f claim.Test → TestAt sheet v node f
+        the (test-view x) = x
+
+    pub at-negation : node .formula ≡ claim.Negation → NegationAt sheet v node f
+    at-negation p = the (view claim.Negation p)
+      where
+        the : FormulaView sheet v node f claim.Negation → NegationAt sheet v node f
+        the (negation-view x) = x
+
+    pub at-connective : node .formula ≡ claim.Connective → ConnectiveAt sheet v node f
+    at-connective p = the (view claim.Connective p)
+      where
+        the : FormulaView sheet v node f claim.Connective → ConnectiveAt sheet v node f
+        the (connective-view x) = x
+
+    pub at-quantifier : node .formula ≡ claim.Quantifier → QuantifierAt sheet v node f
+    at-quantifier p = the (view claim.Quantifier p)
+      where
+        the : FormulaView sheet v node f claim.Quantifier → QuantifierAt sheet v node f
+        the (quantifier-view x) = x

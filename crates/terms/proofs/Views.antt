@@ -1,0 +1,146 @@
+-- The tree of a node over the trees before it, and the form of its symbol.
+use mathlib.Core.Path.{_≡_, refl, sym, ap, _∙_}
+use mathlib.Core.Bool.{true}
+use mathlib.Core.List.{List}
+use Prim.Native.Nat.{ℕ, _<_}
+use native.Mathlib.Omega.{arith}
+use lib.Dec.{ltb}
+use lib.ListN.{getD}
+use borrow.Author.Tests.{ltb-true}
+use Rattle.kinds.specs.declared.Row.{Row}
+use Rattle.kinds.specs.Kinds.{rowOf}
+use Rattle.sheet.specs.Blocks.{Sheet, variableCount, relationCount, nodeCount, kind, fieldA, fieldB}
+use Rattle.sheet.specs.Tables.{table}
+use Rattle.sheet.specs.Reading.{fieldFine}
+use Rattle.sheet.specs.Facts.{Facts}
+use Rattle.relational.specs.Trees.{Leaf, relation, variable, atoms, identity, Binary, union, intersection, difference, join, product, Unary, inverse, closure, Comparison, Test, Connective, Quantifier, Expression, leaf, binary, unary, comprehension, Formula, comparison, test, negation, connective, quantified, Symbol, leaf-symbol, binary-symbol, unary-symbol, comparison-symbol, test-symbol, connective-symbol, quantifier-symbol, comprehension-symbol, negation-symbol, unknown-symbol, symbolOf, Tree, expression, formula, broken, withExpression, withFormula, treeBy, treeStep, trees}
+use Rattle.terms.specs.declared.nodes.ExpressionForm.{ExpressionForm}
+use Rattle.terms.specs.declared.nodes.ExpressionForm.the-variants as form
+use Rattle.terms.specs.declared.nodes.FormulaForm.{FormulaForm}
+use Rattle.terms.specs.declared.nodes.FormulaForm.the-variants as claim
+use Rattle.terms.specs.Nodes.{expressionForm, formulaForm, treeAt}
+use Rattle.terms.proofs.Rows.{rowBy, row-by}
+use Rattle.sheet.proofs.TableLaws.{table-at, table-same}
+
+-- ---- a tree that another grows from
+pub record Expressed (x : Tree) (grow : Expression → Tree) (t : Tree) : Type 0 where
+  pub it : Expression
+  pub is : x ≡ expression it
+  pub grown : grow it ≡ t
+
+pub record Formed (x : Tree) (grow : Formula → Tree) (t : Tree) : Type 0 where
+  pub it : Formula
+  pub is : x ≡ formula it
+  pub grown : grow it ≡ t
+
+pub expressed : (x : Tree) (grow : Expression → Tree) (t : Tree) → (t ≡ broken → ⊥) → withExpression x grow ≡ t → Expressed x grow t
+expressed (expression e) grow t h p = record { it = e; is = refl; grown = p }
+expressed (formula f) grow t h p = absurd (h (sym p))
+expressed broken grow t h p = absurd (h (sym p))
+
+pub formed : (x : Tree) (grow : Formula → Tree) (t : Tree) → (t ≡ broken → ⊥) → withFormula x grow ≡ t → Formed x grow t
+formed (expression e) grow t h p = absurd (h (sym p))
+formed (formula f) grow t h p = record { it = f; is = refl; grown = p }
+formed broken grow t h p = absurd (h (sym p))
+
+pub whole-expression : (e : Expression) → expression e ≡ broken → ⊥
+whole-expression e p = let z : _≡_ {A = ℕ} 0 1 = cc in omega arith
+
+pub whole-formula : (f : Formula) → formula f ≡ broken → ⊥
+whole-formula f p = let z : _≡_ {A = ℕ} 0 1 = cc in omega arith
+
+pub no-both : {A : Type 0} (e : Expression) (f : Formula) → formula f ≡ expression e → A
+no-both e f p = let z : _≡_ {A = ℕ} 0 1 = cc in absurd (omega arith)
+
+-- ---- the form of a symbol
+abbrev pub formBy : Symbol → ExpressionForm
+formBy (leaf-symbol l) = form.Leaf
+formBy (binary-symbol o) = form.Binary
+formBy (unary-symbol o) = form.Unary
+formBy (comparison-symbol o) = form.Leaf
+formBy (test-symbol o) = form.Leaf
+formBy (connective-symbol o) = form.Leaf
+formBy (quantifier-symbol q) = form.Leaf
+formBy comprehension-symbol = form.Comprehension
+formBy negation-symbol = form.Leaf
+formBy unknown-symbol = form.Leaf
+
+pub form-by : (s : Symbol) → expressionForm (rowBy s .rule) ≡ formBy s
+form-by (leaf-symbol relation) = refl
+form-by (leaf-symbol variable) = refl
+form-by (leaf-symbol atoms) = refl
+form-by (leaf-symbol identity) = refl
+form-by (binary-symbol union) = refl
+form-by (binary-symbol intersection) = refl
+form-by (binary-symbol difference) = refl
+form-by (binary-symbol join) = refl
+form-by (binary-symbol product) = refl
+form-by (unary-symbol inverse) = refl
+form-by (unary-symbol closure) = refl
+form-by (comparison-symbol o) = refl
+form-by (test-symbol o) = refl
+form-by (connective-symbol o) = refl
+form-by (quantifier-symbol q) = refl
+form-by comprehension-symbol = refl
+form-by negation-symbol = refl
+form-by unknown-symbol = refl
+
+abbrev pub claimBy : Symbol → FormulaForm
+claimBy (leaf-symbol l) = claim.Negation
+claimBy (binary-symbol o) = claim.Negation
+claimBy (unary-symbol o) = claim.Negation
+claimBy (comparison-symbol o) = claim.Comparison
+claimBy (test-symbol o) = claim.Test
+claimBy (connective-symbol o) = claim.Connective
+claimBy (quantifier-symbol q) = claim.Quantifier
+claimBy comprehension-symbol = claim.Negation
+claimBy negation-symbol = claim.Negation
+claimBy unknown-symbol = claim.Negation
+
+pub claim-by : (s : Symbol) → formulaForm (rowBy s .rule) ≡ claimBy s
+claim-by (leaf-symbol relation) = refl
+claim-by (leaf-symbol variable) = refl
+claim-by (leaf-symbol atoms) = refl
+claim-by (leaf-symbol identity) = refl
+claim-by (binary-symbol union) = refl
+claim-by (binary-symbol intersection) = refl
+claim-by (binary-symbol difference) = refl
+claim-by (binary-symbol join) = refl
+claim-by (binary-symbol product) = refl
+claim-by (unary-symbol inverse) = refl
+claim-by (unary-symbol closure) = refl
+claim-by (comparison-symbol o) = refl
+claim-by (test-symbol o) = refl
+claim-by (connective-symbol o) = refl
+claim-by (quantifier-symbol q) = refl
+claim-by comprehension-symbol = refl
+claim-by negation-symbol = refl
+claim-by unknown-symbol = refl
+
+-- ---- what a node's field is
+module _ (sheet : Sheet) (fine : Facts sheet) (v : ℕ) (there : v < nodeCount sheet) (s : Symbol) (e : symbolOf (kind sheet v) ≡ s) where
+  pub field-a : fieldFine sheet (rowBy s .a) v (fieldA sheet v) ≡ true
+  field-a = rw (row-by (kind sheet v), e) at (fine .fine-a v there)
+
+  pub field-b : fieldFine sheet (rowBy s .b) v (fieldB sheet v) ≡ true
+  field-b = rw (row-by (kind sheet v), e) at (fine .fine-b v there)
+
+  -- the tree of the node, over the trees before it
+  abbrev pub before : ℕ → Tree
+  before x = getD (table (treeStep sheet) v) x broken
+
+  pub tree-by : treeAt sheet v ≡ treeBy s (fieldA sheet v) (before (fieldA sheet v)) (before (fieldB sheet v))
+  unfolding treeStep
+  tree-by = table-at (treeStep sheet) broken (nodeCount sheet) v there ∙ rw e
+
+  pub earlier : (x : ℕ) → x < v → before x ≡ treeAt sheet x
+  earlier x h = sym (table-same (treeStep sheet) broken v (nodeCount sheet) x h (omega arith))
+
+pub lower : (x v : ℕ) → ltb x v ≡ true → x < v
+lower x v h = ltb-true x v h
+
+pub same-expression : {d e : Expression} → expression d ≡ expression e → e ≡ d
+same-expression p = cc
+
+pub same-formula : {f g : Formula} → formula f ≡ formula g → g ≡ f
+same-formula p = cc

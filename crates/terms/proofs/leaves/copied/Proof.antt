@@ -1,0 +1,79 @@
+-- `copied` meets its contract.
+use mathlib.Core.Path.{_≡_, refl, sym, ap, _∙_}
+use mathlib.Core.List.{List}
+use Prim.Native.Nat.{ℕ}
+use Rattle.sheet.specs.Blocks.{byte}
+use Rattle.sheet.specs.Blocks.{fourBlocks}
+use Rattle.terms.specs.Terms.{Filled, cellFrom, environment}
+use Rattle.cells.proofs.Layouts.{square, set-rows, count-most, width-most, cells-most}
+use Rattle.terms.proofs.Numbers.{at-relation, at-variable, at-atoms, at-identity}
+use Rattle.terms.proofs.LeafMatrices.{constant-word, set-from, identity-from, diagonal, some-root, relation-from, variable-is, sort-is, identity-is}
+use borrow.Author.Needs.{needs}
+use Prim.Native.Nat.{_≤_, _-_, _*_}
+use mathlib.Core.Path.{_≡_, refl, ap, _∙_}
+use native.Mathlib.Omega.{arith}
+use lib.Dec.{eqb}
+use mathlib.Core.Bool.{true}
+use Rattle.literal.specs.Literals.{literalOf}
+use Rattle.literal.proofs.Signs.{back}
+use Rattle.encoding.specs.Translation.{absent, constant}
+use Rattle.terms.specs.Terms.{Filled, cellFrom}
+use Rattle.terms.proofs.Lists.{literal-of, filled-none, filled-more, filled-at, filled-fine}
+use Rattle.cells.proofs.Layouts.{square}
+use Rattle.terms.proofs.LeafMatrices.{constant-word, set-from, identity-from, diagonal, some-root}
+use Rattle.terms.proofs.leaves.copied.Statement.{statement}
+use Rattle.terms.proofs.leaves.copied.Tie as tie
+
+abbrev Inv-loop : tie.InvT-loop
+Inv-loop given first size words₀ k₀ words k = (k ≤ size) × Filled (cellFrom given first) k words
+
+abbrev μ-loop : tie.MeasureT-loop
+μ-loop given first size words₀ k₀ words k = size - k
+
+loop-holds : tie.Need-loop-holds Inv-loop μ-loop
+loop-holds c = (omega arith, filled-none (cellFrom (c .args .given .now) (c .args .first)))
+
+add-word-at : tie.Need-add-word-at Inv-loop μ-loop
+add-word-at c = search needs
+
+word-at-requires : tie.Need-word-at-requires Inv-loop μ-loop
+word-at-requires c κs = search needs
+
+mul-words : tie.Need-mul-words Inv-loop μ-loop
+mul-words c = search needs
+
+array-set-from-words : tie.Need-array-set-from-words Inv-loop μ-loop
+array-set-from-words c = search needs
+
+add-k : tie.Need-add-k Inv-loop μ-loop
+add-k c = search needs
+
+loop-less : tie.Need-loop-less Inv-loop μ-loop
+loop-less c = search needs
+
+loop-again : tie.Need-loop-again Inv-loop μ-loop
+loop-again c = (
+  omega arith,
+  filled-more (cellFrom (c .before .before .before .args .given .now) (c .before .before .before .args .first)) _ (c .before .before .loop .inv .1) (omega arith)
+      (ap literalOf (back _ (record { sfits = c .word-at .ok }) ∙ c .word-at .ensures)
+      ∙ literal-of (c .before .before .before .args .given .now) _),
+)
+
+returns : tie.Need-returns Inv-loop μ-loop
+returns c = filled-at (cellFrom (c .before .before .args .given .now) (c .before .before .args .first)) (c .before .loop .inv .1) _ (c .loop-test .left) (c .before .loop .inv .0)
+
+pub copied-spec : {M : Type 1} → statement M
+copied-spec =
+    tie.close
+    (tie.spec
+    Inv-loop
+    μ-loop
+    loop-holds
+    add-word-at
+    word-at-requires
+    mul-words
+    array-set-from-words
+    add-k
+    loop-less
+    loop-again
+    returns)

@@ -1,0 +1,94 @@
+-- `identity_leaf` meets its contract.
+use mathlib.Core.Path.{_≡_, refl, sym, ap, _∙_}
+use mathlib.Core.List.{List}
+use Prim.Native.Nat.{ℕ}
+use Rattle.sheet.specs.Blocks.{byte}
+use Rattle.sheet.specs.Blocks.{fourBlocks}
+use Rattle.terms.specs.Terms.{Filled, cellFrom, environment}
+use Rattle.cells.proofs.Layouts.{square, set-rows, count-most, width-most, cells-most}
+use Rattle.terms.proofs.Numbers.{at-relation, at-variable, at-atoms, at-identity}
+use Rattle.terms.proofs.LeafMatrices.{constant-word, set-from, identity-from, diagonal, some-root, relation-from, variable-is, sort-is, identity-is}
+use mathlib.Core.Path.{_≡_, refl, ap, _∙_}
+use Rattle.literal.specs.Literals.{literalOf}
+use Rattle.literal.proofs.Signs.{back}
+use Rattle.encoding.specs.Translation.{absent, constant}
+use Rattle.terms.specs.Terms.{Filled, cellFrom}
+use Rattle.terms.proofs.Lists.{literal-of, filled-none, filled-more, filled-at, filled-fine}
+use Rattle.cells.proofs.Layouts.{square}
+use Rattle.terms.proofs.LeafMatrices.{constant-word, set-from, identity-from, diagonal, some-root}
+use borrow.Author.Needs.{needs}
+use Prim.Native.Nat.{_≤_, _-_, _*_, _/_, _%_}
+use mathlib.Core.Path.{refl}
+use native.Mathlib.Omega.{arith}
+use lib.Dec.{eqb}
+use mathlib.Core.Bool.{true}
+use Rattle.encoding.specs.Translation.{constant}
+use Rattle.terms.specs.Terms.{Filled}
+use Rattle.terms.proofs.Lists.{filled-none, filled-more, filled-at}
+use Rattle.terms.proofs.LeafMatrices.{constant-word, set-from, identity-from, diagonal}
+use Rattle.terms.proofs.leaves.identity_leaf.Statement.{statement}
+use Rattle.terms.proofs.leaves.identity_leaf.Tie as tie
+
+abbrev Inv-loop : tie.InvT-loop
+Inv-loop n size words₀ k₀ words k = (k ≤ size) × Filled (diagonal n) k words
+
+abbrev μ-loop : tie.MeasureT-loop
+μ-loop n size words₀ k₀ words k = size - k
+
+mul-size : tie.Need-mul-size Inv-loop μ-loop
+mul-size c = omega (arith, square (c .pre) (c .pre))
+
+loop-holds : tie.Need-loop-holds Inv-loop μ-loop
+loop-holds c = (omega arith, filled-none (diagonal (c .args .n)))
+
+div-truth : tie.Need-div-truth Inv-loop μ-loop
+div-truth c = omega (arith, some-root (c .before .before .args .n) (c .before .loop .k) (c .loop-test .taken))
+
+rem-truth : tie.Need-rem-truth Inv-loop μ-loop
+rem-truth c = omega (arith, some-root (c .before .before .args .n) (c .before .loop .k) (c .loop-test .taken))
+
+truth-requires : tie.Need-truth-requires Inv-loop μ-loop
+truth-requires c κs = search needs
+
+mul-words : tie.Need-mul-words Inv-loop μ-loop
+mul-words c = omega (arith, square (c .before .before .before .pre) (c .before .before .before .pre))
+
+array-set-from-words : tie.Need-array-set-from-words Inv-loop μ-loop
+array-set-from-words c = omega (arith, square (c .before .before .before .pre) (c .before .before .before .pre))
+
+add-k : tie.Need-add-k Inv-loop μ-loop
+add-k c = omega (arith, square (c .before .before .before .pre) (c .before .before .before .pre))
+
+loop-less : tie.Need-loop-less Inv-loop μ-loop
+loop-less c = search needs
+
+loop-again : tie.Need-loop-again Inv-loop μ-loop
+loop-again c = (
+  omega arith,
+  filled-more (diagonal (c .before .before .before .args .n)) _ (c .before .before .loop .inv .1) (omega (arith, square (c .before .before .before .pre) (c .before .before .before .pre)))
+      (constant-word (eqb (c .before .before .loop .k / c .before .before .before .args .n) (c .before .before .loop .k % c .before .before .before .args .n))
+      (back _ (record { sfits = c .truth .ok }) ∙ c .truth .ensures)),
+)
+
+returns : tie.Need-returns Inv-loop μ-loop
+returns c =
+    identity-from _ _ (c .before .before .pre)
+    (filled-at (diagonal (c .before .before .args .n)) (c .before .loop .inv .1) _ (c .loop-test .left) (c .before .loop .inv .0))
+
+pub identity-leaf-spec : {M : Type 1} → statement M
+identity-leaf-spec =
+    tie.close
+    (tie.spec
+    Inv-loop
+    μ-loop
+    mul-size
+    loop-holds
+    div-truth
+    rem-truth
+    truth-requires
+    mul-words
+    array-set-from-words
+    add-k
+    loop-less
+    loop-again
+    returns)

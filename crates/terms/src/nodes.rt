@@ -1,0 +1,101 @@
+// A node of the sheet, and what the walk does there.
+ghost use mathlib.Core.Path.{_≡_};
+ghost use Prim.Native.Nat.{_≤_, _<_};
+ghost use Rattle.terms.specs.Nodes.{expressionForm, formulaForm, nodeAt};
+use kinds::Rule;
+use kinds::row_of;
+use sheet::bytes::byte;
+
+// The kinds of expressions that the walk treats alike.
+pub enum ExpressionForm {
+    Leaf,
+    Binary,
+    Unary,
+    Comprehension,
+}
+
+// And those of formulas.
+pub enum FormulaForm {
+    Comparison,
+    Test,
+    Negation,
+    Connective,
+    Quantifier,
+}
+
+pub struct Node {
+    pub expression: ExpressionForm,
+    pub formula: FormulaForm,
+    pub kind: usize,
+    pub a: usize,
+    pub b: usize,
+}
+
+// The form of an expression's node; of any other node it says nothing.
+fn expression_form(rule: Rule) -> ExpressionForm
+    ensures { λ r. ⌜ r ≡ expressionForm rule ⌝ }
+{
+    match rule {
+        Rule::Unknown => ExpressionForm::Leaf,
+        Rule::OfRelation => ExpressionForm::Leaf,
+        Rule::OfVariable => ExpressionForm::Leaf,
+        Rule::OfSort => ExpressionForm::Leaf,
+        Rule::OfIdentity => ExpressionForm::Leaf,
+        Rule::Same => ExpressionForm::Binary,
+        Rule::Join => ExpressionForm::Binary,
+        Rule::Product => ExpressionForm::Binary,
+        Rule::Inverse => ExpressionForm::Unary,
+        Rule::Closure => ExpressionForm::Unary,
+        Rule::Comprehension => ExpressionForm::Comprehension,
+        Rule::Comparison => ExpressionForm::Leaf,
+        Rule::Test => ExpressionForm::Leaf,
+        Rule::Negation => ExpressionForm::Leaf,
+        Rule::Connective => ExpressionForm::Leaf,
+        Rule::Quantifier => ExpressionForm::Leaf,
+    }
+}
+
+// The form of a formula's node; of any other node it says nothing.
+fn formula_form(rule: Rule) -> FormulaForm
+    ensures { λ r. ⌜ r ≡ formulaForm rule ⌝ }
+{
+    match rule {
+        Rule::Unknown => FormulaForm::Negation,
+        Rule::OfRelation => FormulaForm::Negation,
+        Rule::OfVariable => FormulaForm::Negation,
+        Rule::OfSort => FormulaForm::Negation,
+        Rule::OfIdentity => FormulaForm::Negation,
+        Rule::Same => FormulaForm::Negation,
+        Rule::Join => FormulaForm::Negation,
+        Rule::Product => FormulaForm::Negation,
+        Rule::Inverse => FormulaForm::Negation,
+        Rule::Closure => FormulaForm::Negation,
+        Rule::Comprehension => FormulaForm::Negation,
+        Rule::Comparison => FormulaForm::Comparison,
+        Rule::Test => FormulaForm::Test,
+        Rule::Negation => FormulaForm::Negation,
+        Rule::Connective => FormulaForm::Connective,
+        Rule::Quantifier => FormulaForm::Quantifier,
+    }
+}
+
+// Node v of the block of nodes.
+pub fn read_node(nodes: &[u8], v: usize) -> Node
+    requires { ⌜ v ≤ 200 ⌝ }
+    ensures { λ r. ⌜ (r ≡ nodeAt (now (nodes .entry)) v) × (r .a < 256) ⌝ }
+{
+    let kind = byte(nodes, 3 * v);
+    let a = byte(nodes, 3 * v + 1);
+    let b = byte(nodes, 3 * v + 2);
+    let row = row_of(kind);
+    let rule = row.rule;
+    let expression = expression_form(rule);
+    let formula = formula_form(rule);
+    Node {
+        expression,
+        formula,
+        kind,
+        a,
+        b,
+    }
+}

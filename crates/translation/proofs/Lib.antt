@@ -1,0 +1,5 @@
+mod Regulars
+mod Walking
+mod ExpressionWalks
+mod FormulaWalks
+mod BodyWalks

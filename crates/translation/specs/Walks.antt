@@ -1,0 +1,54 @@
+-- What the walk takes for granted, and what it does.
+-- Cited by contracts of private functions only: nothing here needs belief.
+use mathlib.Core.Path.{_≡_}
+use mathlib.Core.List.{List}
+use Prim.Native.Nat.{ℕ, _<_}
+use lib.IntN.{ℤ}
+use Rattle.sheet.specs.Blocks.{Sheet, scope, sortOf, nodeCount}
+use Rattle.sheet.specs.Facts.{Facts}
+use Rattle.relational.specs.Trees.{Expression, Formula, expression, formula}
+use Rattle.relational.specs.Meaning.{Environment, bind}
+use Rattle.relational.specs.Matrices.{upto, setOf}
+use Rattle.literal.specs.Literals.{Literal}
+use Rattle.encoding.specs.Builder.{Builder, _<$>_, each}
+use Rattle.encoding.specs.Translation.{translate, translateFormula}
+use Rattle.emission.specs.declared.Tape.{Tape}
+use Rattle.emission.specs.declared.Literals.{Literals}
+use Rattle.emission.specs.Emission.{AllInside, literalsOf, Bounded, EmitsLiteral, EmitsMatrix}
+use Rattle.terms.specs.Nodes.{treeAt}
+use Rattle.terms.specs.Terms.{environment}
+
+-- the walk can start at node v
+pub record Ready (sheet : Sheet) (given : List ℤ) (tape : Tape) (v : ℕ) : Type 0 where
+  pub facts : Facts sheet
+  pub there : v < nodeCount sheet
+  pub bounded : Bounded tape
+  pub inside : AllInside (tape .next) (literalsOf given)
+
+pub record IsExpression (sheet : Sheet) (v : ℕ) : Type 0 where
+  pub it : Expression
+  pub is : treeAt sheet v ≡ expression it
+
+pub record IsFormula (sheet : Sheet) (v : ℕ) : Type 0 where
+  pub it : Formula
+  pub is : treeAt sheet v ≡ formula it
+
+-- the walks of a binder's body, by atom
+abbrev pub bodyWalks : Sheet → List Literal → Formula → Environment → ℕ → Builder (List Literal)
+bodyWalks sheet cells f env x = each (λ i. translateFormula sheet cells f (bind env x i)) (upto (scope sheet (sortOf sheet x)))
+
+module _ (sheet : Sheet) (given : List ℤ) (env : List ℕ) (v : ℕ) (old : List ℤ) (before : Tape) where
+  -- node v was walked as an expression, as a formula
+  pub record WalksExpression (matrix : Literals) (new : List ℤ) (after : Tape) : Type 0 where
+    pub walks : (e : Expression) → treeAt sheet v ≡ expression e
+        → EmitsMatrix (translate sheet (literalsOf given) e (environment env) (before .next)) old before matrix new after
+
+  pub record WalksFormula (word : ℤ) (new : List ℤ) (after : Tape) : Type 0 where
+    pub walks : (f : Formula) → treeAt sheet v ≡ formula f
+        → EmitsLiteral (translateFormula sheet (literalsOf given) f (environment env) (before .next)) old before word new after
+
+  -- node v was walked once for each atom of variable x
+  pub record WalksBodies (x : ℕ) (matrix : Literals) (new : List ℤ) (after : Tape) : Type 0 where
+    pub walks : (f : Formula) → treeAt sheet v ≡ formula f
+        → EmitsMatrix ((setOf (scope sheet (sortOf sheet x)) <$> bodyWalks sheet (literalsOf given) f (environment env) x) (before .next))
+        old before matrix new after
