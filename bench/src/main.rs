@@ -9,6 +9,8 @@ mod search;
 use reference::clauses::count;
 use reference::clauses::{translate, Clauses};
 use reference::random::Source;
+#[cfg(on = "count")]
+use reference::random_sheet::closures;
 use reference::random_sheet::{gates_of, sheet, style};
 use reference::sheet::read;
 use std::hint::black_box;
@@ -121,6 +123,22 @@ fn translations(sheets: &[(Vec<u8>, Clauses)]) {
     line("writing", gates, "gates", writing);
 }
 
+/// A sheet that would make over 10^9 gates is refused about as fast as one of 16,001 variables.
+#[cfg(on = "count")]
+fn giving_up() {
+    let (just, far) = (gates_of(15_997).bytes(), closures(190).bytes());
+    assert_eq!((library::count(&just), library::count(&far)), (Err(10), Err(10)));
+    let (just, far) = best(
+        || {
+            let _ = black_box(library::count(&just));
+        },
+        || {
+            let _ = black_box(library::count(&far));
+        },
+    );
+    println!("number 10: {} µs at 16,001 variables, {} µs at 1,494,220,800 gates", just.as_micros(), far.as_micros());
+}
+
 fn main() {
     let sheets = sheets(300);
     let lists: Vec<Clauses> = sheets.iter().map(|(_, clauses)| clauses.clone()).collect();
@@ -130,4 +148,6 @@ fn main() {
     searches(&format!("search of a list of {words} words"), &[large], 5_000);
     #[cfg(on = "count")]
     translations(&sheets);
+    #[cfg(on = "count")]
+    giving_up();
 }

@@ -42,14 +42,15 @@ pub fn check(sheet: &[u8], instance: &[u8]) -> Result<bool, u32> {
 #[repr(C)]
 struct CountAnswer {
     refusal: u32,
-    variables: u32,
-    clauses: u32,
-    words: u32,
+    variables: usize,
+    clauses: usize,
+    words: usize,
 }
 
 impl CountAnswer {
     fn size(self) -> Result<Size, u32> {
-        unless(self.refusal, Size { variables: self.variables, clauses: self.clauses, words: self.words })
+        let (variables, clauses, words) = (self.variables as u32, self.clauses as u32, self.words as u32);
+        unless(self.refusal, Size { variables, clauses, words })
     }
 }
 
@@ -113,7 +114,7 @@ pub fn search(list: &[i32], v: u32, values: &mut [u8], trail: &mut [i32], budget
 #[repr(C)]
 struct TextAnswer {
     refusal: u32,
-    bytes: u64,
+    bytes: usize,
 }
 
 #[cfg(on = "dimacs")]
@@ -122,7 +123,7 @@ pub fn text_size(list: &[i32], v: u32) -> Result<u64, u32> {
         fn fawnloom_text_size(list: *const i32, words: usize, v: u32) -> TextAnswer;
     }
     let answer = unsafe { fawnloom_text_size(list.as_ptr(), list.len(), v) };
-    unless(answer.refusal, answer.bytes)
+    unless(answer.refusal, answer.bytes as u64)
 }
 
 #[cfg(on = "dimacs")]
@@ -131,11 +132,18 @@ pub fn text(list: &[i32], v: u32, text: &mut [u8]) -> Result<u64, u32> {
         fn fawnloom_text(list: *const i32, words: usize, v: u32, text: *mut u8, length: usize) -> TextAnswer;
     }
     let answer = unsafe { fawnloom_text(list.as_ptr(), list.len(), v, text.as_mut_ptr(), text.len()) };
-    unless(answer.refusal, answer.bytes)
+    unless(answer.refusal, answer.bytes as u64)
 }
 
+#[repr(C)]
+struct ReadBackAnswer {
+    refusal: u32,
+    cells: usize,
+}
+
+/// The cells copied.
 #[cfg(on = "solve")]
-pub fn read_back(sheet: &[u8], values: &[u8], instance: &mut [u8]) -> Result<(), u32> {
+pub fn read_back(sheet: &[u8], values: &[u8], instance: &mut [u8]) -> Result<usize, u32> {
     extern "C" {
         fn fawnloom_read_back(
             sheet: *const u8,
@@ -144,12 +152,13 @@ pub fn read_back(sheet: &[u8], values: &[u8], instance: &mut [u8]) -> Result<(),
             values_length: usize,
             instance: *mut u8,
             cells: usize,
-        ) -> u32;
+        ) -> ReadBackAnswer;
     }
     let (sheet, length) = (sheet.as_ptr(), sheet.len());
     let (values, values_length) = (values.as_ptr(), values.len());
     let (instance, cells) = (instance.as_mut_ptr(), instance.len());
-    unless(unsafe { fawnloom_read_back(sheet, length, values, values_length, instance, cells) }, ())
+    let answer = unsafe { fawnloom_read_back(sheet, length, values, values_length, instance, cells) };
+    unless(answer.refusal, answer.cells)
 }
 
 #[cfg(on = "solve")]

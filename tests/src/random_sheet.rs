@@ -342,6 +342,20 @@ pub fn gates_of(gates: usize) -> Sheet {
     Sheet { scopes: vec![1, 2], variables: vec![], relations: vec![relation(0), relation(1)], nodes }
 }
 
+/// A tower of closures at scope 8 under four binders: 1,920 gates for each closure in each of 4,096 walks.
+pub fn closures(tower: usize) -> Sheet {
+    let relation = Relation { columns: 2, mark: 0, first: 0, second: 0 };
+    let mut nodes = vec![Node { kind: 1, a: 0, b: 0 }];
+    for _ in 0..tower {
+        nodes.push(Node { kind: 11, a: (nodes.len() - 1) as u8, b: 0 });
+    }
+    nodes.push(Node { kind: 22, a: (nodes.len() - 1) as u8, b: 0 });
+    for variable in 0..4 {
+        nodes.push(Node { kind: 40 + variable % 2, a: variable, b: (nodes.len() - 1) as u8 });
+    }
+    Sheet { scopes: vec![8], variables: vec![0; 4], relations: vec![relation], nodes }
+}
+
 /// Each of n atoms has exactly one of m, and none of them is shared: none where n is above m, after a long
 /// search. Free sets ahead of the two relations double it for each of their cells.
 pub fn pigeonhole(idle: u8, n: u8, m: u8) -> Sheet {

@@ -1,10 +1,14 @@
 -- The answers of the library's functions as the boundary gives them: in numbers, the number of a refusal first.
+use mathlib.Core.Path.{_≡_}
+use mathlib.Core.List.{List}
 use Prim.Native.Nat.{ℕ}
 use Rattle.refusal.specs.Refusals.{numberOf}
 use Rattle.sheet.specs.declared.Reading.{Reading}
 use Rattle.sheet.specs.declared.Reading.the-variants.{Accepted, Refused}
+use Rattle.instance.specs.Answers as checked
 use Rattle.dimacs.specs.Answers as text
 use Rattle.search.specs.Answers as searched
+use Rattle.boundary.specs.declared.CheckAnswer.{CheckAnswer}
 use Rattle.boundary.specs.declared.SearchAnswer.{SearchAnswer}
 use Rattle.boundary.specs.declared.TextAnswer.{TextAnswer}
 
@@ -12,6 +16,18 @@ use Rattle.boundary.specs.declared.TextAnswer.{TextAnswer}
 abbrev pub readNumber : Reading → ℕ
 readNumber (Accepted layout) = 0
 readNumber (Refused r) = numberOf r
+
+-- the check of an instance
+abbrev pub checkNumbers : checked.Answer → CheckAnswer
+checkNumbers checked.yes = record { refusal = 0; satisfies = 1 }
+checkNumbers checked.no = record { refusal = 0; satisfies = 0 }
+checkNumbers (checked.refused n) = record { refusal = n; satisfies = 0 }
+
+-- the numbers of the answer that the check must give
+pub record Checked (sheet instance : List ℕ) (numbers : CheckAnswer) : Type 0 where
+  pub answer : checked.Answer
+  pub answers : checked.CheckAnswers sheet instance answer
+  pub in-numbers : numbers ≡ checkNumbers answer
 
 -- the search
 abbrev pub searchNumbers : searched.Answer → SearchAnswer

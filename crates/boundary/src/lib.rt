@@ -1,14 +1,16 @@
 // The C boundary: the library's functions for tests, measures and callers in other languages. A slice passes as
 // its address and its length. The first number of an answer is that of a refusal, 0 where nothing is refused.
 use dimacs::TextSize;
+use instance::answer::Check;
 use search::answer::Search;
 use sheet::Reading;
 ghost use mathlib.Core.Path.{_≡_};
 ghost use Rattle.sheet.specs.Reading.{reading};
+ghost use Rattle.instance.specs.Answers as checked;
 ghost use Rattle.dimacs.specs.Answers.{answerOf, sizeAnswer, writeAnswer, textAfter};
 ghost use Rattle.search.specs.Answers as searched;
 ghost use Rattle.search.specs.Answers.{outcome};
-ghost use Rattle.boundary.specs.Numbers.{readNumber, searchNumbers, textNumbers};
+ghost use Rattle.boundary.specs.Numbers.{readNumber, checkNumbers, Checked, searchNumbers, textNumbers};
 
 fn read_number(answer: Reading) -> u32
     ensures { λ r. ⌜ r ≡ readNumber answer ⌝ }
@@ -25,6 +27,39 @@ pub extern "C" fn fawnloom_read(sheet: &[u8]) -> u32
     ensures { λ r. ⌜ r ≡ readNumber (reading (now (sheet .entry))) ⌝ }
 {
     read_number(sheet::read(sheet))
+}
+
+// Whether an instance satisfies marks and formula: 1 yes, 0 no.
+#[repr(C)]
+pub struct CheckAnswer {
+    pub refusal: u32,
+    pub satisfies: u32,
+}
+
+fn check_numbers(answer: Check) -> CheckAnswer
+    ensures { λ r. ⌜ r ≡ checkNumbers (checked.answerOf answer) ⌝ }
+{
+    match answer {
+        Check::Yes => CheckAnswer {
+            refusal: 0,
+            satisfies: 1,
+        },
+        Check::No => CheckAnswer {
+            refusal: 0,
+            satisfies: 0,
+        },
+        Check::Refused(r) => CheckAnswer {
+            refusal: refusal::number(r),
+            satisfies: 0,
+        },
+    }
+}
+
+#[no_mangle]
+pub extern "C" fn fawnloom_check(sheet: &[u8], instance: &[u8]) -> CheckAnswer
+    ensures { λ r. ⌜ Checked (now (sheet .entry)) (now (instance .entry)) r ⌝ }
+{
+    check_numbers(instance::check(sheet, instance))
 }
 
 // How a search ended, 1 found, 2 none, 3 spent, and its steps. Both are 0 under a refusal.

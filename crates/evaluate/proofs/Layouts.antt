@@ -1,5 +1,5 @@
 -- Where the cells of a relation stand: how many there are at most, and what a leaf that is a relation stands for.
-use mathlib.Core.Path.{_≡_, refl, sym, ap, _∙_, fun-ext}
+use mathlib.Core.Path.{_≡_, refl, sym, _∙_, fun-ext}
 use mathlib.Core.Logic.{_⊎_, inl, inr, ⊎-elim}
 use mathlib.Core.Bool.{Bool, true, false, cond}
 use mathlib.Core.List.{List}
@@ -9,13 +9,12 @@ use native.Mathlib.Decide.{ℕ-discrete}
 use native.Mathlib.Numerals.{add-one}
 use native.Mathlib.Omega.{arith}
 use lib.Dec.{eqb}
-use lib.ListN.{length, getD, set, length-set}
+use lib.ListN.{length, getD, set}
 use lib.Seq.{getD-set-same, getD-set-other}
 use borrow.Author.Tests.{eq-eqb, ne-eqb}
-use Rattle.sheet.specs.Blocks.{Sheet, scope, columns, firstSort, secondSort, relationCount, multiplicity}
+use Rattle.sheet.specs.Blocks.{Sheet, scope, columns, firstSort, secondSort, multiplicity}
 use Rattle.relational.specs.Trees.{relation}
-use Rattle.relational.specs.Cells.{rowCount, rowLength, cellsOf, firstCell, cell}
-use Rattle.relational.specs.Matrices.{Matrix}
+use Rattle.relational.specs.Cells.{rowCount, rowLength, firstCell, cell}
 use Rattle.relational.specs.Meaning.{Environment, bind}
 use Rattle.relational.specs.Evaluation.{count, valueLeaf, rowHolds, rowCells}
 use Rattle.matrix.specs.Values.{SetOrRelation, sized, flagsFrom}

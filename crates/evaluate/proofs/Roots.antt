@@ -1,14 +1,13 @@
 -- The root of an accepted sheet is a formula, and no variable of it is free: its walk starts with any atoms.
-use mathlib.Core.Path.{_≡_, refl, sym, ap, _∙_, fun-ext}
-use mathlib.Core.Bool.{Bool, true, false}
+use mathlib.Core.Path.{_≡_, refl, ap, fun-ext}
 use mathlib.Core.List.{List}
-use Prim.Native.Nat.{ℕ, zero, suc, _-_}
+use Prim.Native.Nat.{ℕ, zero, suc}
 use native.Mathlib.Omega.{arith}
 use lib.ListN.{getD, replicate}
-use Rattle.sheet.specs.Blocks.{Sheet, sortOf, nodeCount, root}
+use Rattle.sheet.specs.Blocks.{Sheet, sortOf, root}
 use Rattle.shapes.specs.Shapes as shapes
 use Rattle.sheet.specs.Facts.{Facts}
-use Rattle.relational.specs.Trees.{Tree, expression, formula, broken, rootTree}
+use Rattle.relational.specs.Trees.{Tree, expression, formula, broken}
 use Rattle.relational.specs.Meaning.{Environment}
 use Rattle.relational.specs.Evaluation.{truthOfTree}
 use Rattle.relational.proofs.Satisfaction.{Sound, root-is}

@@ -2,7 +2,7 @@
 use mathlib.Core.Path.{_≡_, refl, sym, ap, ap₂, _∙_, subst}
 use mathlib.Core.Bool.{Bool, true, false, not}
 use mathlib.Core.List.{List, []}
-use Prim.Native.Nat.{ℕ, _<_, _≤_}
+use Prim.Native.Nat.{ℕ, _<_}
 use native.Mathlib.Omega.{arith}
 use lib.ListN.{getD}
 use borrow.Author.Tests.{ltb-true}
@@ -10,11 +10,16 @@ use Rattle.kinds.specs.Kinds.{rowOf}
 use Rattle.sheet.specs.Blocks.{Sheet, kind, fieldA, fieldB, scope, sortOf, variableCount, relationCount, nodeCount}
 use Rattle.sheet.specs.Tables.{table}
 use Rattle.sheet.specs.Facts.{Facts}
-use Rattle.relational.specs.Trees.{Leaf, relation, variable, atoms, identity, Binary, Unary, Comparison, Test, Connective, Quantifier, for-all, for-some, Expression, leaf, binary, unary, comprehension, Formula, comparison, test, negation, connective, quantified, Symbol, leaf-symbol, binary-symbol, unary-symbol, comparison-symbol, test-symbol, connective-symbol, quantifier-symbol, comprehension-symbol, negation-symbol, unknown-symbol, symbolOf, Tree, expression, formula, broken, treeBy, treeStep}
+use Rattle.relational.specs.Trees.{Leaf, relation, variable, atoms, identity, Binary, Unary, Comparison, Test, Connective, Quantifier, for-all}
+use Rattle.relational.specs.Trees.{for-some, Expression, leaf, binary, unary, comprehension, Formula, comparison, test, negation, connective}
+use Rattle.relational.specs.Trees.{quantified, Symbol, leaf-symbol, binary-symbol, unary-symbol, comparison-symbol, test-symbol, connective-symbol}
+use Rattle.relational.specs.Trees.{quantifier-symbol, comprehension-symbol, negation-symbol, symbolOf, Tree, expression, formula}
+use Rattle.relational.specs.Trees.{broken, treeBy, treeStep}
 use Rattle.relational.specs.Matrices.{Matrix, setOf}
-use Rattle.relational.specs.Meaning.{Environment, bind}
-use Rattle.relational.specs.Evaluation.{count, valueBinary, valueUnary, truthComparison, truthTest, truthConnective, truthQuantifier, valueOf, truthOf, valueLeaf}
-use Rattle.relational.proofs.Rows.{rowOfSymbol, row-of-symbol}
+use Rattle.relational.specs.Meaning.{Environment}
+use Rattle.relational.specs.Evaluation.{count, valueBinary, valueUnary, truthComparison, truthTest, truthConnective, truthQuantifier, valueOf}
+use Rattle.relational.specs.Evaluation.{valueLeaf}
+use Rattle.relational.proofs.Rows.{row-of-symbol}
 use Rattle.matrix.specs.Numbers.{binaryBy, unaryBy, comparisonBy, testBy, connectiveBy}
 use Rattle.matrix.proofs.Symbols.{number-of, binary-of, unary-of, comparison-of, test-of, connective-of}
 use Rattle.evaluate.specs.declared.nodes.Node.{Node}
@@ -22,8 +27,10 @@ use Rattle.evaluate.specs.declared.nodes.ExpressionForm.{ExpressionForm}
 use Rattle.evaluate.specs.declared.nodes.ExpressionForm.the-variants as of-expression
 use Rattle.evaluate.specs.declared.nodes.FormulaForm.{FormulaForm}
 use Rattle.evaluate.specs.declared.nodes.FormulaForm.the-variants as of-formula
-use Rattle.evaluate.specs.Walking.{expressionForm, formulaForm, nodeIn, treeAt, IsExpression, IsFormula, Present, leafBy, valueOfTree, truthInTree, truths, quantifierBy}
-use Rattle.evaluate.proofs.Symbols.{ExpressionSays, expression-says, FormulaSays, formula-says, tree-of, tree-before, tree-lower, field-a, field-b, two-expressions, one-expression, two-formulas, one-formula, isExpressionTree, isFormulaTree}
+use Rattle.evaluate.specs.Walking.{expressionForm, formulaForm, nodeIn, treeAt, IsExpression, IsFormula, Present, leafBy, valueOfTree}
+use Rattle.evaluate.specs.Walking.{truthInTree, truths, quantifierBy}
+use Rattle.evaluate.proofs.Symbols.{ExpressionSays, expression-says, FormulaSays, formula-says, tree-of, tree-before, tree-lower, field-a}
+use Rattle.evaluate.proofs.Symbols.{field-b, two-expressions, one-expression, two-formulas, one-formula, isExpressionTree, isFormulaTree}
 
 -- ---- trees of known operands
 module _ (sheet : Sheet) (instance : List ℕ) (env : Environment) where

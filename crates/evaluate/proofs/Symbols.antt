@@ -2,16 +2,19 @@
 use mathlib.Core.Path.{_≡_, refl, sym, ap, ap₂, _∙_}
 use mathlib.Core.Bool.{Bool, true, false, false≢true}
 use mathlib.Core.List.{List, []}
-use Prim.Native.Nat.{ℕ, _<_, _≤_}
+use Prim.Native.Nat.{ℕ, _<_}
 use native.Mathlib.Omega.{arith}
 use lib.ListN.{getD}
-use Rattle.kinds.specs.Kinds.{rowOf}
 use Rattle.sheet.specs.Blocks.{Sheet, kind, fieldA, fieldB, nodeCount}
 use Rattle.sheet.specs.Tables.{table}
 use Rattle.sheet.specs.Reading.{fieldFine}
 use Rattle.sheet.specs.Facts.{Facts}
 use Rattle.sheet.proofs.TableLaws.{table-at, table-same}
-use Rattle.relational.specs.Trees.{Leaf, relation, variable, atoms, identity, Binary, union, intersection, difference, join, product, Unary, inverse, closure, Comparison, Test, Connective, Quantifier, Expression, Formula, Symbol, leaf-symbol, binary-symbol, unary-symbol, comparison-symbol, test-symbol, connective-symbol, quantifier-symbol, comprehension-symbol, negation-symbol, unknown-symbol, symbolOf, Tree, expression, formula, broken, withExpression, withFormula, treeBy, treeStep, trees}
+use Rattle.relational.specs.Trees.{Leaf, relation, variable, atoms, identity, Binary, union, intersection, difference, join, product, Unary}
+use Rattle.relational.specs.Trees.{inverse, closure, Comparison, Test, Connective, Quantifier, Expression, Formula, Symbol, leaf-symbol}
+use Rattle.relational.specs.Trees.{binary-symbol, unary-symbol, comparison-symbol, test-symbol, connective-symbol, quantifier-symbol}
+use Rattle.relational.specs.Trees.{comprehension-symbol, negation-symbol, unknown-symbol, symbolOf, Tree, expression, formula, broken}
+use Rattle.relational.specs.Trees.{withExpression, withFormula, treeBy, treeStep}
 use Rattle.relational.specs.Matrices.{setOf}
 use Rattle.relational.specs.Meaning.{Environment}
 use Rattle.relational.proofs.Rows.{rowOfSymbol, row-of-symbol}

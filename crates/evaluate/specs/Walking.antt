@@ -3,19 +3,19 @@
 use mathlib.Core.Path.{_≡_}
 use mathlib.Core.Bool.{Bool, false, cond}
 use mathlib.Core.List.{List, [], map}
-use Prim.Native.Nat.{ℕ, _+_, _*_, _<_, _≤_}
+use Prim.Native.Nat.{ℕ, _+_, _*_, _<_}
 use lib.Dec.{eqb}
 use lib.ListN.{length, getD}
-use Rattle.prelude.specs.Tests.{all, any}
+use Rattle.prelude.specs.Tests.{each, all, any}
 use Rattle.kinds.specs.declared.Rule.{Rule}
 use Rattle.kinds.specs.declared.Rule.the-variants as rule
-use Rattle.sheet.specs.Blocks.{Sheet, byte, scope, sortOf, relationCount, nodeCount}
+use Rattle.sheet.specs.Blocks.{Sheet, byte, scope, sortOf, relationCount, multiplicity, nodeCount}
 use Rattle.sheet.specs.Facts.{Facts}
 use Rattle.relational.specs.Trees.{relation, variable, atoms, identity, Expression, Formula, Tree, expression, formula, broken, trees}
-use Rattle.relational.specs.Cells.{firstCell}
+use Rattle.relational.specs.Cells.{rowCount, firstCell}
 use Rattle.relational.specs.Meaning.{Environment, bind}
 use Rattle.relational.specs.Matrices.{Matrix, setOf, upto}
-use Rattle.relational.specs.Evaluation.{valueOf, truthOf, valueLeaf}
+use Rattle.relational.specs.Evaluation.{valueOf, truthOf, valueLeaf, rowHolds, rowCells}
 use Rattle.evaluate.specs.declared.nodes.Node.{Node}
 use Rattle.evaluate.specs.declared.nodes.ExpressionForm.{ExpressionForm}
 use Rattle.evaluate.specs.declared.nodes.ExpressionForm.the-variants as of-expression
@@ -120,3 +120,23 @@ module _ (sheet : Sheet) (instance : List ℕ) where
 -- kinds 40 and 41
 unfoldable pub quantifierBy : ℕ → List Bool → Bool
 quantifierBy kind truths = cond (eqb kind 40) (all (λ t. t) truths) (any (λ t. t) truths)
+
+-- ---- by the number of a node, from an array of atoms
+module _ (sheet : Sheet) (instance : List ℕ) (env : List ℕ) where
+  abbrev pub valueAt : ℕ → Matrix Bool
+  valueAt v = valueOfTree sheet instance (environmentOf env) (treeAt sheet v)
+
+  abbrev pub truthAt : ℕ → Bool
+  truthAt v = truthInTree sheet instance (environmentOf env) (treeAt sheet v)
+
+  -- the truths of a body for the atoms of variable x, and the set of those for which it holds
+  abbrev pub truthsAt : ℕ → ℕ → List Bool
+  truthsAt x body = truths sheet instance (environmentOf env) x (treeAt sheet body)
+
+  abbrev pub chosenAt : ℕ → ℕ → Matrix Bool
+  chosenAt x body = setOf (scope sheet (sortOf sheet x)) (truthsAt x body)
+
+-- the rows of relation r
+module _ (sheet : Sheet) (instance : List ℕ) where
+  abbrev pub rowsHold : ℕ → Bool
+  rowsHold r = each (rowCount sheet r) (λ i. rowHolds sheet instance (multiplicity sheet r) (rowCells sheet instance r i))

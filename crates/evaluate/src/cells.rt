@@ -1,6 +1,6 @@
 // Where the cells of each relation stand (document 01, "Clauses": relation by relation, row by row, column by column).
 ghost use mathlib.Core.Path.{_≡_};
-ghost use Prim.Native.Nat.{ℕ, _+_, _*_, _<_, _≤_, _/_};
+ghost use Prim.Native.Nat.{ℕ, _<_, _≤_, _/_};
 ghost use lib.ListN.{length};
 ghost use Rattle.sheet.specs.Blocks as blocks;
 ghost use Rattle.relational.specs.Cells as cells;
@@ -10,7 +10,9 @@ use sheet::bytes::byte;
 // How many rows relation r has: "a set is a single row".
 pub(crate) fn row_count(sorts: &[u8], relations: &[u8], r: usize) -> usize
     requires { ⌜ (r < 16) × ((k : ℕ) → blocks.byte (now sorts) k ≤ 8) ⌝ }
-    ensures { λ n. ⌜ (n ≤ 8) × ((sheet : blocks.Sheet) → sheet .sorts ≡ now (sorts .entry) → sheet .relations ≡ now (relations .entry) → n ≡ cells.rowCount sheet r) ⌝ }
+    ensures { λ n. ⌜ (n ≤ 8)
+        × ((sheet : blocks.Sheet) → sheet .sorts ≡ now (sorts .entry) → sheet .relations ≡ now (relations .entry)
+        → n ≡ cells.rowCount sheet r) ⌝ }
 {
     if byte(relations, 4 * r) == 1 {
         1
@@ -22,7 +24,9 @@ pub(crate) fn row_count(sorts: &[u8], relations: &[u8], r: usize) -> usize
 // How many cells one row of it has.
 pub(crate) fn row_length(sorts: &[u8], relations: &[u8], r: usize) -> usize
     requires { ⌜ (r < 16) × ((k : ℕ) → blocks.byte (now sorts) k ≤ 8) ⌝ }
-    ensures { λ n. ⌜ (n ≤ 8) × ((sheet : blocks.Sheet) → sheet .sorts ≡ now (sorts .entry) → sheet .relations ≡ now (relations .entry) → n ≡ cells.rowLength sheet r) ⌝ }
+    ensures { λ n. ⌜ (n ≤ 8)
+        × ((sheet : blocks.Sheet) → sheet .sorts ≡ now (sorts .entry) → sheet .relations ≡ now (relations .entry)
+        → n ≡ cells.rowLength sheet r) ⌝ }
 {
     if byte(relations, 4 * r) == 1 {
         byte(sorts, byte(relations, 4 * r + 2))
@@ -39,7 +43,9 @@ pub struct Cells {
 
 pub fn first_cells(sorts: &[u8], relations: &[u8]) -> Cells
     requires { ⌜ (length (now relations) / 4 ≤ 16) × ((k : ℕ) → blocks.byte (now sorts) k ≤ 8) ⌝ }
-    ensures { λ c. ⌜ (c .count ≤ 1024) × ((sheet : blocks.Sheet) → sheet .sorts ≡ now (sorts .entry) → sheet .relations ≡ now (relations .entry) → ((c .count ≡ cells.cellCount sheet) × walking.Starts sheet (c .starts))) ⌝ }
+    ensures { λ c. ⌜ (c .count ≤ 1024)
+        × ((sheet : blocks.Sheet) → sheet .sorts ≡ now (sorts .entry) → sheet .relations ≡ now (relations .entry)
+        → ((c .count ≡ cells.cellCount sheet) × walking.Starts sheet (c .starts))) ⌝ }
 {
     let n = relations.len() / 4;
     let mut starts = [0; 16];

@@ -2,8 +2,8 @@
 ghost use mathlib.Core.Path.{_≡_};
 ghost use mathlib.Core.Bool.{cond};
 ghost use lib.Dec.{eqb};
-ghost use Prim.Native.Nat.{ℕ, _+_, _*_, _<_, _≤_};
-ghost use lib.ListN.{length, getD, set};
+ghost use Prim.Native.Nat.{_<_};
+ghost use lib.ListN.{length};
 ghost use Rattle.sheet.specs.Blocks as blocks;
 ghost use Rattle.relational.specs.Trees as trees;
 ghost use Rattle.relational.specs.Meaning as meaning;
@@ -42,7 +42,9 @@ fn relation(
 ) -> Value
     requires { ⌜ walking.Ready (blocks.fourBlocks (now sorts) (now variables) (now relations) (now nodes)) (now starts) ⌝ }
     requires { ⌜ r < blocks.relationCount (blocks.fourBlocks (now sorts) (now variables) (now relations) (now nodes)) ⌝ }
-    ensures { λ v. ⌜ ((env : meaning.Environment) → Gives v (spec.valueLeaf (blocks.fourBlocks (now (sorts .entry)) (now (variables .entry)) (now (relations .entry)) (now (nodes .entry))) (now (instance .entry)) trees.relation r env)) ⌝ }
+    ensures { λ v. ⌜ ((env : meaning.Environment) → Gives v (spec.valueLeaf
+        (blocks.fourBlocks (now (sorts .entry)) (now (variables .entry)) (now (relations .entry)) (now (nodes .entry)))
+        (now (instance .entry)) trees.relation r env)) ⌝ }
 {
     let first = starts[r];
     let arity = byte(relations, 4 * r);
@@ -76,7 +78,9 @@ pub(crate) fn leaf(
     requires { ⌜ walking.Ready (blocks.fourBlocks (now sorts) (now variables) (now relations) (now nodes)) (now starts) ⌝ }
     requires { ⌜ walking.Present (blocks.fourBlocks (now sorts) (now variables) (now relations) (now nodes)) kind a ⌝ }
     requires { ⌜ length env ≡ 4 ⌝ }
-    ensures { λ v. ⌜ Gives v (walking.leafBy (blocks.fourBlocks (now (sorts .entry)) (now (variables .entry)) (now (relations .entry)) (now (nodes .entry))) (now (instance .entry)) (walking.environmentOf env) kind a) ⌝ }
+    ensures { λ v. ⌜ Gives v (walking.leafBy
+        (blocks.fourBlocks (now (sorts .entry)) (now (variables .entry)) (now (relations .entry)) (now (nodes .entry)))
+        (now (instance .entry)) (walking.environmentOf env) kind a) ⌝ }
 {
     match kind {
         1 => relation(sorts, variables, relations, nodes, instance, starts, a),

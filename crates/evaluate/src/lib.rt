@@ -23,7 +23,9 @@ pub fn holds(
     starts: &[usize],
 ) -> bool
     requires { ⌜ walking.Ready (blocks.fourBlocks (now sorts) (now variables) (now relations) (now nodes)) (now starts) ⌝ }
-    ensures { λ r. ⌜ r ≡ spec.holds (blocks.fourBlocks (now (sorts .entry)) (now (variables .entry)) (now (relations .entry)) (now (nodes .entry))) (now (instance .entry)) ⌝ }
+    ensures { λ r. ⌜ r ≡ spec.holds
+        (blocks.fourBlocks (now (sorts .entry)) (now (variables .entry)) (now (relations .entry)) (now (nodes .entry)))
+        (now (instance .entry)) ⌝ }
 {
     let marked = marks_hold(sorts, variables, relations, nodes, instance, starts);
     let root = nodes.len() / 3 - 1;

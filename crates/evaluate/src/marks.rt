@@ -1,10 +1,7 @@
 // Multiplicities: "For a relation the mark holds for each atom of the first sort; a set is a single row."
 ghost use mathlib.Core.Path.{_≡_};
 ghost use Prim.Native.Nat.{_<_};
-ghost use lib.ListN.{length};
-ghost use Rattle.prelude.specs.Tests.{each};
 ghost use Rattle.sheet.specs.Blocks as blocks;
-ghost use Rattle.relational.specs.Cells as cells;
 ghost use Rattle.relational.specs.Evaluation as spec;
 ghost use Rattle.evaluate.specs.Walking as walking;
 use super::cells::row_count;
@@ -25,7 +22,9 @@ fn rows_hold(
 ) -> bool
     requires { ⌜ walking.Ready (blocks.fourBlocks (now sorts) (now variables) (now relations) (now nodes)) (now starts) ⌝ }
     requires { ⌜ r < blocks.relationCount (blocks.fourBlocks (now sorts) (now variables) (now relations) (now nodes)) ⌝ }
-    ensures { λ t. ⌜ t ≡ each (cells.rowCount (blocks.fourBlocks (now (sorts .entry)) (now (variables .entry)) (now (relations .entry)) (now (nodes .entry))) r) (λ i. spec.rowHolds (blocks.fourBlocks (now (sorts .entry)) (now (variables .entry)) (now (relations .entry)) (now (nodes .entry))) (now (instance .entry)) (blocks.multiplicity (blocks.fourBlocks (now (sorts .entry)) (now (variables .entry)) (now (relations .entry)) (now (nodes .entry))) r) (spec.rowCells (blocks.fourBlocks (now (sorts .entry)) (now (variables .entry)) (now (relations .entry)) (now (nodes .entry))) (now (instance .entry)) r i)) ⌝ }
+    ensures { λ t. ⌜ t ≡ walking.rowsHold
+        (blocks.fourBlocks (now (sorts .entry)) (now (variables .entry)) (now (relations .entry)) (now (nodes .entry)))
+        (now (instance .entry)) r ⌝ }
 {
     let mark = byte(relations, 4 * r + 1);
     let first = starts[r];
@@ -53,7 +52,9 @@ pub(crate) fn marks_hold(
     starts: &[usize],
 ) -> bool
     requires { ⌜ walking.Ready (blocks.fourBlocks (now sorts) (now variables) (now relations) (now nodes)) (now starts) ⌝ }
-    ensures { λ t. ⌜ t ≡ spec.marksHold (blocks.fourBlocks (now (sorts .entry)) (now (variables .entry)) (now (relations .entry)) (now (nodes .entry))) (now (instance .entry)) ⌝ }
+    ensures { λ t. ⌜ t ≡ spec.marksHold
+        (blocks.fourBlocks (now (sorts .entry)) (now (variables .entry)) (now (relations .entry)) (now (nodes .entry)))
+        (now (instance .entry)) ⌝ }
 {
     let count = relations.len() / 4;
     let mut fine = true;

@@ -3,7 +3,6 @@ ghost use mathlib.Core.Path.{_≡_};
 ghost use Prim.Native.Nat.{_<_};
 ghost use lib.ListN.{length};
 ghost use Rattle.sheet.specs.Blocks as blocks;
-ghost use Rattle.relational.specs.Matrices.{setOf};
 ghost use Rattle.matrix.specs.Values.{Gives};
 ghost use Rattle.evaluate.specs.Walking as walking;
 use super::leaves::bind;
@@ -37,7 +36,9 @@ fn expression(
     requires { ⌜ walking.Ready (blocks.fourBlocks (now sorts) (now variables) (now relations) (now nodes)) (now starts) ⌝ }
     requires { ⌜ length env ≡ 4 ⌝ }
     requires { ⌜ walking.IsExpression (blocks.fourBlocks (now sorts) (now variables) (now relations) (now nodes)) at ⌝ }
-    ensures { λ v. ⌜ Gives v (walking.valueOfTree (blocks.fourBlocks (now (sorts .entry)) (now (variables .entry)) (now (relations .entry)) (now (nodes .entry))) (now (instance .entry)) (walking.environmentOf env) (walking.treeAt (blocks.fourBlocks (now (sorts .entry)) (now (variables .entry)) (now (relations .entry)) (now (nodes .entry))) at)) ⌝ }
+    ensures { λ v. ⌜ Gives v (walking.valueAt
+        (blocks.fourBlocks (now (sorts .entry)) (now (variables .entry)) (now (relations .entry)) (now (nodes .entry)))
+        (now (instance .entry)) env at) ⌝ }
 {
     let node = node_at(nodes, at);
     let kind = node.kind;
@@ -96,13 +97,15 @@ fn comprehension(
     requires { ⌜ length env ≡ 4 ⌝ }
     requires { ⌜ walking.IsFormula (blocks.fourBlocks (now sorts) (now variables) (now relations) (now nodes)) body ⌝ }
     requires { ⌜ x < 4 ⌝ }
-    ensures { λ v. ⌜ Gives v (setOf (blocks.scope (blocks.fourBlocks (now (sorts .entry)) (now (variables .entry)) (now (relations .entry)) (now (nodes .entry))) (blocks.sortOf (blocks.fourBlocks (now (sorts .entry)) (now (variables .entry)) (now (relations .entry)) (now (nodes .entry))) x)) (walking.truths (blocks.fourBlocks (now (sorts .entry)) (now (variables .entry)) (now (relations .entry)) (now (nodes .entry))) (now (instance .entry)) (walking.environmentOf env) x (walking.treeAt (blocks.fourBlocks (now (sorts .entry)) (now (variables .entry)) (now (relations .entry)) (now (nodes .entry))) body))) ⌝ }
+    ensures { λ v. ⌜ Gives v (walking.chosenAt
+        (blocks.fourBlocks (now (sorts .entry)) (now (variables .entry)) (now (relations .entry)) (now (nodes .entry)))
+        (now (instance .entry)) env x body) ⌝ }
 {
     let n = byte(sorts, byte(variables, x));
     let mut cells = [false; 64];
     let mut k: usize = 0;
     while k < n {
-        let inner = bind(env, x, k);
+        let bound = bind(env, x, k);
         cells[k] = formula(
             sorts,
             variables,
@@ -110,7 +113,7 @@ fn comprehension(
             nodes,
             instance,
             starts,
-            inner,
+            bound,
             body,
         );
         k += 1;
@@ -140,7 +143,9 @@ fn quantified(
     requires { ⌜ length env ≡ 4 ⌝ }
     requires { ⌜ walking.IsFormula (blocks.fourBlocks (now sorts) (now variables) (now relations) (now nodes)) body ⌝ }
     requires { ⌜ x < 4 ⌝ }
-    ensures { λ r. ⌜ r ≡ walking.quantifierBy kind (walking.truths (blocks.fourBlocks (now (sorts .entry)) (now (variables .entry)) (now (relations .entry)) (now (nodes .entry))) (now (instance .entry)) (walking.environmentOf env) x (walking.treeAt (blocks.fourBlocks (now (sorts .entry)) (now (variables .entry)) (now (relations .entry)) (now (nodes .entry))) body)) ⌝ }
+    ensures { λ r. ⌜ r ≡ walking.quantifierBy kind (walking.truthsAt
+        (blocks.fourBlocks (now (sorts .entry)) (now (variables .entry)) (now (relations .entry)) (now (nodes .entry)))
+        (now (instance .entry)) env x body) ⌝ }
 {
     let n = byte(sorts, byte(variables, x));
     let mut truth = kind == 40;
@@ -180,7 +185,9 @@ pub(crate) fn formula(
     requires { ⌜ walking.Ready (blocks.fourBlocks (now sorts) (now variables) (now relations) (now nodes)) (now starts) ⌝ }
     requires { ⌜ length env ≡ 4 ⌝ }
     requires { ⌜ walking.IsFormula (blocks.fourBlocks (now sorts) (now variables) (now relations) (now nodes)) at ⌝ }
-    ensures { λ r. ⌜ r ≡ walking.truthInTree (blocks.fourBlocks (now (sorts .entry)) (now (variables .entry)) (now (relations .entry)) (now (nodes .entry))) (now (instance .entry)) (walking.environmentOf env) (walking.treeAt (blocks.fourBlocks (now (sorts .entry)) (now (variables .entry)) (now (relations .entry)) (now (nodes .entry))) at) ⌝ }
+    ensures { λ r. ⌜ r ≡ walking.truthAt
+        (blocks.fourBlocks (now (sorts .entry)) (now (variables .entry)) (now (relations .entry)) (now (nodes .entry)))
+        (now (instance .entry)) env at ⌝ }
 {
     let node = node_at(nodes, at);
     let kind = node.kind;

@@ -1,5 +1,5 @@
 -- The parts of an accepted sheet between the starts of its layout are its blocks.
-use mathlib.Core.Path.{_≡_, refl, sym, ap, _∙_}
+use mathlib.Core.Path.{_≡_, refl, ap, _∙_}
 use mathlib.Core.List.{List}
 use Prim.Native.Nat.{ℕ, _+_, _-_, _≤_}
 use native.Mathlib.Omega.{arith}
@@ -68,7 +68,9 @@ module _ (s : List ℕ) (layout : Layout) (e : reading s ≡ Accepted layout) wh
       ≡ sheetOf s
   parts =
       let p₁ = part s 1 3 (layout .variables .start - 2) refl (omega (arith, variables-start)) in
-      let p₂ = part s (variablesHead s) (layout .variables .start) (layout .relations .start - 2) variables-start (omega (arith, variables-start, relations-start)) in
-      let p₃ = part s (relationsHead s) (layout .relations .start) (layout .nodes .start - 2) relations-start (omega (arith, relations-start, nodes-start)) in
+      let p₂ = part s (variablesHead s) (layout .variables .start) (layout .relations .start - 2) variables-start
+      (omega (arith, variables-start, relations-start)) in
+      let p₃ = part s (relationsHead s) (layout .relations .start) (layout .nodes .start - 2) relations-start
+      (omega (arith, relations-start, nodes-start)) in
       let p₄ = part s (nodesHead s) (layout .nodes .start) (length s) nodes-start (omega (arith, nodes-start, filled)) in
       λ i. fourBlocks (p₁ i) (p₂ i) (p₃ i) (p₄ i)

@@ -1,9 +1,7 @@
 // The check of an instance: does it satisfy the marks and the formula of a sheet (document 01, "Kinds and meanings")?
 ghost use mathlib.Core.Path.{_≡_};
-ghost use mathlib.Core.Bool.{_&&_};
 ghost use Prim.Native.Nat.{ℕ};
 ghost use lib.Dec.{leb};
-ghost use lib.ListN.{length};
 ghost use Rattle.prelude.specs.Tests.{all};
 ghost use Rattle.sheet.specs.declared.Reading as accepted;
 ghost use Rattle.sheet.specs.Blocks as blocks;
@@ -45,7 +43,9 @@ fn check_blocks(
     instance: &[u8],
 ) -> Check
     requires { ⌜ Facts (blocks.fourBlocks (now sorts) (now variables) (now relations) (now nodes)) ⌝ }
-    ensures { λ r. ⌜ answerOf r ≡ heldAnswer (blocks.fourBlocks (now (sorts .entry)) (now (variables .entry)) (now (relations .entry)) (now (nodes .entry))) (now (instance .entry)) ⌝ }
+    ensures { λ r. ⌜ answerOf r ≡ heldAnswer
+        (blocks.fourBlocks (now (sorts .entry)) (now (variables .entry)) (now (relations .entry)) (now (nodes .entry)))
+        (now (instance .entry)) ⌝ }
 {
     let cells = first_cells(sorts, relations);
     let count = cells.count;

@@ -1,7 +1,6 @@
 -- A value is a set or a relation.
-use mathlib.Core.Path.{_≡_}
 use mathlib.Core.Logic.{⊎-elim}
-use Prim.Native.Nat.{ℕ, _≤_}
+use Prim.Native.Nat.{_≤_}
 use native.Mathlib.Omega.{arith}
 use Rattle.matrix.specs.declared.Value.{Value}
 use Rattle.matrix.specs.Values.{Fine}

@@ -2,14 +2,14 @@
 use mathlib.Core.Path.{_≡_, refl, sym, ap, _∙_}
 use mathlib.Core.Bool.{Bool, true, false, _&&_, _||_}
 use mathlib.Core.List.{List, [], _∷_, _++_, map}
-use Prim.Native.Nat.{ℕ, zero, suc, _+_, _≤_, _<_}
+use Prim.Native.Nat.{ℕ, suc, _+_, _≤_, _<_}
 use native.Mathlib.Numerals.{add-one}
 use native.Mathlib.Omega.{arith}
 use lib.ListN.{length, getD, take}
 use lib.Seq.{take-suc}
 use Rattle.prelude.specs.Tests.{all, any}
 use Rattle.prelude.proofs.Laws.{all-append, any-append}
-use Rattle.relational.specs.Matrices.{from, upto}
+use Rattle.relational.specs.Matrices.{upto}
 use Rattle.relational.specs.Evaluation.{count}
 use Rattle.relational.proofs.Places.{from-suc, upto-suc}
 use Rattle.matrix.specs.Values.{counted, flagsFrom}

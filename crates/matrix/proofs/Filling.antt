@@ -1,15 +1,15 @@
 -- An array of 64 flags that a loop fills from the front, and the matrix that it stands for.
 use mathlib.Core.Path.{_≡_, refl, sym, ap, _∙_, subst, fun-ext}
-use mathlib.Core.Bool.{Bool, true, false}
+use mathlib.Core.Bool.{Bool, false}
 use mathlib.Core.Logic.{_⊎_, ⊎-elim}
 use mathlib.Core.List.{List, map}
 use Prim.Native.Nat.{ℕ, zero, suc, _+_, _*_, _/_, _%_, _<_, _≤_}
 use native.Mathlib.Nat.{eq-or-lt-of-le, mul-le-mul, mul-le-mul-right, mod-lt, div-add-mod', div-lt-iff-lt-mul}
 use native.Mathlib.Decide.{decLt}
 use native.Mathlib.Omega.{arith}
-use lib.ListN.{length, getD, set, take, replicate, length-set, getD-replicate, length-replicate, List·getD-eq-default, length-take}
+use lib.ListN.{length, getD, set, take, replicate, length-set, length-replicate, List·getD-eq-default, length-take}
 use lib.Seq.{getD-set-same, getD-set-other, getD-take, length-take-le, ext-getD}
-use Rattle.relational.specs.Matrices.{Matrix, upto, Place, places, cellAt}
+use Rattle.relational.specs.Matrices.{upto, Place, places, cellAt}
 use Rattle.relational.proofs.Places.{length-map-from, upto-at, length-places, places-at}
 use Rattle.matrix.specs.declared.Value.{Value}
 use Rattle.matrix.specs.Values.{matrixOf, Fine}

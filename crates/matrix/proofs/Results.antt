@@ -1,18 +1,17 @@
 -- What a filled array stands for, operator by operator.
 use mathlib.Core.Path.{_≡_, refl, sym, ap, ap₂, _∙_, subst}
-use mathlib.Core.Logic.{_⊎_, inl, inr}
+use mathlib.Core.Logic.{inl, inr}
 use mathlib.Core.Bool.{Bool, true, false, cond}
 use mathlib.Core.List.{List, map}
-use Prim.Native.Nat.{ℕ, zero, suc, _+_, _*_, _/_, _%_, _<_, _≤_}
-use native.Mathlib.Nat.{one-mul}
+use Prim.Native.Nat.{ℕ, _+_, _*_, _/_, _%_, _≤_}
 use native.Mathlib.Omega.{arith}
 use lib.Dec.{eqb}
-use lib.ListN.{length, getD, take}
+use lib.ListN.{getD, take}
 use borrow.Author.Tests.{eq-eqb, ne-eqb}
 use Rattle.prelude.specs.Tests.{any}
 use Rattle.sheet.specs.Blocks.{byte}
 use Rattle.relational.specs.Trees.{join, product, inverse}
-use Rattle.relational.specs.Matrices.{Matrix, from, upto, Place, places, setOf, relationOf, sameSize, joinColumns, matched, middles, crossed}
+use Rattle.relational.specs.Matrices.{Matrix, upto, Place, places, setOf, relationOf, sameSize, joinColumns, matched, middles, crossed}
 use Rattle.relational.specs.Evaluation.{both, joinCells, valueBinary, valueUnary}
 use Rattle.relational.proofs.Places.{map-map, length-map-from, from-at}
 use Rattle.matrix.specs.declared.Value.{Value}

@@ -1,6 +1,5 @@
 -- The operators by the numbers of their kinds (specs/Numbers) are those of the kinds' symbols.
 use mathlib.Core.Path.{_≡_, refl, sym, ap, _∙_}
-use mathlib.Core.Logic.{_⊎_, inl, inr}
 use mathlib.Core.Bool.{Bool, true, false, cond, true≢false}
 use mathlib.Core.List.{List, [], _∷_, map}
 use Prim.Native.Nat.{ℕ, zero, suc}
@@ -8,7 +7,11 @@ use native.Mathlib.Omega.{arith}
 use lib.Dec.{eqb}
 use borrow.Author.Tests.{eqb-true, ne-eqb}
 use Rattle.sheet.specs.Blocks.{Sheet}
-use Rattle.relational.specs.Trees.{Leaf, relation, variable, atoms, identity, Binary, union, intersection, difference, join, product, Unary, inverse, closure, Comparison, equal, within, Test, some, none, lone, Connective, conjunction, disjunction, implication, equivalence, Quantifier, for-all, for-some, Symbol, leaf-symbol, binary-symbol, unary-symbol, comparison-symbol, test-symbol, connective-symbol, quantifier-symbol, comprehension-symbol, negation-symbol, unknown-symbol, symbols, symbolIn, symbolOf}
+use Rattle.relational.specs.Trees.{relation, variable, atoms, identity, Binary, union, intersection, difference, join, product, Unary}
+use Rattle.relational.specs.Trees.{inverse, closure, Comparison, equal, within, Test, some, none, lone, Connective, conjunction, disjunction}
+use Rattle.relational.specs.Trees.{implication, equivalence, for-all, for-some, Symbol, leaf-symbol, binary-symbol, unary-symbol}
+use Rattle.relational.specs.Trees.{comparison-symbol, test-symbol, connective-symbol, quantifier-symbol, comprehension-symbol, negation-symbol}
+use Rattle.relational.specs.Trees.{unknown-symbol, symbols, symbolIn, symbolOf}
 use Rattle.relational.specs.Matrices.{Matrix}
 use Rattle.relational.specs.Evaluation.{count, valueBinary, valueUnary, truthComparison, truthTest, truthConnective, rowHolds}
 use Rattle.matrix.specs.Numbers.{binaryBy, unaryBy, comparisonBy, testBy, connectiveBy, rowBy}

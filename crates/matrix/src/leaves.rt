@@ -1,5 +1,4 @@
 // Leaves: what a relation, a variable, a sort and an identity stand for.
-ghost use mathlib.Core.Path.{_≡_};
 ghost use mathlib.Core.Bool.{true};
 ghost use mathlib.Core.List.{map};
 ghost use Prim.Native.Nat.{ℕ, _*_, _≤_};

@@ -7,7 +7,7 @@ use reference::clauses::{count, write};
 use reference::every_kind;
 use reference::random::Source;
 use reference::random_damage::any;
-use reference::random_sheet::{gates_of, long_walk, sheet, style};
+use reference::random_sheet::{closures, gates_of, long_walk, sheet, style};
 use reference::shadows;
 use reference::sheet::Sheet;
 
@@ -49,9 +49,9 @@ pub fn run(run: &Run) -> Outcome {
     ))
 }
 
-/// Each kind at each scope, and each pair of binders of one variable.
+/// Each kind at each scope, each pair of binders of one variable, and far more gates than fit.
 fn known() -> Vec<Sheet> {
-    every_kind::accepted().into_iter().chain(shadows::sheets(3)).collect()
+    every_kind::accepted().into_iter().chain(shadows::sheets(3)).chain([closures(1), closures(190)]).collect()
 }
 
 /// Writing into a slice of so many words, the whole slice compared.

@@ -97,7 +97,7 @@ fn compare_read_back(source: &mut Source, bytes: &[u8], case: u64) -> Result<boo
     }
     let mut instance = vec![9; length(source, cells)];
     let mut instance2 = instance.clone();
-    let want = read_back(bytes, &values, &mut instance).map(drop);
+    let want = read_back(bytes, &values, &mut instance);
     let got = library::read_back(bytes, &values, &mut instance2);
     let asked = || format!("case {case}, read-back of {}, sheet {}", hex(&values), hex(bytes));
     agree(got, want, asked)?;

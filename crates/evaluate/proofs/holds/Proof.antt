@@ -1,5 +1,5 @@
 -- The marks, and the root from any atoms.
-use mathlib.Core.Path.{_≡_, refl, sym, ap, _∙_}
+use mathlib.Core.Path.{refl, _∙_}
 use native.Mathlib.Omega.{arith}
 use Rattle.sheet.specs.Blocks.{fourBlocks}
 use Rattle.relational.specs.Trees.{rootTree}

@@ -1,5 +1,5 @@
 -- Refused as reading refuses, else the check over the blocks.
-use mathlib.Core.Path.{_≡_, refl, sym, ap, _∙_}
+use mathlib.Core.Path.{sym, _∙_}
 use Rattle.instance.proofs.Held.{declined}
 use borrow.Author.Needs.{needs}
 use Rattle.instance.proofs.check.Statement.{statement}

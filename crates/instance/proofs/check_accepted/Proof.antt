@@ -1,5 +1,5 @@
 -- The parts are the blocks of the sheet, and the evaluation agrees with the meaning.
-use mathlib.Core.Path.{_≡_, refl, sym, ap, _∙_}
+use mathlib.Core.Path.{ap, _∙_}
 use native.Mathlib.Omega.{arith}
 use Rattle.sheet.proofs.Acceptance.{accepted-facts}
 use Rattle.instance.specs.Held.{heldAnswer}

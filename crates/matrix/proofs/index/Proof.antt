@@ -1,5 +1,4 @@
 -- A column of one of eight rows.
-use borrow.Author.Needs.{needs}
 use Rattle.matrix.proofs.Filling.{small-index}
 use native.Mathlib.Omega.{arith}
 use Rattle.matrix.proofs.index.Statement.{statement}

@@ -1,5 +1,4 @@
 -- Eight times eight at most.
-use borrow.Author.Needs.{needs}
 use Rattle.matrix.proofs.Filling.{small-product}
 use native.Mathlib.Omega.{arith}
 use Rattle.matrix.proofs.size.Statement.{statement}

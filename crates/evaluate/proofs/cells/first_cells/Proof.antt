@@ -1,7 +1,7 @@
 -- The invariant: the cells of the relations before r are counted, and their first cells stored.
 use borrow.Author.Needs.{needs}
-use mathlib.Core.Path.{_≡_, refl, sym, ap, _∙_}
-use Prim.Native.Nat.{ℕ, _≤_, _<_, _-_, _+_, _*_, _/_, _%_}
+use mathlib.Core.Path.{_≡_, refl, ap, _∙_}
+use Prim.Native.Nat.{ℕ, _≤_, _<_, _-_, _*_, _/_}
 use native.Mathlib.Omega.{arith}
 use lib.ListN.{length, getD, length-set}
 use Rattle.sheet.specs.Blocks.{Sheet}
@@ -62,7 +62,8 @@ loop-again c =
           length-set (l .starts) (l .r) (l .count) ∙ l .inv .1 .1 .0,
           λ sheet es er.
               let i = l .inv .1 .1 .1 sheet es er in (
-                next-first sheet (l .r) (l .count) (rows .result) (columns .result) (i .0) (rows .ensures .1 sheet es er) (columns .ensures .1 sheet es er),
+                next-first sheet (l .r) (l .count) (rows .result) (columns .result) (i .0) (rows .ensures .1 sheet es er)
+                    (columns .ensures .1 sheet es er),
                 starts-more sheet (l .starts) (l .r) (l .count) (omega (arith, l .inv .1 .1 .0)) (i .0) (i .1),
               ),
         ),

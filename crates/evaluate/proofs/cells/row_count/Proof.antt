@@ -1,7 +1,6 @@
 -- A set has one row.
-use mathlib.Core.Path.{_≡_, refl, sym, ap, _∙_}
+use mathlib.Core.Path.{refl, sym, _∙_}
 use native.Mathlib.Omega.{arith}
-use Rattle.sheet.specs.Blocks.{scope}
 use Rattle.evaluate.proofs.Layouts.{count-set, count-relation}
 use borrow.Author.Needs.{needs}
 use Rattle.evaluate.proofs.cells.row_count.Statement.{statement}

@@ -1,7 +1,5 @@
 -- A row of a set has the atoms of its sort.
-use mathlib.Core.Path.{_≡_, refl, sym, ap, _∙_}
-use native.Mathlib.Omega.{arith}
-use Rattle.sheet.specs.Blocks.{scope}
+use mathlib.Core.Path.{refl, sym, _∙_}
 use Rattle.evaluate.proofs.Layouts.{length-set-row, length-relation-row}
 use borrow.Author.Needs.{needs}
 use Rattle.evaluate.proofs.cells.row_length.Statement.{statement}

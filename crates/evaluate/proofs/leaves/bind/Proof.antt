@@ -1,5 +1,5 @@
 -- One atom is stored.
-use mathlib.Core.Path.{_≡_, refl, sym, ap, _∙_}
+use mathlib.Core.Path.{_∙_}
 use lib.ListN.{length-set}
 use native.Mathlib.Omega.{arith}
 use Rattle.evaluate.proofs.Layouts.{bind-law}

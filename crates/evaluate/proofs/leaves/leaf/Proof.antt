@@ -1,8 +1,6 @@
 -- Kind by kind as the definition.
-use mathlib.Core.Path.{_≡_, refl, sym, ap, _∙_}
-use Prim.Native.Nat.{ℕ, _≤_, _<_, _-_, _+_, _*_, _/_, _%_}
 use native.Mathlib.Omega.{arith}
-use borrow.Author.Tests.{ne-eqb, eq-eqb}
+use borrow.Author.Tests.{ne-eqb}
 use Rattle.evaluate.specs.Walking.{leafBy, environmentOf}
 use borrow.Author.Needs.{needs}
 use Rattle.evaluate.proofs.leaves.leaf.Statement.{statement}
@@ -18,29 +16,37 @@ byte-requires-2 : tie.Need-byte-requires-2
 byte-requires-2 c κs = search needs
 
 mul-single : tie.Need-mul-single
-mul-single c = let a = c .before .before .before .before .before .before .before .before .before in omega (arith, a .pre .1 .0 .variable (c .before .before .match .keys2))
+mul-single c = let a = c .before .before .before .before .before .before .before .before .before in omega
+    (arith, a .pre .1 .0 .variable (c .before .before .match .keys2))
 
 array-read-single : tie.Need-array-read-single
-array-read-single c = let a = c .before .before .before .before .before .before .before .before .before in omega (arith, a .pre .1 .0 .variable (c .before .before .match .keys2))
+array-read-single c = let a = c .before .before .before .before .before .before .before .before .before in omega
+    (arith, a .pre .1 .0 .variable (c .before .before .match .keys2))
 
 single-requires : tie.Need-single-requires
-single-requires c κs = rw (c .byte2 .ensures .0) (c .before .before .before .before .before .before .before .before .before .pre .0 .facts .scope-few (c .before .byte .result))
+single-requires c κs = rw (c .byte2 .ensures .0)
+    (c .before .before .before .before .before .before .before .before .before .pre .0 .facts .scope-few (c .before .byte .result))
 
 byte-requires-3 : tie.Need-byte-requires-3
 byte-requires-3 c κs = search needs
 
 full-requires : tie.Need-full-requires
-full-requires c κs = rw (c .byte3 .ensures .0) (c .before .before .before .before .before .before .before .before .pre .0 .facts .scope-few (c .before .before .before .before .before .before .before .before .args .a))
+full-requires c κs = rw (c .byte3 .ensures .0)
+    (c .before .before .before .before .before .before .before .before .pre .0 .facts .scope-few
+    (c .before .before .before .before .before .before .before .before .args .a))
 
 byte-requires-4 : tie.Need-byte-requires-4
 byte-requires-4 c κs = search needs
 
 identity-requires : tie.Need-identity-requires
-identity-requires c κs = rw (c .byte4 .ensures .0) (c .before .before .before .before .before .before .before .before .pre .0 .facts .scope-few (c .before .before .before .before .before .before .before .before .args .a))
+identity-requires c κs = rw (c .byte4 .ensures .0)
+    (c .before .before .before .before .before .before .before .before .pre .0 .facts .scope-few
+    (c .before .before .before .before .before .before .before .before .args .a))
 
 returns : tie.Need-returns
 unfolding leafBy
-returns c = rw (c .before .match .keys1) (c .relation .ensures (environmentOf (c .before .before .before .before .before .before .before .before .args .t7)))
+returns c = rw (c .before .match .keys1) (c .relation .ensures
+    (environmentOf (c .before .before .before .before .before .before .before .before .args .t7)))
 
 returns-2 : tie.Need-returns-2
 unfolding leafBy

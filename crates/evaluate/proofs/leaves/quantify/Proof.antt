@@ -1,5 +1,5 @@
 -- Kind by kind as the definition.
-use borrow.Author.Tests.{ne-eqb, eq-eqb}
+use borrow.Author.Tests.{ne-eqb}
 use borrow.Author.Needs.{needs}
 use Rattle.evaluate.proofs.leaves.quantify.Statement.{statement}
 use Rattle.evaluate.proofs.leaves.quantify.Tie as tie

@@ -1,10 +1,7 @@
 -- The relation's first cell, and its rows and columns.
-use mathlib.Core.Path.{_≡_, refl, sym, ap, _∙_}
-use Prim.Native.Nat.{ℕ, _≤_, _<_, _-_, _+_, _*_, _/_, _%_}
+use mathlib.Core.Path.{refl}
 use native.Mathlib.Omega.{arith}
-use mathlib.Core.Path.{subst₂}
-use Rattle.sheet.specs.Blocks.{fourBlocks, columns}
-use Rattle.matrix.specs.Values.{SetOrRelation}
+use Rattle.sheet.specs.Blocks.{fourBlocks}
 use Rattle.matrix.proofs.Results.{gives-as}
 use Rattle.evaluate.proofs.Layouts.{first-few, set-or-relation, relation-leaf}
 use borrow.Author.Needs.{needs}
@@ -42,7 +39,12 @@ given-requires c κs =
     let r = a .args .r in
     let rows = c .before .row-count in (
       (
-        omega (arith, a .pre .0 .cells .first r (a .pre .1), first-few sheet (a .pre .0 .facts .scope-few) r, a .pre .0 .facts .counts .few-relations),
+        omega (
+          arith,
+          a .pre .0 .cells .first r (a .pre .1),
+          first-few sheet (a .pre .0 .facts .scope-few) r,
+          a .pre .0 .facts .counts .few-relations,
+        ),
         (rows .ensures .0, c .row-length .ensures .0),
       ),
       rw (c .before .before .byte .ensures .0, rows .ensures .1 sheet refl refl)

@@ -1,20 +1,20 @@
 -- The invariant: the relations before r hold.
 use borrow.Author.Needs.{needs}
-use mathlib.Core.Path.{_≡_, refl, sym, ap, _∙_}
-use Prim.Native.Nat.{ℕ, _≤_, _<_, _-_, _+_, _*_, _/_, _%_}
+use mathlib.Core.Path.{_≡_, ap, _∙_}
+use Prim.Native.Nat.{ℕ, _≤_, _-_, _/_}
 use native.Mathlib.Omega.{arith}
-use mathlib.Core.Bool.{Bool}
 use lib.ListN.{length}
 use Rattle.prelude.specs.Tests.{each}
-use Rattle.sheet.specs.Blocks.{fourBlocks, multiplicity}
-use Rattle.relational.specs.Cells.{rowCount}
-use Rattle.relational.specs.Evaluation.{rowHolds, rowCells, marksHold}
+use Rattle.sheet.specs.Blocks.{fourBlocks}
+use Rattle.relational.specs.Evaluation.{marksHold}
+use Rattle.evaluate.specs.Walking.{rowsHold}
 use Rattle.evaluate.proofs.Loops.{each-none, each-more}
 use Rattle.evaluate.proofs.marks.marks_hold.Statement.{statement}
 use Rattle.evaluate.proofs.marks.marks_hold.Tie as tie
 
 abbrev Inv-loop : tie.InvT-loop
-Inv-loop sorts variables relations nodes instance starts count fine₀ r₀ fine r = (r ≤ count) × (fine ≡ each r (λ q. each (rowCount (fourBlocks sorts variables relations nodes) q) (λ i. rowHolds (fourBlocks sorts variables relations nodes) instance (multiplicity (fourBlocks sorts variables relations nodes) q) (rowCells (fourBlocks sorts variables relations nodes) instance q i))))
+Inv-loop sorts variables relations nodes instance starts count fine₀ r₀ fine r = (r ≤ count)
+    × (fine ≡ each r (rowsHold (fourBlocks sorts variables relations nodes) instance))
 
 abbrev μ-loop : tie.MeasureT-loop
 μ-loop sorts variables relations nodes instance starts count fine₀ r₀ fine r = count - r
@@ -48,12 +48,8 @@ returns c =
     let s = c .before .before .before .before .before .before .before .before in
     let l = c .before .loop in
     let sheet = fourBlocks (s .args .sorts .now) (s .args .variables .now) (s .args .relations .now) (s .args .nodes .now) in
-    let test : ℕ → Bool
-    = λ q.
-    each (rowCount sheet q)
-    (λ i. rowHolds sheet (s .args .instance .now) (multiplicity sheet q) (rowCells sheet (s .args .instance .now) q i)) in
     let k : l .r ≡ length (s .args .relations .now) / 4 = omega arith in
-    l .inv .1 ∙ ap (λ (n : ℕ). each n test) k
+    l .inv .1 ∙ ap (λ (n : ℕ). each n (rowsHold sheet (s .args .instance .now))) k
 
 pub marks-hold-spec : {M : Type 1} → statement M
 marks-hold-spec =

@@ -1,13 +1,12 @@
 -- The invariant: the rows before i hold.
 use borrow.Author.Needs.{needs}
-use mathlib.Core.Path.{_≡_, refl, sym, ap, _∙_}
-use Prim.Native.Nat.{ℕ, _≤_, _<_, _-_, _+_, _*_, _/_, _%_}
+use mathlib.Core.Path.{_≡_, refl, ap, _∙_}
+use Prim.Native.Nat.{ℕ, _≤_, _-_, _*_}
 use native.Mathlib.Omega.{arith}
 use mathlib.Core.Bool.{Bool}
 use native.Mathlib.Nat.{mul-le-mul}
 use Rattle.prelude.specs.Tests.{each}
 use Rattle.sheet.specs.Blocks.{fourBlocks, multiplicity}
-use Rattle.relational.specs.Cells.{rowCount}
 use Rattle.relational.specs.Evaluation.{rowHolds, rowCells}
 use Rattle.evaluate.proofs.Layouts.{first-few, row-law}
 use Rattle.evaluate.proofs.Loops.{each-none, each-more}
@@ -19,7 +18,8 @@ Inv-loop sorts variables relations nodes instance starts r mark first rows colum
     (i ≤ rows)
     × (fine
     ≡ each i
-    (λ j. rowHolds (fourBlocks sorts variables relations nodes) instance (multiplicity (fourBlocks sorts variables relations nodes) r) (rowCells (fourBlocks sorts variables relations nodes) instance r j)))
+    (λ j. rowHolds (fourBlocks sorts variables relations nodes) instance (multiplicity (fourBlocks sorts variables relations nodes) r)
+    (rowCells (fourBlocks sorts variables relations nodes) instance r j)))
 
 abbrev μ-loop : tie.MeasureT-loop
 μ-loop sorts variables relations nodes instance starts r mark first rows columns fine₀ i₀ fine i = rows - i
@@ -117,10 +117,12 @@ loop-again c =
     let s = c .before .before .before .before .before .before .before .before .before .before .before .before .before .before in
     let sheet = fourBlocks (s .args .sorts .now) (s .args .variables .now) (s .args .relations .now) (s .args .nodes .now) in
     let l = c .before .before .before .loop in
-    let test : ℕ → Bool = λ i. rowHolds sheet (s .args .instance .now) (multiplicity sheet (s .args .r)) (rowCells sheet (s .args .instance .now) (s .args .r) i) in
+    let test : ℕ → Bool = λ i. rowHolds sheet (s .args .instance .now) (multiplicity sheet (s .args .r))
+    (rowCells sheet (s .args .instance .now) (s .args .r) i) in
     let e : c .before .row-holds .result ≡ test (l .i)
     = c .before .row-holds .ensures
-    ∙ row-law sheet (s .args .instance .now) (s .args .r) (l .i) _ _ _ (c .before .before .before .before .before .before .before .byte .ensures .0) (s .pre .0 .cells .first (s .args .r) (s .pre .1))
+    ∙ row-law sheet (s .args .instance .now) (s .args .r) (l .i) _ _ _
+    (c .before .before .before .before .before .before .before .byte .ensures .0) (s .pre .0 .cells .first (s .args .r) (s .pre .1))
     (c .before .before .before .before .row-length .ensures .1 sheet refl refl) in
     (omega arith, each-more test (l .i) (l .fine) (c .both .result) (l .inv .1) (rw (← e) (c .both .ensures)))
 
@@ -129,7 +131,8 @@ returns c =
     let s = c .before .before .before .before .before .before .before .before .before .before .before .before in
     let sheet = fourBlocks (s .args .sorts .now) (s .args .variables .now) (s .args .relations .now) (s .args .nodes .now) in
     let l = c .before .loop in
-    let test : ℕ → Bool = λ i. rowHolds sheet (s .args .instance .now) (multiplicity sheet (s .args .r)) (rowCells sheet (s .args .instance .now) (s .args .r) i) in
+    let test : ℕ → Bool = λ i. rowHolds sheet (s .args .instance .now) (multiplicity sheet (s .args .r))
+    (rowCells sheet (s .args .instance .now) (s .args .r) i) in
     let k : l .i ≡ c .before .before .before .row-count .result = omega arith in
     l .inv .1 ∙ ap (λ (n : ℕ). each n test) (k ∙ c .before .before .before .row-count .ensures .1 sheet refl refl)
 

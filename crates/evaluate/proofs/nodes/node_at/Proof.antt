@@ -1,5 +1,4 @@
 -- Three bytes.
-use mathlib.Core.Path.{_≡_, refl, sym, ap, _∙_}
 use borrow.Author.Needs.{needs}
 use Rattle.evaluate.proofs.nodes.node_at.Statement.{statement}
 use Rattle.evaluate.proofs.nodes.node_at.Tie as tie

@@ -1,9 +1,9 @@
 -- The walk, form by form: what the operands give, and the step of the form (proofs/Steps). The measure is twice the node, and one more in a binder.
 use borrow.Author.Needs.{needs}
-use mathlib.Core.Path.{_≡_, refl, sym, ap, _∙_}
-use mathlib.Core.Bool.{Bool, true, false, not}
+use mathlib.Core.Path.{_≡_, sym, ap, _∙_}
+use mathlib.Core.Bool.{Bool, not}
 use mathlib.Core.List.{map}
-use Prim.Native.Nat.{ℕ, _+_, _*_, _-_, _<_, _≤_}
+use Prim.Native.Nat.{ℕ, _+_, _*_, _-_, _≤_, _<_}
 use native.Mathlib.Omega.{arith}
 use Rattle.sheet.specs.Blocks.{byte, fourBlocks}
 use Rattle.relational.specs.Matrices.{setOf, upto}
@@ -13,7 +13,8 @@ use Rattle.matrix.proofs.Filling.{Filled, filled-none, filled-more}
 use Rattle.matrix.proofs.Results.{gives-as, upto-law}
 use Rattle.evaluate.specs.Walking.{environmentOf, treeAt, truthInTree, quantifierBy}
 use Rattle.evaluate.proofs.Loops.{quantifier-none, quantifier-more}
-use Rattle.evaluate.proofs.Steps.{leaf-step, binary-step, unary-step, comprehension-step, no-expression, comparison-step, test-step, negation-step, connective-step, quantifier-step, no-formula}
+use Rattle.evaluate.proofs.Steps.{leaf-step, binary-step, unary-step, comprehension-step, no-expression, comparison-step, test-step}
+use Rattle.evaluate.proofs.Steps.{negation-step, connective-step, quantifier-step, no-formula}
 use borrow.Fn.Kinds.{In}
 use borrow.Fn.PlainCycle.{Measures, is, falls, and}
 use Rattle.evaluate.proofs.walk.comprehension.Reads as comprehension
@@ -94,72 +95,134 @@ abbrev comprehension-calls : ℕ → comprehension-lts.Claims
 comprehension-calls t = (byte-reads.Asked, byte-reads.Learnt, bind-reads.Asked, bind-reads.Learnt, formula-below t, formula.Post)
 
 abbrev expression-calls : ℕ → expression-lts.Claims
-expression-calls t = (node-at-reads.Asked, node-at-reads.Learnt, expression-form-reads.Asked, expression-form-reads.Learnt, leaf-reads.Asked, leaf-reads.Learnt, expression-below t, expression.Post, binary-reads.Asked, binary-reads.Learnt, unary-reads.Asked, unary-reads.Learnt, comprehension-below t, comprehension.Post, full-reads.Asked, full-reads.Learnt)
+expression-calls t = (
+  node-at-reads.Asked,
+  node-at-reads.Learnt,
+  expression-form-reads.Asked,
+  expression-form-reads.Learnt,
+  leaf-reads.Asked,
+  leaf-reads.Learnt,
+  expression-below t,
+  expression.Post,
+  binary-reads.Asked,
+  binary-reads.Learnt,
+  unary-reads.Asked,
+  unary-reads.Learnt,
+  comprehension-below t,
+  comprehension.Post,
+  full-reads.Asked,
+  full-reads.Learnt,
+)
 
 abbrev formula-calls : ℕ → formula-lts.Claims
-formula-calls t = (node-at-reads.Asked, node-at-reads.Learnt, formula-form-reads.Asked, formula-form-reads.Learnt, expression-below t, expression.Post, compare-reads.Asked, compare-reads.Learnt, test-reads.Asked, test-reads.Learnt, formula-below t, formula.Post, connect-reads.Asked, connect-reads.Learnt, quantified-below t, quantified.Post)
+formula-calls t = (
+  node-at-reads.Asked,
+  node-at-reads.Learnt,
+  formula-form-reads.Asked,
+  formula-form-reads.Learnt,
+  expression-below t,
+  expression.Post,
+  compare-reads.Asked,
+  compare-reads.Learnt,
+  test-reads.Asked,
+  test-reads.Learnt,
+  formula-below t,
+  formula.Post,
+  connect-reads.Asked,
+  connect-reads.Learnt,
+  quantified-below t,
+  quantified.Post,
+)
 
 abbrev quantified-calls : ℕ → quantified-lts.Claims
-quantified-calls t = (byte-reads.Asked, byte-reads.Learnt, bind-reads.Asked, bind-reads.Learnt, formula-below t, formula.Post, quantify-reads.Asked, quantify-reads.Learnt)
+quantified-calls t = (
+  byte-reads.Asked,
+  byte-reads.Learnt,
+  bind-reads.Asked,
+  bind-reads.Learnt,
+  formula-below t,
+  formula.Post,
+  quantify-reads.Asked,
+  quantify-reads.Learnt,
+)
 
 abbrev comprehension-Inv-loop : comprehension-lts.InvT-loop
 comprehension-Inv-loop sorts variables relations nodes instance starts env body x n cells₀ k₀ cells k =
-    (k ≤ n) × Filled cells (λ (j : ℕ). truthInTree (fourBlocks sorts variables relations nodes) instance (bind (environmentOf env) x j) (treeAt (fourBlocks sorts variables relations nodes) body)) k
+    (k ≤ n) × Filled cells (λ (j : ℕ). truthInTree (fourBlocks sorts variables relations nodes) instance (bind (environmentOf env) x j)
+    (treeAt (fourBlocks sorts variables relations nodes) body)) k
 
 abbrev comprehension-μ-loop : comprehension-lts.MeasureT-loop
 comprehension-μ-loop sorts variables relations nodes instance starts env body x n cells₀ k₀ cells k = n - k
 
-comprehension-byte-requires : (t : ℕ) → comprehension-lts.Need-byte-requires (comprehension-calls t) (comprehension-at t) comprehension.Post comprehension-Inv-loop comprehension-μ-loop
+comprehension-byte-requires : (t : ℕ) → comprehension-lts.Need-byte-requires (comprehension-calls t) (comprehension-at t) comprehension.Post
+    comprehension-Inv-loop comprehension-μ-loop
 comprehension-byte-requires t c κs = search needs
 
-comprehension-byte-requires-2 : (t : ℕ) → comprehension-lts.Need-byte-requires-2 (comprehension-calls t) (comprehension-at t) comprehension.Post comprehension-Inv-loop comprehension-μ-loop
+comprehension-byte-requires-2 : (t : ℕ) → comprehension-lts.Need-byte-requires-2 (comprehension-calls t) (comprehension-at t) comprehension.Post
+    comprehension-Inv-loop comprehension-μ-loop
 comprehension-byte-requires-2 t c κs = search needs
 
-comprehension-loop-holds : (t : ℕ) → comprehension-lts.Need-loop-holds (comprehension-calls t) (comprehension-at t) comprehension.Post comprehension-Inv-loop comprehension-μ-loop
+comprehension-loop-holds : (t : ℕ) → comprehension-lts.Need-loop-holds (comprehension-calls t) (comprehension-at t) comprehension.Post
+    comprehension-Inv-loop comprehension-μ-loop
 comprehension-loop-holds t c = (omega arith, filled-none _)
 
-comprehension-bind-requires : (t : ℕ) → comprehension-lts.Need-bind-requires (comprehension-calls t) (comprehension-at t) comprehension.Post comprehension-Inv-loop comprehension-μ-loop
+comprehension-bind-requires : (t : ℕ) → comprehension-lts.Need-bind-requires (comprehension-calls t) (comprehension-at t) comprehension.Post
+    comprehension-Inv-loop comprehension-μ-loop
 comprehension-bind-requires t c κs =
     let s = c .before .before .before .before .before .before .before .before .before .before in
     (s .pre .1 .1 .1 .1, s .pre .1 .1 .0)
 
-comprehension-formula-requires : (t : ℕ) → comprehension-lts.Need-formula-requires (comprehension-calls t) (comprehension-at t) comprehension.Post comprehension-Inv-loop comprehension-μ-loop
+comprehension-formula-requires : (t : ℕ) → comprehension-lts.Need-formula-requires (comprehension-calls t) (comprehension-at t) comprehension.Post
+    comprehension-Inv-loop comprehension-μ-loop
 comprehension-formula-requires t c κs =
     let s = c .before .before .before .before .before .before .before .before .before .before .before in
-    (omega (arith, s .pre .0), (s .pre .1 .0, (c .bind .ensures .0, s .pre .1 .1 .1 .0)))
+    (omega (arith, s .pre .0), (s .pre .1 .0, (search needs, s .pre .1 .1 .1 .0)))
 
-comprehension-array-write-cells : (t : ℕ) → comprehension-lts.Need-array-write-cells (comprehension-calls t) (comprehension-at t) comprehension.Post comprehension-Inv-loop comprehension-μ-loop
+comprehension-array-write-cells : (t : ℕ) → comprehension-lts.Need-array-write-cells (comprehension-calls t) (comprehension-at t)
+    comprehension.Post comprehension-Inv-loop comprehension-μ-loop
 comprehension-array-write-cells t c =
     let s = c .before .before .before .before .before .before .before .before .before .before .before .before in
-    let few : c .before .before .before .before .byte2 .result ≤ 8 = rw (c .before .before .before .before .byte2 .ensures .0) (s .pre .1 .0 .facts .scope-few (c .before .before .before .before .before .byte .result)) in
+    let few : c .before .before .before .before .byte2 .result ≤ 8 = rw (c .before .before .before .before .byte2 .ensures .0)
+    (s .pre .1 .0 .facts .scope-few (c .before .before .before .before .before .byte .result)) in
     omega arith
 
-comprehension-add-k : (t : ℕ) → comprehension-lts.Need-add-k (comprehension-calls t) (comprehension-at t) comprehension.Post comprehension-Inv-loop comprehension-μ-loop
+comprehension-add-k : (t : ℕ) → comprehension-lts.Need-add-k (comprehension-calls t) (comprehension-at t) comprehension.Post comprehension-Inv-loop
+    comprehension-μ-loop
 comprehension-add-k t c =
     let s = c .before .before .before .before .before .before .before .before .before .before .before .before in
-    let few : c .before .before .before .before .byte2 .result ≤ 8 = rw (c .before .before .before .before .byte2 .ensures .0) (s .pre .1 .0 .facts .scope-few (c .before .before .before .before .before .byte .result)) in
+    let few : c .before .before .before .before .byte2 .result ≤ 8 = rw (c .before .before .before .before .byte2 .ensures .0)
+    (s .pre .1 .0 .facts .scope-few (c .before .before .before .before .before .byte .result)) in
     omega arith
 
-comprehension-loop-less : (t : ℕ) → comprehension-lts.Need-loop-less (comprehension-calls t) (comprehension-at t) comprehension.Post comprehension-Inv-loop comprehension-μ-loop
+comprehension-loop-less : (t : ℕ) → comprehension-lts.Need-loop-less (comprehension-calls t) (comprehension-at t) comprehension.Post
+    comprehension-Inv-loop comprehension-μ-loop
 comprehension-loop-less t c = omega arith
 
-comprehension-loop-again : (t : ℕ) → comprehension-lts.Need-loop-again (comprehension-calls t) (comprehension-at t) comprehension.Post comprehension-Inv-loop comprehension-μ-loop
+comprehension-loop-again : (t : ℕ) → comprehension-lts.Need-loop-again (comprehension-calls t) (comprehension-at t) comprehension.Post
+    comprehension-Inv-loop comprehension-μ-loop
 comprehension-loop-again t c =
     let s = c .before .before .before .before .before .before .before .before .before .before .before .before in
     let sheet = fourBlocks (s .args .sorts .now) (s .args .variables .now) (s .args .relations .now) (s .args .nodes .now) in
-    let few : c .before .before .before .before .byte2 .result ≤ 8 = rw (c .before .before .before .before .byte2 .ensures .0) (s .pre .1 .0 .facts .scope-few (c .before .before .before .before .before .byte .result)) in
-    let l = c .before .before .before .loop in
-    (omega arith, filled-more (l .cells) _ (l .k) (c .formula .result) (l .inv .1) (omega arith) (c .formula .ensures ∙ ap (λ e. truthInTree sheet (s .args .instance .now) e (treeAt sheet (s .args .body))) (c .before .bind .ensures .1)))
+    let few : c .before .before .before .before .byte2 .result ≤ 8 = rw (c .before .before .before .before .byte2 .ensures .0)
+    (s .pre .1 .0 .facts .scope-few (c .before .before .before .before .before .byte .result)) in
+    let l = c .before .before .before .loop in (
+      omega arith,
+      filled-more (l .cells) _ (l .k) (c .formula .result) (l .inv .1) (omega arith)
+          (c .formula .ensures ∙ ap (λ e. truthInTree sheet (s .args .instance .now) e (treeAt sheet (s .args .body))) (c .before .bind .ensures .1)),
+    )
 
-comprehension-returns : (t : ℕ) → comprehension-lts.Need-returns (comprehension-calls t) (comprehension-at t) comprehension.Post comprehension-Inv-loop comprehension-μ-loop
+comprehension-returns : (t : ℕ) → comprehension-lts.Need-returns (comprehension-calls t) (comprehension-at t) comprehension.Post
+    comprehension-Inv-loop comprehension-μ-loop
 comprehension-returns t c =
     let s = c .before .before .before .before .before .before .before .before .before .before in
     let sheet = fourBlocks (s .args .sorts .now) (s .args .variables .now) (s .args .relations .now) (s .args .nodes .now) in
-    let few : c .before .before .byte2 .result ≤ 8 = rw (c .before .before .byte2 .ensures .0) (s .pre .1 .0 .facts .scope-few (c .before .before .before .byte .result)) in
+    let few : c .before .before .byte2 .result ≤ 8 = rw (c .before .before .byte2 .ensures .0)
+    (s .pre .1 .0 .facts .scope-few (c .before .before .before .byte .result)) in
     let f : ℕ → Bool
     = λ j. truthInTree sheet (s .args .instance .now) (bind (environmentOf (s .args .env)) (s .args .x) j) (treeAt sheet (s .args .body)) in
     let l = c .before .loop in
-    gives-as _ _ _ (ap (λ (m : ℕ). setOf m (map f (upto m))) (c .before .before .byte2 .ensures .0 ∙ ap (byte (s .args .sorts .now)) (c .before .before .before .byte .ensures .0)))
+    gives-as _ _ _ (ap (λ (m : ℕ). setOf m (map f (upto m)))
+    (c .before .before .byte2 .ensures .0 ∙ ap (byte (s .args .sorts .now)) (c .before .before .before .byte .ensures .0)))
     (upto-law (c .before .before .byte2 .result) f (l .cells) (l .k) (omega arith) few (l .inv .1))
 
 expression-node-at-requires : (t : ℕ) → expression-lts.Need-node-at-requires (expression-calls t) (expression-at t) expression.Post
@@ -191,7 +254,8 @@ expression-expression-requires t c κs =
     let sheet = fourBlocks (s .args .sorts .now) (s .args .variables .now) (s .args .relations .now) (s .args .nodes .now) in
     let n = c .before .before .before .node-at in
     let form = sym (c .before .before .expression-form .ensures) ∙ c .enum-told2 .given .1 in
-    let step = binary-step sheet (s .args .instance .now) (s .pre .1 .0 .facts) (s .args .at) (s .pre .1 .1 .1 .node) (n .result) (n .ensures) (s .pre .1 .1 .1) form in
+    let step = binary-step sheet (s .args .instance .now) (s .pre .1 .0 .facts) (s .args .at) (s .pre .1 .1 .1 .node) (n .result) (n .ensures)
+    (s .pre .1 .1 .1) form in
     (omega (arith, step .1, s .pre .0), (s .pre .1 .0, (s .pre .1 .1 .0, step .0)))
 
 expression-expression-requires-2 : (t : ℕ) → expression-lts.Need-expression-requires-2 (expression-calls t) (expression-at t) expression.Post
@@ -200,7 +264,8 @@ expression-expression-requires-2 t c κs =
     let sheet = fourBlocks (s .args .sorts .now) (s .args .variables .now) (s .args .relations .now) (s .args .nodes .now) in
     let n = c .before .before .before .before .node-at in
     let form = sym (c .before .before .before .expression-form .ensures) ∙ c .before .enum-told2 .given .1 in
-    let step = binary-step sheet (s .args .instance .now) (s .pre .1 .0 .facts) (s .args .at) (s .pre .1 .1 .1 .node) (n .result) (n .ensures) (s .pre .1 .1 .1) form in
+    let step = binary-step sheet (s .args .instance .now) (s .pre .1 .0 .facts) (s .args .at) (s .pre .1 .1 .1 .node) (n .result) (n .ensures)
+    (s .pre .1 .1 .1) form in
     (omega (arith, step .3, s .pre .0), (s .pre .1 .0, (s .pre .1 .1 .0, step .2)))
 
 expression-binary-requires : (t : ℕ) → expression-lts.Need-binary-requires (expression-calls t) (expression-at t) expression.Post
@@ -215,7 +280,8 @@ expression-expression-requires-3 t c κs =
     let sheet = fourBlocks (s .args .sorts .now) (s .args .variables .now) (s .args .relations .now) (s .args .nodes .now) in
     let n = c .before .before .before .node-at in
     let form = sym (c .before .before .expression-form .ensures) ∙ c .enum-told3 .given .1 in
-    let step = unary-step sheet (s .args .instance .now) (s .pre .1 .0 .facts) (s .args .at) (s .pre .1 .1 .1 .node) (n .result) (n .ensures) (s .pre .1 .1 .1) form in
+    let step = unary-step sheet (s .args .instance .now) (s .pre .1 .0 .facts) (s .args .at) (s .pre .1 .1 .1 .node) (n .result) (n .ensures)
+    (s .pre .1 .1 .1) form in
     (omega (arith, step .1, s .pre .0), (s .pre .1 .0, (s .pre .1 .1 .0, step .0)))
 
 expression-unary-requires : (t : ℕ) → expression-lts.Need-unary-requires (expression-calls t) (expression-at t) expression.Post
@@ -230,7 +296,8 @@ expression-comprehension-requires t c κs =
     let sheet = fourBlocks (s .args .sorts .now) (s .args .variables .now) (s .args .relations .now) (s .args .nodes .now) in
     let n = c .before .before .before .node-at in
     let form = sym (c .before .before .expression-form .ensures) ∙ c .enum-told4 .given .1 in
-    let step = comprehension-step sheet (s .args .instance .now) (s .pre .1 .0 .facts) (s .args .at) (s .pre .1 .1 .1 .node) (n .result) (n .ensures) (s .pre .1 .1 .1) form in
+    let step = comprehension-step sheet (s .args .instance .now) (s .pre .1 .0 .facts) (s .args .at) (s .pre .1 .1 .1 .node) (n .result)
+    (n .ensures) (s .pre .1 .1 .1) form in
     (omega (arith, step .1, s .pre .0), (s .pre .1 .0, (s .pre .1 .1 .0, (step .0, step .2))))
 
 expression-enum-told-5 : (t : ℕ) → expression-lts.Need-enum-told-5 (expression-calls t) (expression-at t) expression.Post
@@ -254,10 +321,12 @@ expression-returns-2 t c =
     let sheet = fourBlocks (s .args .sorts .now) (s .args .variables .now) (s .args .relations .now) (s .args .nodes .now) in
     let n = c .before .before .before .before .before .before .node-at in
     let form = sym (c .before .before .before .before .before .expression-form .ensures) ∙ c .before .before .before .enum-told2 .given .1 in
-    let step = binary-step sheet (s .args .instance .now) (s .pre .1 .0 .facts) (s .args .at) (s .pre .1 .1 .1 .node) (n .result) (n .ensures) (s .pre .1 .1 .1) form in
+    let step = binary-step sheet (s .args .instance .now) (s .pre .1 .0 .facts) (s .args .at) (s .pre .1 .1 .1 .node) (n .result) (n .ensures)
+    (s .pre .1 .1 .1) form in
     let x = c .before .before .expression in
     let y = c .before .expression2 in
-    gives-as (c .binary .result) _ _ (step .4 (environmentOf (s .args .env)) (matrixOf (x .result)) (matrixOf (y .result)) (x .ensures .is) (y .ensures .is)) (c .binary .ensures)
+    gives-as (c .binary .result) _ _ (step .4 (environmentOf (s .args .env)) (matrixOf (x .result)) (matrixOf (y .result)) (x .ensures .is)
+    (y .ensures .is)) (c .binary .ensures)
 
 expression-returns-3 : (t : ℕ) → expression-lts.Need-returns-3 (expression-calls t) (expression-at t) expression.Post
 expression-returns-3 t c =
@@ -265,7 +334,8 @@ expression-returns-3 t c =
     let sheet = fourBlocks (s .args .sorts .now) (s .args .variables .now) (s .args .relations .now) (s .args .nodes .now) in
     let n = c .before .before .before .before .before .node-at in
     let form = sym (c .before .before .before .before .expression-form .ensures) ∙ c .before .before .enum-told3 .given .1 in
-    let step = unary-step sheet (s .args .instance .now) (s .pre .1 .0 .facts) (s .args .at) (s .pre .1 .1 .1 .node) (n .result) (n .ensures) (s .pre .1 .1 .1) form in
+    let step = unary-step sheet (s .args .instance .now) (s .pre .1 .0 .facts) (s .args .at) (s .pre .1 .1 .1 .node) (n .result) (n .ensures)
+    (s .pre .1 .1 .1) form in
     let x = c .before .expression3 in
     gives-as (c .unary .result) _ _ (step .2 (environmentOf (s .args .env)) (matrixOf (x .result)) (x .ensures .is)) (c .unary .ensures)
 
@@ -275,7 +345,8 @@ expression-returns-4 t c =
     let sheet = fourBlocks (s .args .sorts .now) (s .args .variables .now) (s .args .relations .now) (s .args .nodes .now) in
     let n = c .before .before .before .before .node-at in
     let form = sym (c .before .before .before .expression-form .ensures) ∙ c .before .enum-told4 .given .1 in
-    let step = comprehension-step sheet (s .args .instance .now) (s .pre .1 .0 .facts) (s .args .at) (s .pre .1 .1 .1 .node) (n .result) (n .ensures) (s .pre .1 .1 .1) form in
+    let step = comprehension-step sheet (s .args .instance .now) (s .pre .1 .0 .facts) (s .args .at) (s .pre .1 .1 .1 .node) (n .result)
+    (n .ensures) (s .pre .1 .1 .1) form in
     gives-as (c .comprehension .result) _ _ (step .3 (environmentOf (s .args .env))) (c .comprehension .ensures)
 
 expression-returns-5 : (t : ℕ) → expression-lts.Need-returns-5 (expression-calls t) (expression-at t) expression.Post
@@ -284,7 +355,8 @@ expression-returns-5 t c =
     let sheet = fourBlocks (s .args .sorts .now) (s .args .variables .now) (s .args .relations .now) (s .args .nodes .now) in
     let n = c .before .before .before .before .node-at in
     let form = sym (c .before .before .before .expression-form .ensures) ∙ c .before .enum-told5 .given .1 in
-    let step = no-expression sheet (s .args .instance .now) (s .pre .1 .0 .facts) (s .args .at) (s .pre .1 .1 .1 .node) (n .result) (n .ensures) form in
+    let step = no-expression sheet (s .args .instance .now) (s .pre .1 .0 .facts) (s .args .at) (s .pre .1 .1 .1 .node) (n .result) (n .ensures)
+    form in
     gives-as (c .full .result) _ _ (step (environmentOf (s .args .env))) (c .full .ensures)
 
 formula-node-at-requires : (t : ℕ) → formula-lts.Need-node-at-requires (formula-calls t) (formula-at t) formula.Post
@@ -304,7 +376,8 @@ formula-expression-requires t c κs =
     let sheet = fourBlocks (s .args .sorts .now) (s .args .variables .now) (s .args .relations .now) (s .args .nodes .now) in
     let n = c .before .before .before .node-at in
     let form = sym (c .before .before .formula-form .ensures) ∙ c .enum-told .given .1 in
-    let step = comparison-step sheet (s .args .instance .now) (s .pre .1 .0 .facts) (s .args .at) (s .pre .1 .1 .1 .node) (n .result) (n .ensures) (s .pre .1 .1 .1) form in
+    let step = comparison-step sheet (s .args .instance .now) (s .pre .1 .0 .facts) (s .args .at) (s .pre .1 .1 .1 .node) (n .result) (n .ensures)
+    (s .pre .1 .1 .1) form in
     (omega (arith, step .1, s .pre .0), (s .pre .1 .0, (s .pre .1 .1 .0, step .0)))
 
 formula-expression-requires-2 : (t : ℕ) → formula-lts.Need-expression-requires-2 (formula-calls t) (formula-at t) formula.Post
@@ -313,7 +386,8 @@ formula-expression-requires-2 t c κs =
     let sheet = fourBlocks (s .args .sorts .now) (s .args .variables .now) (s .args .relations .now) (s .args .nodes .now) in
     let n = c .before .before .before .before .node-at in
     let form = sym (c .before .before .before .formula-form .ensures) ∙ c .before .enum-told .given .1 in
-    let step = comparison-step sheet (s .args .instance .now) (s .pre .1 .0 .facts) (s .args .at) (s .pre .1 .1 .1 .node) (n .result) (n .ensures) (s .pre .1 .1 .1) form in
+    let step = comparison-step sheet (s .args .instance .now) (s .pre .1 .0 .facts) (s .args .at) (s .pre .1 .1 .1 .node) (n .result) (n .ensures)
+    (s .pre .1 .1 .1) form in
     (omega (arith, step .3, s .pre .0), (s .pre .1 .0, (s .pre .1 .1 .0, step .2)))
 
 formula-compare-requires : (t : ℕ) → formula-lts.Need-compare-requires (formula-calls t) (formula-at t) formula.Post
@@ -328,7 +402,8 @@ formula-expression-requires-3 t c κs =
     let sheet = fourBlocks (s .args .sorts .now) (s .args .variables .now) (s .args .relations .now) (s .args .nodes .now) in
     let n = c .before .before .before .node-at in
     let form = sym (c .before .before .formula-form .ensures) ∙ c .enum-told2 .given .1 in
-    let step = test-step sheet (s .args .instance .now) (s .pre .1 .0 .facts) (s .args .at) (s .pre .1 .1 .1 .node) (n .result) (n .ensures) (s .pre .1 .1 .1) form in
+    let step = test-step sheet (s .args .instance .now) (s .pre .1 .0 .facts) (s .args .at) (s .pre .1 .1 .1 .node) (n .result) (n .ensures)
+    (s .pre .1 .1 .1) form in
     (omega (arith, step .1, s .pre .0), (s .pre .1 .0, (s .pre .1 .1 .0, step .0)))
 
 formula-test-requires : (t : ℕ) → formula-lts.Need-test-requires (formula-calls t) (formula-at t) formula.Post
@@ -343,7 +418,8 @@ formula-formula-requires t c κs =
     let sheet = fourBlocks (s .args .sorts .now) (s .args .variables .now) (s .args .relations .now) (s .args .nodes .now) in
     let n = c .before .before .before .node-at in
     let form = sym (c .before .before .formula-form .ensures) ∙ c .enum-told3 .given .1 in
-    let step = negation-step sheet (s .args .instance .now) (s .pre .1 .0 .facts) (s .args .at) (s .pre .1 .1 .1 .node) (n .result) (n .ensures) (s .pre .1 .1 .1) form in
+    let step = negation-step sheet (s .args .instance .now) (s .pre .1 .0 .facts) (s .args .at) (s .pre .1 .1 .1 .node) (n .result) (n .ensures)
+    (s .pre .1 .1 .1) form in
     (omega (arith, step .1, s .pre .0), (s .pre .1 .0, (s .pre .1 .1 .0, step .0)))
 
 formula-enum-told-4 : (t : ℕ) → formula-lts.Need-enum-told-4 (formula-calls t) (formula-at t) formula.Post
@@ -355,7 +431,8 @@ formula-formula-requires-2 t c κs =
     let sheet = fourBlocks (s .args .sorts .now) (s .args .variables .now) (s .args .relations .now) (s .args .nodes .now) in
     let n = c .before .before .before .node-at in
     let form = sym (c .before .before .formula-form .ensures) ∙ c .enum-told4 .given .1 in
-    let step = connective-step sheet (s .args .instance .now) (s .pre .1 .0 .facts) (s .args .at) (s .pre .1 .1 .1 .node) (n .result) (n .ensures) (s .pre .1 .1 .1) form in
+    let step = connective-step sheet (s .args .instance .now) (s .pre .1 .0 .facts) (s .args .at) (s .pre .1 .1 .1 .node) (n .result) (n .ensures)
+    (s .pre .1 .1 .1) form in
     (omega (arith, step .1, s .pre .0), (s .pre .1 .0, (s .pre .1 .1 .0, step .0)))
 
 formula-formula-requires-3 : (t : ℕ) → formula-lts.Need-formula-requires-3 (formula-calls t) (formula-at t) formula.Post
@@ -364,7 +441,8 @@ formula-formula-requires-3 t c κs =
     let sheet = fourBlocks (s .args .sorts .now) (s .args .variables .now) (s .args .relations .now) (s .args .nodes .now) in
     let n = c .before .before .before .before .node-at in
     let form = sym (c .before .before .before .formula-form .ensures) ∙ c .before .enum-told4 .given .1 in
-    let step = connective-step sheet (s .args .instance .now) (s .pre .1 .0 .facts) (s .args .at) (s .pre .1 .1 .1 .node) (n .result) (n .ensures) (s .pre .1 .1 .1) form in
+    let step = connective-step sheet (s .args .instance .now) (s .pre .1 .0 .facts) (s .args .at) (s .pre .1 .1 .1 .node) (n .result) (n .ensures)
+    (s .pre .1 .1 .1) form in
     (omega (arith, step .3, s .pre .0), (s .pre .1 .0, (s .pre .1 .1 .0, step .2)))
 
 formula-connect-requires : (t : ℕ) → formula-lts.Need-connect-requires (formula-calls t) (formula-at t) formula.Post
@@ -379,7 +457,8 @@ formula-quantified-requires t c κs =
     let sheet = fourBlocks (s .args .sorts .now) (s .args .variables .now) (s .args .relations .now) (s .args .nodes .now) in
     let n = c .before .before .before .node-at in
     let form = sym (c .before .before .formula-form .ensures) ∙ c .enum-told5 .given .1 in
-    let step = quantifier-step sheet (s .args .instance .now) (s .pre .1 .0 .facts) (s .args .at) (s .pre .1 .1 .1 .node) (n .result) (n .ensures) (s .pre .1 .1 .1) form in
+    let step = quantifier-step sheet (s .args .instance .now) (s .pre .1 .0 .facts) (s .args .at) (s .pre .1 .1 .1 .node) (n .result) (n .ensures)
+    (s .pre .1 .1 .1) form in
     (omega (arith, step .1, s .pre .0), (s .pre .1 .0, (s .pre .1 .1 .0, (step .0, step .2))))
 
 formula-enum-told-6 : (t : ℕ) → formula-lts.Need-enum-told-6 (formula-calls t) (formula-at t) formula.Post
@@ -391,7 +470,8 @@ formula-returns t c =
     let sheet = fourBlocks (s .args .sorts .now) (s .args .variables .now) (s .args .relations .now) (s .args .nodes .now) in
     let n = c .before .before .before .before .before .before .node-at in
     let form = sym (c .before .before .before .before .before .formula-form .ensures) ∙ c .before .before .before .enum-told .given .1 in
-    let step = comparison-step sheet (s .args .instance .now) (s .pre .1 .0 .facts) (s .args .at) (s .pre .1 .1 .1 .node) (n .result) (n .ensures) (s .pre .1 .1 .1) form in
+    let step = comparison-step sheet (s .args .instance .now) (s .pre .1 .0 .facts) (s .args .at) (s .pre .1 .1 .1 .node) (n .result) (n .ensures)
+    (s .pre .1 .1 .1) form in
     let x = c .before .before .expression in
     let y = c .before .expression2 in
     c .compare .ensures ∙ step .4 (environmentOf (s .args .env)) (matrixOf (x .result)) (matrixOf (y .result)) (x .ensures .is) (y .ensures .is)
@@ -402,7 +482,8 @@ formula-returns-2 t c =
     let sheet = fourBlocks (s .args .sorts .now) (s .args .variables .now) (s .args .relations .now) (s .args .nodes .now) in
     let n = c .before .before .before .before .before .node-at in
     let form = sym (c .before .before .before .before .formula-form .ensures) ∙ c .before .before .enum-told2 .given .1 in
-    let step = test-step sheet (s .args .instance .now) (s .pre .1 .0 .facts) (s .args .at) (s .pre .1 .1 .1 .node) (n .result) (n .ensures) (s .pre .1 .1 .1) form in
+    let step = test-step sheet (s .args .instance .now) (s .pre .1 .0 .facts) (s .args .at) (s .pre .1 .1 .1 .node) (n .result) (n .ensures)
+    (s .pre .1 .1 .1) form in
     let x = c .before .expression3 in
     c .test .ensures ∙ step .2 (environmentOf (s .args .env)) (matrixOf (x .result)) (x .ensures .is)
 
@@ -412,7 +493,8 @@ formula-returns-3 t c =
     let sheet = fourBlocks (s .args .sorts .now) (s .args .variables .now) (s .args .relations .now) (s .args .nodes .now) in
     let n = c .before .before .before .before .node-at in
     let form = sym (c .before .before .before .formula-form .ensures) ∙ c .before .enum-told3 .given .1 in
-    let step = negation-step sheet (s .args .instance .now) (s .pre .1 .0 .facts) (s .args .at) (s .pre .1 .1 .1 .node) (n .result) (n .ensures) (s .pre .1 .1 .1) form in
+    let step = negation-step sheet (s .args .instance .now) (s .pre .1 .0 .facts) (s .args .at) (s .pre .1 .1 .1 .node) (n .result) (n .ensures)
+    (s .pre .1 .1 .1) form in
     ap not (c .formula .ensures) ∙ step .2 (environmentOf (s .args .env))
 
 formula-returns-4 : (t : ℕ) → formula-lts.Need-returns-4 (formula-calls t) (formula-at t) formula.Post
@@ -421,7 +503,8 @@ formula-returns-4 t c =
     let sheet = fourBlocks (s .args .sorts .now) (s .args .variables .now) (s .args .relations .now) (s .args .nodes .now) in
     let n = c .before .before .before .before .before .before .node-at in
     let form = sym (c .before .before .before .before .before .formula-form .ensures) ∙ c .before .before .before .enum-told4 .given .1 in
-    let step = connective-step sheet (s .args .instance .now) (s .pre .1 .0 .facts) (s .args .at) (s .pre .1 .1 .1 .node) (n .result) (n .ensures) (s .pre .1 .1 .1) form in
+    let step = connective-step sheet (s .args .instance .now) (s .pre .1 .0 .facts) (s .args .at) (s .pre .1 .1 .1 .node) (n .result) (n .ensures)
+    (s .pre .1 .1 .1) form in
     let x = c .before .before .formula2 in
     let y = c .before .formula3 in
     c .connect .ensures ∙ step .4 (environmentOf (s .args .env)) (x .result) (y .result) (x .ensures) (y .ensures)
@@ -432,7 +515,8 @@ formula-returns-5 t c =
     let sheet = fourBlocks (s .args .sorts .now) (s .args .variables .now) (s .args .relations .now) (s .args .nodes .now) in
     let n = c .before .before .before .before .node-at in
     let form = sym (c .before .before .before .formula-form .ensures) ∙ c .before .enum-told5 .given .1 in
-    let step = quantifier-step sheet (s .args .instance .now) (s .pre .1 .0 .facts) (s .args .at) (s .pre .1 .1 .1 .node) (n .result) (n .ensures) (s .pre .1 .1 .1) form in
+    let step = quantifier-step sheet (s .args .instance .now) (s .pre .1 .0 .facts) (s .args .at) (s .pre .1 .1 .1 .node) (n .result) (n .ensures)
+    (s .pre .1 .1 .1) form in
     c .quantified .ensures ∙ step .3 (environmentOf (s .args .env))
 
 formula-returns-6 : (t : ℕ) → formula-lts.Need-returns-6 (formula-calls t) (formula-at t) formula.Post
@@ -446,55 +530,68 @@ formula-returns-6 t c =
 
 abbrev quantified-Inv-loop : quantified-lts.InvT-loop
 quantified-Inv-loop sorts variables relations nodes instance starts env body x kind n truth₀ k₀ truth k =
-    (k ≤ n) × (truth ≡ quantifierBy kind (map (λ (j : ℕ). truthInTree (fourBlocks sorts variables relations nodes) instance (bind (environmentOf env) x j) (treeAt (fourBlocks sorts variables relations nodes) body)) (upto k)))
+    (k ≤ n) × (truth ≡ quantifierBy kind (map
+    (λ (j : ℕ). truthInTree (fourBlocks sorts variables relations nodes) instance (bind (environmentOf env) x j)
+    (treeAt (fourBlocks sorts variables relations nodes) body)) (upto k)))
 
 abbrev quantified-μ-loop : quantified-lts.MeasureT-loop
 quantified-μ-loop sorts variables relations nodes instance starts env body x kind n truth₀ k₀ truth k = n - k
 
-quantified-byte-requires : (t : ℕ) → quantified-lts.Need-byte-requires (quantified-calls t) (quantified-at t) quantified.Post quantified-Inv-loop quantified-μ-loop
+quantified-byte-requires : (t : ℕ) → quantified-lts.Need-byte-requires (quantified-calls t) (quantified-at t) quantified.Post quantified-Inv-loop
+    quantified-μ-loop
 quantified-byte-requires t c κs = search needs
 
-quantified-byte-requires-2 : (t : ℕ) → quantified-lts.Need-byte-requires-2 (quantified-calls t) (quantified-at t) quantified.Post quantified-Inv-loop quantified-μ-loop
+quantified-byte-requires-2 : (t : ℕ) → quantified-lts.Need-byte-requires-2 (quantified-calls t) (quantified-at t) quantified.Post
+    quantified-Inv-loop quantified-μ-loop
 quantified-byte-requires-2 t c κs = search needs
 
-quantified-loop-holds : (t : ℕ) → quantified-lts.Need-loop-holds (quantified-calls t) (quantified-at t) quantified.Post quantified-Inv-loop quantified-μ-loop
+quantified-loop-holds : (t : ℕ) → quantified-lts.Need-loop-holds (quantified-calls t) (quantified-at t) quantified.Post quantified-Inv-loop
+    quantified-μ-loop
 quantified-loop-holds t c = (omega arith, quantifier-none (c .before .before .before .before .before .before .before .before .args .kind))
 
-quantified-bind-requires : (t : ℕ) → quantified-lts.Need-bind-requires (quantified-calls t) (quantified-at t) quantified.Post quantified-Inv-loop quantified-μ-loop
+quantified-bind-requires : (t : ℕ) → quantified-lts.Need-bind-requires (quantified-calls t) (quantified-at t) quantified.Post quantified-Inv-loop
+    quantified-μ-loop
 quantified-bind-requires t c κs =
     let s = c .before .before .before .before .before .before .before .before .before .before in
     (s .pre .1 .1 .1 .1, s .pre .1 .1 .0)
 
-quantified-formula-requires : (t : ℕ) → quantified-lts.Need-formula-requires (quantified-calls t) (quantified-at t) quantified.Post quantified-Inv-loop quantified-μ-loop
+quantified-formula-requires : (t : ℕ) → quantified-lts.Need-formula-requires (quantified-calls t) (quantified-at t) quantified.Post
+    quantified-Inv-loop quantified-μ-loop
 quantified-formula-requires t c κs =
     let s = c .before .before .before .before .before .before .before .before .before .before .before in
-    (omega (arith, s .pre .0), (s .pre .1 .0, (c .bind .ensures .0, s .pre .1 .1 .1 .0)))
+    (omega (arith, s .pre .0), (s .pre .1 .0, (search needs, s .pre .1 .1 .1 .0)))
 
-quantified-quantify-requires : (t : ℕ) → quantified-lts.Need-quantify-requires (quantified-calls t) (quantified-at t) quantified.Post quantified-Inv-loop quantified-μ-loop
+quantified-quantify-requires : (t : ℕ) → quantified-lts.Need-quantify-requires (quantified-calls t) (quantified-at t) quantified.Post
+    quantified-Inv-loop quantified-μ-loop
 quantified-quantify-requires t c κs = search needs
 
 quantified-add-k : (t : ℕ) → quantified-lts.Need-add-k (quantified-calls t) (quantified-at t) quantified.Post quantified-Inv-loop quantified-μ-loop
 quantified-add-k t c =
     let s = c .before .before .before .before .before .before .before .before .before .before .before .before .before in
-    let few : c .before .before .before .before .before .byte2 .result ≤ 8 = rw (c .before .before .before .before .before .byte2 .ensures .0) (s .pre .1 .0 .facts .scope-few (c .before .before .before .before .before .before .byte .result)) in
+    let few : c .before .before .before .before .before .byte2 .result ≤ 8 = rw (c .before .before .before .before .before .byte2 .ensures .0)
+    (s .pre .1 .0 .facts .scope-few (c .before .before .before .before .before .before .byte .result)) in
     omega arith
 
-quantified-loop-less : (t : ℕ) → quantified-lts.Need-loop-less (quantified-calls t) (quantified-at t) quantified.Post quantified-Inv-loop quantified-μ-loop
+quantified-loop-less : (t : ℕ) → quantified-lts.Need-loop-less (quantified-calls t) (quantified-at t) quantified.Post quantified-Inv-loop
+    quantified-μ-loop
 quantified-loop-less t c = omega arith
 
-quantified-loop-again : (t : ℕ) → quantified-lts.Need-loop-again (quantified-calls t) (quantified-at t) quantified.Post quantified-Inv-loop quantified-μ-loop
+quantified-loop-again : (t : ℕ) → quantified-lts.Need-loop-again (quantified-calls t) (quantified-at t) quantified.Post quantified-Inv-loop
+    quantified-μ-loop
 quantified-loop-again t c =
     let s = c .before .before .before .before .before .before .before .before .before .before .before .before .before in
     let sheet = fourBlocks (s .args .sorts .now) (s .args .variables .now) (s .args .relations .now) (s .args .nodes .now) in
     let f : ℕ → Bool
     = λ j. truthInTree sheet (s .args .instance .now) (bind (environmentOf (s .args .env)) (s .args .x) j) (treeAt sheet (s .args .body)) in
     let l = c .before .before .before .before .loop in
-    let e : c .before .formula .result ≡ f (l .k) = c .before .formula .ensures ∙ ap (λ e. truthInTree sheet (s .args .instance .now) e (treeAt sheet (s .args .body))) (c .before .before .bind .ensures .1) in (
+    let e : c .before .formula .result ≡ f (l .k) = c .before .formula .ensures
+    ∙ ap (λ e. truthInTree sheet (s .args .instance .now) e (treeAt sheet (s .args .body))) (c .before .before .bind .ensures .1) in (
       omega arith,
       quantifier-more (s .args .kind) f (l .k) (l .truth) (c .quantify .result) (l .inv .1) (rw (← e) (c .quantify .ensures)),
     )
 
-quantified-returns : (t : ℕ) → quantified-lts.Need-returns (quantified-calls t) (quantified-at t) quantified.Post quantified-Inv-loop quantified-μ-loop
+quantified-returns : (t : ℕ) → quantified-lts.Need-returns (quantified-calls t) (quantified-at t) quantified.Post quantified-Inv-loop
+    quantified-μ-loop
 quantified-returns t c =
     let s = c .before .before .before .before .before .before .before .before .before .before in
     let sheet = fourBlocks (s .args .sorts .now) (s .args .variables .now) (s .args .relations .now) (s .args .nodes .now) in
@@ -502,7 +599,8 @@ quantified-returns t c =
     = λ j. truthInTree sheet (s .args .instance .now) (bind (environmentOf (s .args .env)) (s .args .x) j) (treeAt sheet (s .args .body)) in
     let l = c .before .loop in
     let k : l .k ≡ c .before .before .byte2 .result = omega arith in
-    l .inv .1 ∙ ap (λ (m : ℕ). quantifierBy (s .args .kind) (map f (upto m))) (k ∙ c .before .before .byte2 .ensures .0 ∙ ap (byte (s .args .sorts .now)) (c .before .before .before .byte .ensures .0))
+    l .inv .1 ∙ ap (λ (m : ℕ). quantifierBy (s .args .kind) (map f (upto m)))
+    (k ∙ c .before .before .byte2 .ensures .0 ∙ ap (byte (s .args .sorts .now)) (c .before .before .before .byte .ensures .0))
 
 pub +comprehension+expression+formula+quantified-spec : {M : Type 1} → statement M
 +comprehension+expression+formula+quantified-spec =

@@ -1,6 +1,5 @@
 -- Kind by kind as the definition.
-use borrow.Author.Tests.{ne-eqb, eq-eqb}
-use Rattle.matrix.specs.Numbers.{combined}
+use borrow.Author.Tests.{ne-eqb}
 use borrow.Author.Needs.{needs}
 use Rattle.matrix.proofs.flags.combined.Statement.{statement}
 use Rattle.matrix.proofs.flags.combined.Tie as tie

@@ -1,6 +1,5 @@
 -- Kind by kind as the definition.
-use borrow.Author.Tests.{ne-eqb, eq-eqb}
-use Rattle.matrix.specs.Numbers.{compared}
+use borrow.Author.Tests.{ne-eqb}
 use borrow.Author.Needs.{needs}
 use Rattle.matrix.proofs.flags.compared.Statement.{statement}
 use Rattle.matrix.proofs.flags.compared.Tie as tie

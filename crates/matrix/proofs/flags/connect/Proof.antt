@@ -1,5 +1,5 @@
 -- Kind by kind as the definition.
-use borrow.Author.Tests.{ne-eqb, eq-eqb}
+use borrow.Author.Tests.{ne-eqb}
 use Rattle.matrix.specs.Numbers.{connectiveBy}
 use borrow.Author.Needs.{needs}
 use Rattle.matrix.proofs.flags.connect.Statement.{statement}

@@ -1,10 +1,9 @@
 -- The invariant: the cells before k are filled.
 use borrow.Author.Needs.{needs}
-use mathlib.Core.Path.{_≡_, refl, sym, ap, _∙_}
-use Prim.Native.Nat.{ℕ, _≤_, _<_, _-_, _+_, _*_, _/_, _%_}
+use mathlib.Core.Path.{refl}
+use Prim.Native.Nat.{_≤_, _-_}
 use native.Mathlib.Omega.{arith}
-use lib.Dec.{eqb}
-use mathlib.Core.Bool.{Bool, true, false}
+use mathlib.Core.Bool.{true}
 use Rattle.matrix.proofs.Filling.{Filled, filled-none, filled-more}
 use Rattle.matrix.proofs.Results.{upto-law}
 use Rattle.matrix.proofs.leaves.full.Statement.{statement}

@@ -1,7 +1,7 @@
 -- The invariant: the cells before k are filled from the bytes.
 use borrow.Author.Needs.{needs}
-use mathlib.Core.Path.{_≡_, refl, sym, ap, _∙_}
-use Prim.Native.Nat.{ℕ, _≤_, _<_, _-_, _+_, _*_, _/_, _%_}
+use mathlib.Core.Path.{ap}
+use Prim.Native.Nat.{ℕ, _≤_, _-_, _+_}
 use native.Mathlib.Omega.{arith}
 use lib.Dec.{eqb}
 use Rattle.sheet.specs.Blocks.{byte}
@@ -41,7 +41,8 @@ loop-again : tie.Need-loop-again Inv-loop μ-loop
 loop-again c =
     let l = c .before .before .loop in (
       omega arith,
-      filled-more (l .cells) _ (l .k) _ (l .inv .1) (omega (arith, c .before .before .before .size .ensures .1)) (ap (λ (b : ℕ). eqb b 1) (c .byte .ensures .0)),
+      filled-more (l .cells) _ (l .k) _ (l .inv .1) (omega (arith, c .before .before .before .size .ensures .1))
+          (ap (λ (b : ℕ). eqb b 1) (c .byte .ensures .0)),
     )
 
 returns : tie.Need-returns Inv-loop μ-loop

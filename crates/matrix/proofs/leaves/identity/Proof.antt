@@ -1,11 +1,10 @@
 -- The invariant: the cells before k are filled.
 use borrow.Author.Needs.{needs}
 use Rattle.matrix.proofs.Filling.{Filled, filled-none, filled-more, some-column}
-use mathlib.Core.Path.{_≡_, refl, sym, ap, _∙_}
-use Prim.Native.Nat.{ℕ, _≤_, _<_, _-_, _+_, _*_, _/_, _%_}
+use mathlib.Core.Path.{refl}
+use Prim.Native.Nat.{_≤_, _-_, _/_, _%_}
 use native.Mathlib.Omega.{arith}
 use lib.Dec.{eqb}
-use mathlib.Core.Bool.{Bool, true, false}
 use Rattle.matrix.proofs.Filling.{Filled, filled-none, filled-more}
 use Rattle.matrix.proofs.Results.{places-law}
 use Rattle.matrix.proofs.leaves.identity.Statement.{statement}

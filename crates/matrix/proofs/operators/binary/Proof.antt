@@ -1,8 +1,6 @@
 -- Kind by kind as the definition.
 use Rattle.matrix.specs.Numbers.{binaryBy}
-use borrow.Author.Needs.{needs}
-use mathlib.Core.Path.{_≡_, refl, sym, ap, _∙_}
-use borrow.Author.Tests.{ne-eqb, eq-eqb}
+use borrow.Author.Tests.{ne-eqb}
 use Rattle.matrix.proofs.operators.binary.Statement.{statement}
 use Rattle.matrix.proofs.operators.binary.Tie as tie
 

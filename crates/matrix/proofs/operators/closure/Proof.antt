@@ -1,10 +1,8 @@
 -- The invariant: k rounds are done.
 use borrow.Author.Needs.{needs}
 use mathlib.Core.Path.{_≡_, refl, sym, ap, _∙_}
-use Prim.Native.Nat.{ℕ, _≤_, _<_, _-_, _+_, _*_, _/_, _%_}
+use Prim.Native.Nat.{ℕ, _≤_, _-_}
 use native.Mathlib.Omega.{arith}
-use mathlib.Core.Bool.{Bool, true, false}
-use Rattle.relational.specs.Matrices.{Matrix}
 use Rattle.relational.specs.Evaluation.{roundOf, afterRounds}
 use native.Mathlib.Numerals.{add-one}
 use Rattle.matrix.specs.Values.{matrixOf, Gives}

@@ -1,9 +1,8 @@
 -- The invariant: the cells before k are combined, the others false.
 use borrow.Author.Needs.{needs}
-use mathlib.Core.Path.{_≡_, refl, sym, ap, _∙_}
-use Prim.Native.Nat.{ℕ, _≤_, _<_, _-_, _+_, _*_, _/_, _%_}
+use Prim.Native.Nat.{_≤_, _-_}
 use native.Mathlib.Omega.{arith}
-use mathlib.Core.Bool.{Bool, true, false}
+use mathlib.Core.Bool.{false}
 use lib.ListN.{getD}
 use Rattle.matrix.specs.Numbers.{combined}
 use Rattle.matrix.proofs.Filling.{Filled, filled-none, filled-more}
@@ -45,7 +44,8 @@ loop-again : tie.Need-loop-again Inv-loop μ-loop
 loop-again c =
     let l = c .before .before .before .before .loop in (
       omega arith,
-      filled-more (l .cells) _ (l .k) (c .combined .result) (l .inv .1) (omega (arith, c .before .before .before .before .before .size .ensures .1)) (c .combined .ensures),
+      filled-more (l .cells) _ (l .k) (c .combined .result) (l .inv .1)
+          (omega (arith, c .before .before .before .before .before .size .ensures .1)) (c .combined .ensures),
     )
 
 returns : tie.Need-returns Inv-loop μ-loop

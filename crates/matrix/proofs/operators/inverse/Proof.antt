@@ -1,9 +1,9 @@
 -- The invariant: the cells before k are transposed.
 use borrow.Author.Needs.{needs}
-use mathlib.Core.Path.{_≡_, refl, sym, ap, _∙_}
+use mathlib.Core.Path.{ap}
 use Prim.Native.Nat.{ℕ, _≤_, _<_, _-_, _+_, _*_, _/_, _%_}
 use native.Mathlib.Omega.{arith}
-use mathlib.Core.Bool.{Bool, true, false}
+use mathlib.Core.Bool.{false}
 use lib.ListN.{getD}
 use Rattle.matrix.proofs.Filling.{Filled, filled-none, filled-more, row-below, column-below, some-column}
 use Rattle.matrix.proofs.Results.{inverse-law}
@@ -24,11 +24,19 @@ loop-holds c = (omega arith, filled-none _)
 
 rem-index : tie.Need-rem-index Inv-loop μ-loop
 rem-index c =
-    omega (arith, some-column (c .before .before .before .args .t1 .columns) (c .before .before .before .args .t1 .rows) (c .before .loop .k) (omega (arith, c .before .before .size .ensures .0)))
+    omega (
+      arith,
+      some-column (c .before .before .before .args .t1 .columns) (c .before .before .before .args .t1 .rows) (c .before .loop .k)
+          (omega (arith, c .before .before .size .ensures .0)),
+    )
 
 div-index : tie.Need-div-index Inv-loop μ-loop
 div-index c =
-    omega (arith, some-column (c .before .before .before .args .t1 .columns) (c .before .before .before .args .t1 .rows) (c .before .loop .k) (omega (arith, c .before .before .size .ensures .0)))
+    omega (
+      arith,
+      some-column (c .before .before .before .args .t1 .columns) (c .before .before .before .args .t1 .rows) (c .before .loop .k)
+          (omega (arith, c .before .before .size .ensures .0)),
+    )
 
 index-requires : tie.Need-index-requires Inv-loop μ-loop
 index-requires c κs =

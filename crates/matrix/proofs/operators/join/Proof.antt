@@ -1,10 +1,10 @@
 -- The invariant: the cells before k are joined.
 use borrow.Author.Needs.{needs}
-use mathlib.Core.Path.{_≡_, refl, sym, ap, _∙_}
-use Prim.Native.Nat.{ℕ, _≤_, _<_, _-_, _+_, _*_, _/_, _%_}
+use mathlib.Core.Path.{_≡_}
+use Prim.Native.Nat.{_≤_, _<_, _-_, _*_, _/_, _%_}
 use native.Mathlib.Omega.{arith}
-use mathlib.Core.Bool.{Bool, true, false}
-use Rattle.prelude.specs.Tests.{any, all}
+use mathlib.Core.Bool.{false}
+use Rattle.prelude.specs.Tests.{any}
 use Rattle.relational.specs.Matrices.{middles}
 use Rattle.relational.specs.Evaluation.{both}
 use Rattle.matrix.specs.Values.{matrixOf}
@@ -103,7 +103,8 @@ returns-2 c =
     let s = c .before .before .before .before .before .size in
     let k : l .k ≡ s .result = omega arith in
     rw (← k)
-    (join-law (a .args .p) (a .args .q) (a .pre .0) (a .pre .1) (l .cells) (l .k) (w .result) (w .ensures .0) (omega (arith, s .ensures .0)) (l .inv .1) .1
+    (join-law (a .args .p) (a .args .q) (a .pre .0) (a .pre .1) (l .cells) (l .k) (w .result) (w .ensures .0) (omega (arith, s .ensures .0))
+    (l .inv .1) .1
     (c .if1 .left))
 
 pub join-spec : {M : Type 1} → statement M

@@ -1,12 +1,12 @@
 -- The invariant: a middle atom below k is found.
 use borrow.Author.Needs.{needs}
-use mathlib.Core.Path.{_≡_, refl, sym, ap, _∙_}
-use Prim.Native.Nat.{ℕ, _≤_, _<_, _-_, _+_, _*_, _/_, _%_}
+use mathlib.Core.Path.{_≡_, ap, _∙_}
+use Prim.Native.Nat.{ℕ, _≤_, _-_, _+_, _*_}
 use native.Mathlib.Omega.{arith}
-use mathlib.Core.Bool.{Bool, true, false}
+use mathlib.Core.Bool.{Bool, false}
 use lib.ListN.{getD}
 use mathlib.Core.List.{map}
-use Rattle.prelude.specs.Tests.{any, all}
+use Rattle.prelude.specs.Tests.{any}
 use Rattle.relational.specs.Matrices.{upto}
 use Rattle.relational.specs.Evaluation.{both}
 use Rattle.matrix.proofs.Counting.{any-none, any-more}

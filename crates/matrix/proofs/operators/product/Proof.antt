@@ -1,9 +1,8 @@
 -- The invariant: the cells before k are paired.
 use borrow.Author.Needs.{needs}
-use mathlib.Core.Path.{_≡_, refl, sym, ap, _∙_}
-use Prim.Native.Nat.{ℕ, _≤_, _<_, _-_, _+_, _*_, _/_, _%_}
+use Prim.Native.Nat.{_≤_, _-_, _/_, _%_}
 use native.Mathlib.Omega.{arith}
-use mathlib.Core.Bool.{Bool, true, false}
+use mathlib.Core.Bool.{false}
 use lib.ListN.{getD}
 use Rattle.relational.specs.Evaluation.{both}
 use Rattle.matrix.proofs.Filling.{Filled, filled-none, filled-more, row-below, column-below, some-column}
@@ -26,11 +25,19 @@ loop-holds c = (omega arith, filled-none _)
 
 div-i : tie.Need-div-i Inv-loop μ-loop
 div-i c =
-    omega (arith, some-column (c .before .before .before .args .t1 .columns) (c .before .before .before .args .t2 .columns) (c .before .loop .k) (omega (arith, c .before .before .size .ensures .0)))
+    omega (
+      arith,
+      some-column (c .before .before .before .args .t1 .columns) (c .before .before .before .args .t2 .columns) (c .before .loop .k)
+          (omega (arith, c .before .before .size .ensures .0)),
+    )
 
 rem-j : tie.Need-rem-j Inv-loop μ-loop
 rem-j c =
-    omega (arith, some-column (c .before .before .before .args .t1 .columns) (c .before .before .before .args .t2 .columns) (c .before .loop .k) (omega (arith, c .before .before .size .ensures .0)))
+    omega (
+      arith,
+      some-column (c .before .before .before .args .t1 .columns) (c .before .before .before .args .t2 .columns) (c .before .loop .k)
+          (omega (arith, c .before .before .size .ensures .0)),
+    )
 
 element-copy-out-both : tie.Need-element-copy-out-both Inv-loop μ-loop
 element-copy-out-both c =
@@ -46,7 +53,8 @@ element-copy-out-both-2 c =
     let a = c .before .before .before .before in
     omega (
       arith,
-      column-below (a .args .t1 .columns) (a .args .t2 .columns) (c .before .before .loop .k) (omega (arith, c .before .before .before .size .ensures .0)),
+      column-below (a .args .t1 .columns) (a .args .t2 .columns) (c .before .before .loop .k)
+          (omega (arith, c .before .before .before .size .ensures .0)),
       a .pre .1 .few-columns,
     )
 

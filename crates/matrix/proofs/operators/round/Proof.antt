@@ -1,6 +1,5 @@
 -- The join, then the union with the old cells.
-use borrow.Author.Needs.{needs}
-use mathlib.Core.Path.{_≡_, refl, sym, ap, _∙_}
+use mathlib.Core.Path.{ap}
 use Rattle.relational.specs.Evaluation.{valueBinary}
 use Rattle.relational.specs.Trees.{union}
 use Rattle.matrix.specs.Values.{matrixOf}

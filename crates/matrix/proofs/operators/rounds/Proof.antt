@@ -1,7 +1,7 @@
 -- The invariant: the power is 2^k, and all powers before it are below n.
 use borrow.Author.Needs.{needs}
-use mathlib.Core.Path.{_≡_, refl, sym, ap, _∙_}
-use Prim.Native.Nat.{ℕ, _≤_, _<_, _-_, _+_, _*_, _^_, _/_, _%_}
+use mathlib.Core.Path.{_≡_, refl}
+use Prim.Native.Nat.{ℕ, _<_, _-_, _^_}
 use native.Mathlib.Omega.{arith}
 use Rattle.relational.proofs.Rounds.{rounds-is}
 use Rattle.matrix.proofs.Powers.{power-next, powers-more}

@@ -1,7 +1,6 @@
 -- Kind by kind as the definition.
 use Rattle.matrix.specs.Numbers.{unaryBy}
 use borrow.Author.Tests.{ne-eqb}
-use borrow.Author.Needs.{needs}
 use Rattle.matrix.proofs.operators.unary.Statement.{statement}
 use Rattle.matrix.proofs.operators.unary.Tie as tie
 

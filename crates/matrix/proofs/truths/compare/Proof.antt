@@ -1,12 +1,12 @@
 -- The invariant: the cells before k compare.
 use borrow.Author.Needs.{needs}
-use mathlib.Core.Path.{_≡_, refl, sym, ap, _∙_}
-use Prim.Native.Nat.{ℕ, _≤_, _<_, _-_, _+_, _*_, _/_, _%_}
+use mathlib.Core.Path.{_≡_, sym, ap, _∙_}
+use Prim.Native.Nat.{ℕ, _≤_, _-_, _*_}
 use native.Mathlib.Omega.{arith}
-use mathlib.Core.Bool.{Bool, true, false}
+use mathlib.Core.Bool.{Bool, false}
 use lib.ListN.{getD}
 use mathlib.Core.List.{map}
-use Rattle.prelude.specs.Tests.{any, all}
+use Rattle.prelude.specs.Tests.{all}
 use Rattle.relational.specs.Matrices.{upto}
 use Rattle.matrix.specs.Numbers.{compared, comparisonBy}
 use Rattle.matrix.proofs.Counting.{all-none, all-more}

@@ -1,9 +1,8 @@
 -- The invariant: the flags before k are counted.
-use borrow.Author.Needs.{needs}
-use mathlib.Core.Path.{_≡_, refl, sym, ap, _∙_}
-use Prim.Native.Nat.{ℕ, _≤_, _<_, _-_, _+_, _*_, _/_, _%_}
+use mathlib.Core.Path.{_≡_, refl}
+use Prim.Native.Nat.{_≤_, _<_, _-_, _*_}
 use native.Mathlib.Omega.{arith}
-use mathlib.Core.Bool.{Bool, true, false}
+use mathlib.Core.Bool.{false}
 use lib.ListN.{getD, take, length}
 use Rattle.relational.specs.Evaluation.{count}
 use Rattle.matrix.proofs.Counting.{count-take, counted-most}
@@ -50,7 +49,8 @@ loop-again c =
 returns : tie.Need-returns Inv-loop μ-loop
 returns c =
     let l = c .before .loop in
-    let k : l .k ≡ c .before .before .before .args .t1 .rows * c .before .before .before .args .t1 .columns = omega (arith, c .before .before .size .ensures .0) in
+    let k : l .k ≡ c .before .before .before .args .t1 .rows * c .before .before .before .args .t1 .columns = omega
+    (arith, c .before .before .size .ensures .0) in
     rw (← k) (l .inv .1 .1)
 
 pub count-spec : {M : Type 1} → statement M

@@ -1,6 +1,6 @@
 -- Mark by mark as the definition.
-use mathlib.Core.Path.{_≡_, refl, sym, ap, _∙_}
-use borrow.Author.Tests.{ne-eqb, eq-eqb}
+use mathlib.Core.Path.{refl}
+use borrow.Author.Tests.{ne-eqb}
 use Rattle.matrix.specs.Numbers.{rowBy}
 use borrow.Author.Needs.{needs}
 use Rattle.matrix.proofs.truths.row_holds.Statement.{statement}

@@ -1,6 +1,6 @@
 -- Kind by kind as the definition.
-use mathlib.Core.Path.{_≡_, refl, sym, ap, _∙_}
-use borrow.Author.Tests.{ne-eqb, eq-eqb}
+use mathlib.Core.Path.{refl}
+use borrow.Author.Tests.{ne-eqb}
 use Rattle.matrix.specs.Numbers.{testBy}
 use borrow.Author.Needs.{needs}
 use Rattle.matrix.proofs.truths.test.Statement.{statement}
