@@ -6,11 +6,15 @@ use Rattle.refusal.specs.Refusals.{numberOf}
 use Rattle.sheet.specs.declared.Reading.{Reading}
 use Rattle.sheet.specs.declared.Reading.the-variants.{Accepted, Refused}
 use Rattle.instance.specs.Answers as checked
+use Rattle.clauses.specs.Answers as counted
 use Rattle.dimacs.specs.Answers as text
 use Rattle.search.specs.Answers as searched
-use Rattle.boundary.specs.declared.CheckAnswer.{CheckAnswer}
-use Rattle.boundary.specs.declared.SearchAnswer.{SearchAnswer}
-use Rattle.boundary.specs.declared.TextAnswer.{TextAnswer}
+use Rattle.solve.specs.Answers as back
+use Rattle.boundary.specs.declared.sheets.CheckAnswer.{CheckAnswer}
+use Rattle.boundary.specs.declared.lists.CountAnswer.{CountAnswer}
+use Rattle.boundary.specs.declared.runs.SearchAnswer.{SearchAnswer}
+use Rattle.boundary.specs.declared.runs.ReadBackAnswer.{ReadBackAnswer}
+use Rattle.boundary.specs.declared.lists.TextAnswer.{TextAnswer}
 
 -- reading
 abbrev pub readNumber : Reading → ℕ
@@ -29,7 +33,12 @@ pub record Checked (sheet instance : List ℕ) (numbers : CheckAnswer) : Type 0 
   pub answers : checked.CheckAnswers sheet instance answer
   pub in-numbers : numbers ≡ checkNumbers answer
 
--- the search
+-- counting and writing
+abbrev pub countNumbers : counted.Answer → CountAnswer
+countNumbers (counted.fits v c w) = record { refusal = 0; variables = v; clauses = c; words = w }
+countNumbers (counted.refused n) = record { refusal = n; variables = 0; clauses = 0; words = 0 }
+
+-- the search, and the whole run
 abbrev pub searchNumbers : searched.Answer → SearchAnswer
 searchNumbers (searched.found n) = record { refusal = 0; end = 1; steps = n }
 searchNumbers (searched.none n) = record { refusal = 0; end = 2; steps = n }
@@ -40,3 +49,8 @@ searchNumbers (searched.refused n) = record { refusal = n; end = 0; steps = 0 }
 abbrev pub textNumbers : text.Answer → TextAnswer
 textNumbers (text.bytes n) = record { refusal = 0; bytes = n }
 textNumbers (text.refused n) = record { refusal = n; bytes = 0 }
+
+-- read-back
+abbrev pub copyNumbers : back.Answer → ReadBackAnswer
+copyNumbers (back.copied n) = record { refusal = 0; cells = n }
+copyNumbers (back.refused n) = record { refusal = n; cells = 0 }

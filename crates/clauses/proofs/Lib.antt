@@ -1,2 +1,6 @@
 pub mod Answered
 pub mod Cases
+mod CellWords
+mod Sheets
+mod Translation
+mod Answering

@@ -7,9 +7,8 @@
 --   `writeAnswer`, `listAfter`         `clauses::write`: its answer, and the lent list afterwards, equal them
 --   `outcome`                          `search::search`: its answer, and the lent values and trail afterwards, equal its fields
 --   `readBackAnswer`, `instanceAfter`  `solve::read_back`: its answer, and the lent instance afterwards, equal them
--- Counting, writing and read-back have definitions and no code yet: the contracts named for them land with their code.
 -- `Solution` (an instance within the scopes that satisfies marks and formula), `Satisfying` and `EndedWithin` are no code's answer:
--- they are the paper's words, in clauses/specs/Matching, clause_list/specs/ClauseList and search_rules/specs/Run.
+-- they are the paper's words, in encoding/specs/Matching, clause_list/specs/ClauseList and search_rules/specs/Run.
 use mathlib.Core.Path.{_≡_}
 use mathlib.Core.Logic.{_↔_}
 use mathlib.Core.List.{List, [], _++_}

@@ -1,4 +1,4 @@
--- Demand 3 of one call of `find`, in the paper's words: a part of the contract that its code will carry. The other part says that the answer and all lent slices
+-- Demand 3 of one call of `find`, in the paper's words: a part of its contract. The other part says that the answer and all lent slices
 -- equal the definition `finding`, which has the number of each refusal.
 use mathlib.Core.Path.{_≡_}
 use mathlib.Core.Logic.{_↔_}

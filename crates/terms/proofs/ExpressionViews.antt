@@ -6,13 +6,13 @@ use Rattle.kinds.specs.Kinds.{rowOf}
 use Rattle.sheet.specs.Blocks.{Sheet, variableCount, relationCount, nodeCount, kind, fieldA, fieldB}
 use Rattle.sheet.specs.Reading.{fieldFine}
 use Rattle.sheet.specs.Facts.{Facts}
-use Rattle.relational.specs.Trees.{Leaf, relation, Binary, Unary, Comparison, Test, Connective, Quantifier, Expression, leaf, binary, unary, comprehension, Formula, comparison, test, negation, connective, quantified, Symbol, leaf-symbol, binary-symbol, unary-symbol, comparison-symbol, test-symbol, connective-symbol, quantifier-symbol, comprehension-symbol, negation-symbol, unknown-symbol, symbolOf, expression, formula}
+use Rattle.relational.specs.Trees.{Leaf, relation, Binary, Unary, Expression, leaf, binary, unary, comprehension, Formula, Symbol, leaf-symbol, binary-symbol, unary-symbol, comparison-symbol, test-symbol, connective-symbol, quantifier-symbol, comprehension-symbol, negation-symbol, unknown-symbol, symbolOf, treeBy, expression, formula}
 use Rattle.terms.specs.declared.nodes.ExpressionForm.{ExpressionForm}
 use Rattle.terms.specs.declared.nodes.ExpressionForm.the-variants as form
 use Rattle.terms.specs.declared.nodes.Node.{Node}
 use Rattle.terms.specs.Nodes.{expressionForm, nodeAt, treeAt}
 use Rattle.terms.proofs.Rows.{rowBy, row-by}
-use Rattle.terms.proofs.Views.{expressed, formed, whole-expression, no-both, formBy, form-by, field-a, field-b, before, tree-by, earlier, lower, same-expression}
+use Rattle.terms.proofs.Views.{expressed, formed, whole-expression, no-both, formBy, form-by, field-a, field-b, before, tree-of, tree-by, lower, same-expression}
 
 module _ (sheet : Sheet) (v : ℕ) (node : Node) where
   pub record LeafAt (e : Expression) : Type 0 where
@@ -54,7 +54,13 @@ module _ (sheet : Sheet) (v : ℕ) (node : Node) where
     comprehension-view : ComprehensionAt e → ExpressionView e form.Comprehension
 
 module _ (sheet : Sheet) (fine : Facts sheet) (v : ℕ) (there : v < nodeCount sheet) (e : Expression) (h : treeAt sheet v ≡ expression e) where
-  relation-lower : (l : Leaf) → l ≡ relation → fieldFine sheet (rowBy (leaf-symbol l) .a) v (fieldA sheet v) ≡ true → fieldA sheet v < relationCount sheet
+  -- the tree grows from the trees before it
+  grown : (s : Symbol) → symbolOf (kind sheet v) ≡ s
+      → treeBy s (fieldA sheet v) (before sheet v (fieldA sheet v)) (before sheet v (fieldB sheet v)) ≡ expression e
+  grown s q = sym (tree-by sheet fine v there s q) ∙ h
+
+  relation-lower : (l : Leaf) → l ≡ relation → fieldFine sheet (rowBy (leaf-symbol l) .a) v (fieldA sheet v) ≡ true
+      → fieldA sheet v < relationCount sheet
   relation-lower l p f = lower (fieldA sheet v) (relationCount sheet) (rw p at f)
 
   expression-by : (s : Symbol) → symbolOf (kind sheet v) ≡ s → ExpressionView sheet v (nodeAt (sheet .nodes) v) e (formBy s)
@@ -65,14 +71,14 @@ module _ (sheet : Sheet) (fine : Facts sheet) (v : ℕ) (there : v < nodeCount s
         it = l;
         symbol = q;
         relation = λ p. relation-lower l p (field-a sheet fine v there s q);
-        is = same-expression (sym (tree-by sheet fine v there s q) ∙ h);
+        is = same-expression (grown s q);
       })
   expression-by (binary-symbol o) q =
       let s : Symbol = binary-symbol o in
       let a : fieldA sheet v < v = lower (fieldA sheet v) v (field-a sheet fine v there s q) in
       let b : fieldB sheet v < v = lower (fieldB sheet v) v (field-b sheet fine v there s q) in
-      let t = expressed (before sheet fine v there s q (fieldA sheet v)) _ (expression e) (whole-expression e) (sym (tree-by sheet fine v there s q) ∙ h) in
-      let u = expressed (before sheet fine v there s q (fieldB sheet v)) _ (expression e) (whole-expression e) (t .grown) in
+      let t = expressed (before sheet v (fieldA sheet v)) _ _ (whole-expression e) (grown s q) in
+      let u = expressed (before sheet v (fieldB sheet v)) _ _ (whole-expression e) (t .grown) in
       binary-view
       (record {
         it = o;
@@ -80,64 +86,67 @@ module _ (sheet : Sheet) (fine : Facts sheet) (v : ℕ) (there : v < nodeCount s
         lower-a = a;
         lower-b = b;
         p = t .it;
-        left = sym (earlier sheet fine v there s q (fieldA sheet v) a) ∙ t .is;
+        left = tree-of sheet v there a (t .is);
         q = u .it;
-        right = sym (earlier sheet fine v there s q (fieldB sheet v) b) ∙ u .is;
+        right = tree-of sheet v there b (u .is);
         is = same-expression (u .grown);
       })
   expression-by (unary-symbol o) q =
       let s : Symbol = unary-symbol o in
       let a : fieldA sheet v < v = lower (fieldA sheet v) v (field-a sheet fine v there s q) in
-      let t = expressed (before sheet fine v there s q (fieldA sheet v)) _ (expression e) (whole-expression e) (sym (tree-by sheet fine v there s q) ∙ h) in
+      let t = expressed (before sheet v (fieldA sheet v)) _ _ (whole-expression e) (grown s q) in
       unary-view
       (record {
         it = o;
         symbol = q;
         lower-a = a;
         p = t .it;
-        left = sym (earlier sheet fine v there s q (fieldA sheet v) a) ∙ t .is;
+        left = tree-of sheet v there a (t .is);
         is = same-expression (t .grown);
       })
   expression-by (comparison-symbol o) q =
       let s : Symbol = comparison-symbol o in
-      let t = expressed (before sheet fine v there s q (fieldA sheet v)) _ (expression e) (whole-expression e) (sym (tree-by sheet fine v there s q) ∙ h) in
-      let u = expressed (before sheet fine v there s q (fieldB sheet v)) _ (expression e) (whole-expression e) (t .grown) in
+      let t = expressed (before sheet v (fieldA sheet v)) _ _ (whole-expression e) (grown s q) in
+      let u = expressed (before sheet v (fieldB sheet v)) _ _ (whole-expression e) (t .grown) in
       no-both e _ (u .grown)
   expression-by (test-symbol o) q =
       let s : Symbol = test-symbol o in
-      let t = expressed (before sheet fine v there s q (fieldA sheet v)) _ (expression e) (whole-expression e) (sym (tree-by sheet fine v there s q) ∙ h) in
+      let t = expressed (before sheet v (fieldA sheet v)) _ _ (whole-expression e) (grown s q) in
       no-both e _ (t .grown)
   expression-by (connective-symbol o) q =
       let s : Symbol = connective-symbol o in
-      let t = formed (before sheet fine v there s q (fieldA sheet v)) _ (expression e) (whole-expression e) (sym (tree-by sheet fine v there s q) ∙ h) in
-      let u = formed (before sheet fine v there s q (fieldB sheet v)) _ (expression e) (whole-expression e) (t .grown) in
+      let t = formed (before sheet v (fieldA sheet v)) _ _ (whole-expression e) (grown s q) in
+      let u = formed (before sheet v (fieldB sheet v)) _ _ (whole-expression e) (t .grown) in
       no-both e _ (u .grown)
   expression-by (quantifier-symbol o) q =
       let s : Symbol = quantifier-symbol o in
-      let t = formed (before sheet fine v there s q (fieldB sheet v)) _ (expression e) (whole-expression e) (sym (tree-by sheet fine v there s q) ∙ h) in
+      let t = formed (before sheet v (fieldB sheet v)) _ _ (whole-expression e) (grown s q) in
       no-both e _ (t .grown)
   expression-by comprehension-symbol q =
       let s : Symbol = comprehension-symbol in
       let b : fieldB sheet v < v = lower (fieldB sheet v) v (field-b sheet fine v there s q) in
-      let t = formed (before sheet fine v there s q (fieldB sheet v)) _ (expression e) (whole-expression e) (sym (tree-by sheet fine v there s q) ∙ h) in
+      let t = formed (before sheet v (fieldB sheet v)) _ _ (whole-expression e) (grown s q) in
       comprehension-view
       (record {
         names = lower (fieldA sheet v) (variableCount sheet) (field-a sheet fine v there s q);
         lower-b = b;
         f = t .it;
-        body = sym (earlier sheet fine v there s q (fieldB sheet v) b) ∙ t .is;
+        body = tree-of sheet v there b (t .is);
         is = same-expression (t .grown);
       })
   expression-by negation-symbol q =
       let s : Symbol = negation-symbol in
-      let t = formed (before sheet fine v there s q (fieldA sheet v)) _ (expression e) (whole-expression e) (sym (tree-by sheet fine v there s q) ∙ h) in
+      let t = formed (before sheet v (fieldA sheet v)) _ _ (whole-expression e) (grown s q) in
       no-both e _ (t .grown)
-  expression-by unknown-symbol q = absurd (whole-expression e (sym h ∙ tree-by sheet fine v there unknown-symbol q))
+  expression-by unknown-symbol q = absurd (whole-expression e (sym (grown unknown-symbol q)))
 
-  expression-view : (x : ExpressionForm) → expressionForm (rowOf (kind sheet v) .rule) ≡ x → ExpressionView sheet v (nodeAt (sheet .nodes) v) e x
+  form-of : expressionForm (rowOf (kind sheet v) .rule) ≡ formBy (symbolOf (kind sheet v))
+  form-of = rw (row-by (kind sheet v)) (form-by (symbolOf (kind sheet v)))
+
+  expression-view : (x : ExpressionForm) → expressionForm (rowOf (kind sheet v) .rule) ≡ x
+      → ExpressionView sheet v (nodeAt (sheet .nodes) v) e x
   expression-view x p =
-      let z : expressionForm (rowOf (kind sheet v) .rule) ≡ formBy (symbolOf (kind sheet v)) = rw (row-by (kind sheet v)) (form-by (symbolOf (kind sheet v))) in
-      let w : formBy (symbolOf (kind sheet v)) ≡ x = sym z ∙ p in
+      let w : formBy (symbolOf (kind sheet v)) ≡ x = sym form-of ∙ p in
       rw (← w) (expression-by (symbolOf (kind sheet v)) refl)
 
   module _ {node : Node} (en : node ≡ nodeAt (sheet .nodes) v) where

@@ -1,17 +1,16 @@
 -- What the tree of a node and its form say of the node's symbol, its fields, and the trees of the nodes that they name: formulas.
 use mathlib.Core.Path.{_≡_, refl, sym, _∙_}
-use mathlib.Core.Bool.{true}
 use Prim.Native.Nat.{ℕ, _<_}
 use Rattle.kinds.specs.Kinds.{rowOf}
 use Rattle.sheet.specs.Blocks.{Sheet, variableCount, nodeCount, kind, fieldA, fieldB}
 use Rattle.sheet.specs.Facts.{Facts}
-use Rattle.relational.specs.Trees.{Leaf, Binary, Unary, Comparison, Test, Connective, Quantifier, Expression, leaf, binary, unary, comprehension, Formula, comparison, test, negation, connective, quantified, Symbol, leaf-symbol, binary-symbol, unary-symbol, comparison-symbol, test-symbol, connective-symbol, quantifier-symbol, comprehension-symbol, negation-symbol, unknown-symbol, symbolOf, expression, formula}
+use Rattle.relational.specs.Trees.{Comparison, Test, Connective, Quantifier, Expression, leaf, Formula, comparison, test, negation, connective, quantified, Symbol, leaf-symbol, binary-symbol, unary-symbol, comparison-symbol, test-symbol, connective-symbol, quantifier-symbol, comprehension-symbol, negation-symbol, unknown-symbol, symbolOf, treeBy, expression, formula}
 use Rattle.terms.specs.declared.nodes.FormulaForm.{FormulaForm}
 use Rattle.terms.specs.declared.nodes.FormulaForm.the-variants as claim
 use Rattle.terms.specs.declared.nodes.Node.{Node}
 use Rattle.terms.specs.Nodes.{formulaForm, nodeAt, treeAt}
 use Rattle.terms.proofs.Rows.{row-by}
-use Rattle.terms.proofs.Views.{expressed, formed, whole-formula, no-both, claimBy, claim-by, field-a, field-b, before, tree-by, earlier, lower, same-formula}
+use Rattle.terms.proofs.Views.{expressed, formed, whole-formula, no-both, claimBy, claim-by, field-a, field-b, before, tree-of, tree-by, lower, same-formula}
 
 module _ (sheet : Sheet) (v : ℕ) (node : Node) where
   pub record ComparisonAt (f : Formula) : Type 0 where
@@ -67,23 +66,28 @@ module _ (sheet : Sheet) (v : ℕ) (node : Node) where
     quantifier-view : QuantifierAt f → FormulaView f claim.Quantifier
 
 module _ (sheet : Sheet) (fine : Facts sheet) (v : ℕ) (there : v < nodeCount sheet) (f : Formula) (h : treeAt sheet v ≡ formula f) where
+  -- the tree grows from the trees before it
+  grown : (s : Symbol) → symbolOf (kind sheet v) ≡ s
+      → treeBy s (fieldA sheet v) (before sheet v (fieldA sheet v)) (before sheet v (fieldB sheet v)) ≡ formula f
+  grown s q = sym (tree-by sheet fine v there s q) ∙ h
+
   formula-by : (s : Symbol) → symbolOf (kind sheet v) ≡ s → FormulaView sheet v (nodeAt (sheet .nodes) v) f (claimBy s)
-  formula-by (leaf-symbol l) q = no-both (leaf l (fieldA sheet v)) f (sym h ∙ tree-by sheet fine v there (leaf-symbol l) q)
+  formula-by (leaf-symbol l) q = no-both (leaf l (fieldA sheet v)) f (sym (grown (leaf-symbol l) q))
   formula-by (binary-symbol o) q =
       let s : Symbol = binary-symbol o in
-      let t = expressed (before sheet fine v there s q (fieldA sheet v)) _ (formula f) (whole-formula f) (sym (tree-by sheet fine v there s q) ∙ h) in
-      let u = expressed (before sheet fine v there s q (fieldB sheet v)) _ (formula f) (whole-formula f) (t .grown) in
+      let t = expressed (before sheet v (fieldA sheet v)) _ _ (whole-formula f) (grown s q) in
+      let u = expressed (before sheet v (fieldB sheet v)) _ _ (whole-formula f) (t .grown) in
       no-both _ f (sym (u .grown))
   formula-by (unary-symbol o) q =
       let s : Symbol = unary-symbol o in
-      let t = expressed (before sheet fine v there s q (fieldA sheet v)) _ (formula f) (whole-formula f) (sym (tree-by sheet fine v there s q) ∙ h) in
+      let t = expressed (before sheet v (fieldA sheet v)) _ _ (whole-formula f) (grown s q) in
       no-both _ f (sym (t .grown))
   formula-by (comparison-symbol o) q =
       let s : Symbol = comparison-symbol o in
       let a : fieldA sheet v < v = lower (fieldA sheet v) v (field-a sheet fine v there s q) in
       let b : fieldB sheet v < v = lower (fieldB sheet v) v (field-b sheet fine v there s q) in
-      let t = expressed (before sheet fine v there s q (fieldA sheet v)) _ (formula f) (whole-formula f) (sym (tree-by sheet fine v there s q) ∙ h) in
-      let u = expressed (before sheet fine v there s q (fieldB sheet v)) _ (formula f) (whole-formula f) (t .grown) in
+      let t = expressed (before sheet v (fieldA sheet v)) _ _ (whole-formula f) (grown s q) in
+      let u = expressed (before sheet v (fieldB sheet v)) _ _ (whole-formula f) (t .grown) in
       comparison-view
       (record {
         it = o;
@@ -91,22 +95,22 @@ module _ (sheet : Sheet) (fine : Facts sheet) (v : ℕ) (there : v < nodeCount s
         lower-a = a;
         lower-b = b;
         p = t .it;
-        left = sym (earlier sheet fine v there s q (fieldA sheet v) a) ∙ t .is;
+        left = tree-of sheet v there a (t .is);
         q = u .it;
-        right = sym (earlier sheet fine v there s q (fieldB sheet v) b) ∙ u .is;
+        right = tree-of sheet v there b (u .is);
         is = same-formula (u .grown);
       })
   formula-by (test-symbol o) q =
       let s : Symbol = test-symbol o in
       let a : fieldA sheet v < v = lower (fieldA sheet v) v (field-a sheet fine v there s q) in
-      let t = expressed (before sheet fine v there s q (fieldA sheet v)) _ (formula f) (whole-formula f) (sym (tree-by sheet fine v there s q) ∙ h) in
-      test-view (record { it = o; symbol = q; lower-a = a; p = t .it; left = sym (earlier sheet fine v there s q (fieldA sheet v) a) ∙ t .is; is = same-formula (t .grown) })
+      let t = expressed (before sheet v (fieldA sheet v)) _ _ (whole-formula f) (grown s q) in
+      test-view (record { it = o; symbol = q; lower-a = a; p = t .it; left = tree-of sheet v there a (t .is); is = same-formula (t .grown) })
   formula-by (connective-symbol o) q =
       let s : Symbol = connective-symbol o in
       let a : fieldA sheet v < v = lower (fieldA sheet v) v (field-a sheet fine v there s q) in
       let b : fieldB sheet v < v = lower (fieldB sheet v) v (field-b sheet fine v there s q) in
-      let t = formed (before sheet fine v there s q (fieldA sheet v)) _ (formula f) (whole-formula f) (sym (tree-by sheet fine v there s q) ∙ h) in
-      let u = formed (before sheet fine v there s q (fieldB sheet v)) _ (formula f) (whole-formula f) (t .grown) in
+      let t = formed (before sheet v (fieldA sheet v)) _ _ (whole-formula f) (grown s q) in
+      let u = formed (before sheet v (fieldB sheet v)) _ _ (whole-formula f) (t .grown) in
       connective-view
       (record {
         it = o;
@@ -114,15 +118,15 @@ module _ (sheet : Sheet) (fine : Facts sheet) (v : ℕ) (there : v < nodeCount s
         lower-a = a;
         lower-b = b;
         p = t .it;
-        left = sym (earlier sheet fine v there s q (fieldA sheet v) a) ∙ t .is;
+        left = tree-of sheet v there a (t .is);
         q = u .it;
-        right = sym (earlier sheet fine v there s q (fieldB sheet v) b) ∙ u .is;
+        right = tree-of sheet v there b (u .is);
         is = same-formula (u .grown);
       })
   formula-by (quantifier-symbol o) q =
       let s : Symbol = quantifier-symbol o in
       let b : fieldB sheet v < v = lower (fieldB sheet v) v (field-b sheet fine v there s q) in
-      let t = formed (before sheet fine v there s q (fieldB sheet v)) _ (formula f) (whole-formula f) (sym (tree-by sheet fine v there s q) ∙ h) in
+      let t = formed (before sheet v (fieldB sheet v)) _ _ (whole-formula f) (grown s q) in
       quantifier-view
       (record {
         it = o;
@@ -130,24 +134,26 @@ module _ (sheet : Sheet) (fine : Facts sheet) (v : ℕ) (there : v < nodeCount s
         names = lower (fieldA sheet v) (variableCount sheet) (field-a sheet fine v there s q);
         lower-b = b;
         p = t .it;
-        body = sym (earlier sheet fine v there s q (fieldB sheet v) b) ∙ t .is;
+        body = tree-of sheet v there b (t .is);
         is = same-formula (t .grown);
       })
   formula-by comprehension-symbol q =
       let s : Symbol = comprehension-symbol in
-      let t = formed (before sheet fine v there s q (fieldB sheet v)) _ (formula f) (whole-formula f) (sym (tree-by sheet fine v there s q) ∙ h) in
+      let t = formed (before sheet v (fieldB sheet v)) _ _ (whole-formula f) (grown s q) in
       no-both _ f (sym (t .grown))
   formula-by negation-symbol q =
       let s : Symbol = negation-symbol in
       let a : fieldA sheet v < v = lower (fieldA sheet v) v (field-a sheet fine v there s q) in
-      let t = formed (before sheet fine v there s q (fieldA sheet v)) _ (formula f) (whole-formula f) (sym (tree-by sheet fine v there s q) ∙ h) in
-      negation-view (record { lower-a = a; p = t .it; left = sym (earlier sheet fine v there s q (fieldA sheet v) a) ∙ t .is; is = same-formula (t .grown) })
-  formula-by unknown-symbol q = absurd (whole-formula f (sym h ∙ tree-by sheet fine v there unknown-symbol q))
+      let t = formed (before sheet v (fieldA sheet v)) _ _ (whole-formula f) (grown s q) in
+      negation-view (record { lower-a = a; p = t .it; left = tree-of sheet v there a (t .is); is = same-formula (t .grown) })
+  formula-by unknown-symbol q = absurd (whole-formula f (sym (grown unknown-symbol q)))
+
+  claim-of : formulaForm (rowOf (kind sheet v) .rule) ≡ claimBy (symbolOf (kind sheet v))
+  claim-of = rw (row-by (kind sheet v)) (claim-by (symbolOf (kind sheet v)))
 
   formula-view : (x : FormulaForm) → formulaForm (rowOf (kind sheet v) .rule) ≡ x → FormulaView sheet v (nodeAt (sheet .nodes) v) f x
   formula-view x p =
-      let z : formulaForm (rowOf (kind sheet v) .rule) ≡ claimBy (symbolOf (kind sheet v)) = rw (row-by (kind sheet v)) (claim-by (symbolOf (kind sheet v))) in
-      let w : claimBy (symbolOf (kind sheet v)) ≡ x = sym z ∙ p in
+      let w : claimBy (symbolOf (kind sheet v)) ≡ x = sym claim-of ∙ p in
       rw (← w) (formula-by (symbolOf (kind sheet v)) refl)
 
   module _ {node : Node} (en : node ≡ nodeAt (sheet .nodes) v) where

@@ -1,12 +1,12 @@
 -- The arrays that the leaves fill hold the leaves' matrices.
-use mathlib.Core.Path.{_≡_, refl, sym, ap, _∙_, fun-ext}
+use mathlib.Core.Path.{_≡_, refl, sym, ap, _∙_}
 use mathlib.Core.Bool.{Bool, true, false}
 use mathlib.Core.List.{List, map}
 use Prim.Native.Nat.{ℕ, zero, suc, _+_, _*_, _/_, _%_, _≤_, _<_}
 use native.Mathlib.Nat.{le-refl, one-mul, mod-lt, div-add-mod', div-lt-iff-lt-mul}
 use native.Mathlib.Omega.{arith}
 use lib.Dec.{eqb}
-use lib.IntN.{ℤ, pos, negsuc}
+use lib.IntN.{ℤ}
 use lib.ListN.{length, getD, List·getD-eq-default}
 use Rattle.literal.specs.Literals.{Literal, wordOf, literalOf}
 use Rattle.sheet.specs.Blocks.{Sheet, scope, sortOf}
@@ -14,14 +14,13 @@ use Rattle.sheet.specs.Blocks as blocks
 use Rattle.relational.specs.Trees.{relation, variable, atoms, identity}
 use Rattle.relational.specs.Cells.{rowCount, rowLength, firstCell}
 use Rattle.relational.specs.Meaning.{Environment}
-use Rattle.relational.specs.Matrices.{from, upto, Place, places, Matrix}
+use Rattle.relational.specs.Matrices.{from, Place, places, Matrix}
 use Rattle.relational.proofs.Places.{length-map-from, from-at, length-places, places-at}
 use Rattle.encoding.specs.Translation.{constant, absent, literalAt}
 use Rattle.emission.specs.declared.Literals.{Literals}
 use Rattle.emission.specs.Emission.{Inside, AllInside, literalsOf, cellsOf}
-use Rattle.emission.proofs.Ranges.{inside-absent}
 use Rattle.terms.specs.Terms.{Filled, cellFrom, LeafIs, SetIs, IdentityIs}
-use Rattle.terms.proofs.Lists.{filled-is, filled-cells, filled-fine, literal-of}
+use Rattle.terms.proofs.Lists.{filled-is, filled-cells, filled-fine}
 use Rattle.cells.proofs.Layouts.{square}
 
 pub constant-word : (b : Bool) {w : ℤ} → w ≡ wordOf (constant b) → literalOf w ≡ constant b
@@ -89,7 +88,8 @@ inside-two k ls inside =
 
 -- the other leaves, from the bytes that they are made of
 module _ (sheet : Sheet) (given : List ℤ) (a : ℕ) (env : Environment) {n : ℕ} {m : Literals} where
-  pub variable-is : (t : ℕ) → SetIs n (λ i. eqb i t) m → n ≡ scope sheet (sortOf sheet a) → t ≡ env a → LeafIs sheet given variable a env m
+  pub variable-is : (t : ℕ) → SetIs n (λ i. eqb i t) m → n ≡ scope sheet (sortOf sheet a) → t ≡ env a
+      → LeafIs sheet given variable a env m
   variable-is t h en et =
       let k : SetIs (scope sheet (sortOf sheet a)) (λ i. eqb i (env a)) m = rw (en, et) at h in
       record { matrix = k .matrix; fine = λ j i. k .fine j (inside-two j (literalsOf given) i) }
@@ -106,13 +106,15 @@ module _ (sheet : Sheet) (given : List ℤ) (a : ℕ) (env : Environment) {n : �
 
 -- matrices are equal by their sizes and cells
 matrix-same : {a a′ r r′ c c′ : ℕ} {xs ys : List Literal} → a ≡ a′ → r ≡ r′ → c ≡ c′ → xs ≡ ys
-    → _≡_ {A = Matrix Literal} (record { arity = a; rows = r; columns = c; cells = xs }) (record { arity = a′; rows = r′; columns = c′; cells = ys })
+    → _≡_ {A = Matrix Literal} (record { arity = a; rows = r; columns = c; cells = xs })
+    (record { arity = a′; rows = r′; columns = c′; cells = ys })
 matrix-same p q s t = rw (p, q, s, t)
 
 -- the cells of a relation
 module _ (sheet : Sheet) (given : List ℤ) (r : ℕ) (env : Environment) {arity rows columns first : ℕ} (ws : List ℤ) where
   pub relation-from : arity ≡ blocks.columns sheet r → rows ≡ rowCount sheet r → columns ≡ rowLength sheet r → first ≡ firstCell sheet r
-      → rows ≤ 8 → columns ≤ 8 → 1 ≤ arity → arity ≤ 2 → (arity ≡ 1 → rows ≡ 1) → Filled (cellFrom given first) (rows * columns) ws
+      → rows ≤ 8 → columns ≤ 8 → 1 ≤ arity → arity ≤ 2 → (arity ≡ 1 → rows ≡ 1)
+      → Filled (cellFrom given first) (rows * columns) ws
       → LeafIs sheet given relation r env (record { arity = arity; rows = rows; columns = columns; cells = ws })
   relation-from ea er ec ef lr lc a b one h =
       let n : ℕ = rows * columns in

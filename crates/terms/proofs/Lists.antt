@@ -11,7 +11,7 @@ use Rattle.literal.specs.Literals.{Literal, literalOf}
 use Rattle.relational.specs.Matrices.{upto}
 use Rattle.relational.proofs.Places.{upto-at, length-map-from}
 use Rattle.encoding.specs.Translation.{absent}
-use Rattle.emission.specs.Emission.{Inside, AllInside, literalsOf, Inputs, Cells, cellsOf}
+use Rattle.emission.specs.Emission.{Inside, literalsOf, Inputs, Cells, cellsOf}
 use Rattle.emission.proofs.Ranges.{literal-at, inside-absent}
 use Rattle.terms.specs.Terms.{Filled}
 
@@ -67,7 +67,8 @@ module _ (f : ℕ → Literal) where
   pub filled-cells : {n : ℕ} {ws : List ℤ} → Filled f n ws → n ≤ 64 → cellsOf n ws ≡ map f (upto n)
   filled-cells {n} h l = filled-is h l (map f (upto n)) (length-map-from f 0 n) λ i p. upto-at f absent n i p
 
-  pub filled-fine : {n m : ℕ} {ws : List ℤ} → Filled f n ws → n ≤ 64 → 2 ≤ m → ((i : ℕ) → i < n → Inside m (f i)) → Cells n m ws
+  pub filled-fine : {n m : ℕ} {ws : List ℤ} → Filled f n ws → n ≤ 64 → 2 ≤ m → ((i : ℕ) → i < n → Inside m (f i))
+      → Cells n m ws
   filled-fine {n} {m} {ws} h l two inside =
       record {
         room = h .room;

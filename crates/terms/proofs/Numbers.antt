@@ -6,8 +6,6 @@ use Prim.Native.Nat.{ℕ}
 use native.Mathlib.Omega.{arith}
 use lib.Dec.{eqb}
 use borrow.Author.Tests.{eqb-true}
-use Rattle.prelude.proofs.Laws.{decided}
-use mathlib.Core.Logic.{⊎-elim}
 use Rattle.relational.specs.Trees.{Leaf, relation, variable, atoms, identity, Binary, union, intersection, difference, join, product, Unary, inverse, closure, Comparison, equal, within, Test, some, none, lone, Connective, conjunction, disjunction, implication, equivalence, Quantifier, for-all, for-some, Symbol, leaf-symbol, binary-symbol, unary-symbol, comparison-symbol, test-symbol, connective-symbol, quantifier-symbol, comprehension-symbol, negation-symbol, unknown-symbol, symbols, symbolIn, symbolOf}
 
 abbrev kindBy : Symbol → ℕ
@@ -82,7 +80,8 @@ module _ (k : ℕ) where
   unfolding symbolOf
   at-join e o s = let z : binary-symbol join ≡ binary-symbol o = rw e at s in cc
 
-  pub at-product : (k ≡ 5 → ⊥) → (k ≡ 6 → ⊥) → (k ≡ 7 → ⊥) → (k ≡ 8 → ⊥) → (o : Binary) → symbolOf k ≡ binary-symbol o → o ≡ product
+  pub at-product : (k ≡ 5 → ⊥) → (k ≡ 6 → ⊥) → (k ≡ 7 → ⊥) → (k ≡ 8 → ⊥)
+      → (o : Binary) → symbolOf k ≡ binary-symbol o → o ≡ product
   at-product a b c d union s = absurd (a (kind-is k _ s (unknown-binary union)))
   at-product a b c d intersection s = absurd (b (kind-is k _ s (unknown-binary intersection)))
   at-product a b c d difference s = absurd (c (kind-is k _ s (unknown-binary difference)))
@@ -142,7 +141,8 @@ module _ (k : ℕ) where
   unfolding symbolOf
   at-implication e o s = let z : connective-symbol implication ≡ connective-symbol o = rw e at s in cc
 
-  pub at-equivalence : (k ≡ 31 → ⊥) → (k ≡ 32 → ⊥) → (k ≡ 33 → ⊥) → (o : Connective) → symbolOf k ≡ connective-symbol o → o ≡ equivalence
+  pub at-equivalence : (k ≡ 31 → ⊥) → (k ≡ 32 → ⊥) → (k ≡ 33 → ⊥)
+      → (o : Connective) → symbolOf k ≡ connective-symbol o → o ≡ equivalence
   at-equivalence a b c conjunction s = absurd (a (kind-is k _ s (unknown-connective conjunction)))
   at-equivalence a b c disjunction s = absurd (b (kind-is k _ s (unknown-connective disjunction)))
   at-equivalence a b c implication s = absurd (c (kind-is k _ s (unknown-connective implication)))

@@ -1,19 +1,16 @@
 -- The tree of a node over the trees before it, and the form of its symbol.
-use mathlib.Core.Path.{_≡_, refl, sym, ap, _∙_}
+use mathlib.Core.Path.{_≡_, refl, sym, _∙_}
 use mathlib.Core.Bool.{true}
-use mathlib.Core.List.{List}
 use Prim.Native.Nat.{ℕ, _<_}
 use native.Mathlib.Omega.{arith}
 use lib.Dec.{ltb}
 use lib.ListN.{getD}
 use borrow.Author.Tests.{ltb-true}
-use Rattle.kinds.specs.declared.Row.{Row}
-use Rattle.kinds.specs.Kinds.{rowOf}
-use Rattle.sheet.specs.Blocks.{Sheet, variableCount, relationCount, nodeCount, kind, fieldA, fieldB}
+use Rattle.sheet.specs.Blocks.{Sheet, nodeCount, kind, fieldA, fieldB}
 use Rattle.sheet.specs.Tables.{table}
 use Rattle.sheet.specs.Reading.{fieldFine}
 use Rattle.sheet.specs.Facts.{Facts}
-use Rattle.relational.specs.Trees.{Leaf, relation, variable, atoms, identity, Binary, union, intersection, difference, join, product, Unary, inverse, closure, Comparison, Test, Connective, Quantifier, Expression, leaf, binary, unary, comprehension, Formula, comparison, test, negation, connective, quantified, Symbol, leaf-symbol, binary-symbol, unary-symbol, comparison-symbol, test-symbol, connective-symbol, quantifier-symbol, comprehension-symbol, negation-symbol, unknown-symbol, symbolOf, Tree, expression, formula, broken, withExpression, withFormula, treeBy, treeStep, trees}
+use Rattle.relational.specs.Trees.{Leaf, relation, variable, atoms, identity, Binary, union, intersection, difference, join, product, Unary, inverse, closure, Comparison, Test, Connective, Quantifier, Expression, Formula, Symbol, leaf-symbol, binary-symbol, unary-symbol, comparison-symbol, test-symbol, connective-symbol, quantifier-symbol, comprehension-symbol, negation-symbol, unknown-symbol, symbolOf, Tree, expression, formula, broken, withExpression, withFormula, treeBy, treeStep}
 use Rattle.terms.specs.declared.nodes.ExpressionForm.{ExpressionForm}
 use Rattle.terms.specs.declared.nodes.ExpressionForm.the-variants as form
 use Rattle.terms.specs.declared.nodes.FormulaForm.{FormulaForm}
@@ -117,7 +114,15 @@ claim-by comprehension-symbol = refl
 claim-by negation-symbol = refl
 claim-by unknown-symbol = refl
 
--- ---- what a node's field is
+-- ---- the trees before a node
+module _ (sheet : Sheet) (v : ℕ) where
+  abbrev pub before : ℕ → Tree
+  before x = getD (table (treeStep sheet) v) x broken
+
+  pub tree-of : v < nodeCount sheet → {x : ℕ} {t : Tree} → x < v → before x ≡ t → treeAt sheet x ≡ t
+  tree-of there {x} h p = table-same (treeStep sheet) broken v (nodeCount sheet) x h (omega arith) ∙ p
+
+-- ---- what the symbol of a node says of its fields, and its tree over the trees before it
 module _ (sheet : Sheet) (fine : Facts sheet) (v : ℕ) (there : v < nodeCount sheet) (s : Symbol) (e : symbolOf (kind sheet v) ≡ s) where
   pub field-a : fieldFine sheet (rowBy s .a) v (fieldA sheet v) ≡ true
   field-a = rw (row-by (kind sheet v), e) at (fine .fine-a v there)
@@ -125,16 +130,9 @@ module _ (sheet : Sheet) (fine : Facts sheet) (v : ℕ) (there : v < nodeCount s
   pub field-b : fieldFine sheet (rowBy s .b) v (fieldB sheet v) ≡ true
   field-b = rw (row-by (kind sheet v), e) at (fine .fine-b v there)
 
-  -- the tree of the node, over the trees before it
-  abbrev pub before : ℕ → Tree
-  before x = getD (table (treeStep sheet) v) x broken
-
-  pub tree-by : treeAt sheet v ≡ treeBy s (fieldA sheet v) (before (fieldA sheet v)) (before (fieldB sheet v))
+  pub tree-by : treeAt sheet v ≡ treeBy s (fieldA sheet v) (before sheet v (fieldA sheet v)) (before sheet v (fieldB sheet v))
   unfolding treeStep
   tree-by = table-at (treeStep sheet) broken (nodeCount sheet) v there ∙ rw e
-
-  pub earlier : (x : ℕ) → x < v → before x ≡ treeAt sheet x
-  earlier x h = sym (table-same (treeStep sheet) broken v (nodeCount sheet) x h (omega arith))
 
 pub lower : (x v : ℕ) → ltb x v ≡ true → x < v
 lower x v h = ltb-true x v h

@@ -1,5 +1,5 @@
 -- The kinds that the walk treats alike.
--- Cited by contracts of private functions only: nothing here needs belief.
+-- Cited by contracts of functions that only this project's crates call: nothing here needs belief.
 use mathlib.Core.List.{List}
 use Prim.Native.Nat.{ℕ, _+_, _*_}
 use Rattle.kinds.specs.declared.Rule.{Rule}

@@ -4,7 +4,7 @@ ghost use Rattle.literal.specs.Literals.{literalOf, opposite};
 ghost use Rattle.relational.specs.Trees.{Binary, Unary, Comparison, Test, Connective, Quantifier, binary-symbol, unary-symbol, comparison-symbol, test-symbol, connective-symbol, quantifier-symbol, symbolOf};
 ghost use Rattle.encoding.specs.Gates as spec;
 ghost use Rattle.encoding.specs.Translation.{translateBinary, translateUnary, translateComparison, translateTest, translateConnective, translateQuantifier};
-ghost use Rattle.emission.specs.Emission.{Inside, matrixOf, Operand, Bounded, EmitsLiteral, EmitsMatrix};
+ghost use Rattle.emission.specs.Emission.{Inside, matrixOf, Operand, Bounded, EmitsLiteral, EmitsTwo, EmitsBinary, EmitsUnary, EmitsTest};
 use emission::Literals;
 use emission::Made;
 use emission::MadeMatrix;
@@ -22,11 +22,13 @@ use operators::tests::lone;
 use operators::tests::none;
 use operators::tests::some;
 
+// Kinds 5 to 9: union, intersection, difference, join, product.
 pub fn combine(list: &mut [i32], kind: usize, p: MadeMatrix, q: MadeMatrix) -> MadeMatrix
     requires { ⌜ Bounded (q .tape) ⌝ }
     requires { ⌜ Operand (q .tape .next) (p .matrix) ⌝ }
     requires { ⌜ Operand (q .tape .next) (q .matrix) ⌝ }
-    ensures { λ r. ⌜ ((o : Binary) → symbolOf kind ≡ binary-symbol o → EmitsMatrix (translateBinary o (matrixOf (p .matrix)) (matrixOf (q .matrix)) (q .tape .next)) (now (list .entry)) (q .tape) (r .matrix) (now (list .exit)) (r .tape)) ⌝ }
+    ensures { λ r. ⌜ ((o : Binary) → symbolOf kind ≡ binary-symbol o
+        → EmitsBinary (translateBinary o) (p .matrix) (q .matrix) (now (list .entry)) (q .tape) (r .matrix) (now (list .exit)) (r .tape)) ⌝ }
 {
     let left = p.matrix;
     let right = q.matrix;
@@ -40,10 +42,12 @@ pub fn combine(list: &mut [i32], kind: usize, p: MadeMatrix, q: MadeMatrix) -> M
     }
 }
 
+// Kinds 10 and 11: inverse, closure.
 pub fn convert(list: &mut [i32], kind: usize, p: MadeMatrix) -> MadeMatrix
     requires { ⌜ Bounded (p .tape) ⌝ }
     requires { ⌜ Operand (p .tape .next) (p .matrix) ⌝ }
-    ensures { λ r. ⌜ ((o : Unary) → symbolOf kind ≡ unary-symbol o → EmitsMatrix (translateUnary o (matrixOf (p .matrix)) (p .tape .next)) (now (list .entry)) (p .tape) (r .matrix) (now (list .exit)) (r .tape)) ⌝ }
+    ensures { λ r. ⌜ ((o : Unary) → symbolOf kind ≡ unary-symbol o
+        → EmitsUnary (translateUnary o) (p .matrix) (now (list .entry)) (p .tape) (r .matrix) (now (list .exit)) (r .tape)) ⌝ }
 {
     let operand = p.matrix;
     let tape = p.tape;
@@ -53,11 +57,14 @@ pub fn convert(list: &mut [i32], kind: usize, p: MadeMatrix) -> MadeMatrix
     }
 }
 
+// Kinds 20 and 21: equal, within.
 pub fn contrast(list: &mut [i32], kind: usize, p: MadeMatrix, q: MadeMatrix) -> Made
     requires { ⌜ Bounded (q .tape) ⌝ }
     requires { ⌜ Operand (q .tape .next) (p .matrix) ⌝ }
     requires { ⌜ Operand (q .tape .next) (q .matrix) ⌝ }
-    ensures { λ r. ⌜ ((o : Comparison) → symbolOf kind ≡ comparison-symbol o → EmitsLiteral (translateComparison o (matrixOf (p .matrix)) (matrixOf (q .matrix)) (q .tape .next)) (now (list .entry)) (q .tape) (r .literal) (now (list .exit)) (r .tape)) ⌝ }
+    ensures { λ r. ⌜ ((o : Comparison) → symbolOf kind ≡ comparison-symbol o
+        → EmitsLiteral (translateComparison o (matrixOf (p .matrix)) (matrixOf (q .matrix)) (q .tape .next))
+        (now (list .entry)) (q .tape) (r .literal) (now (list .exit)) (r .tape)) ⌝ }
 {
     let left = p.matrix;
     let right = q.matrix;
@@ -68,10 +75,12 @@ pub fn contrast(list: &mut [i32], kind: usize, p: MadeMatrix, q: MadeMatrix) -> 
     }
 }
 
+// Kinds 22 to 24: some, none, at most one.
 pub fn measure(list: &mut [i32], kind: usize, p: MadeMatrix) -> Made
     requires { ⌜ Bounded (p .tape) ⌝ }
     requires { ⌜ Operand (p .tape .next) (p .matrix) ⌝ }
-    ensures { λ r. ⌜ ((o : Test) → symbolOf kind ≡ test-symbol o → EmitsLiteral (translateTest o (matrixOf (p .matrix) .cells) (p .tape .next)) (now (list .entry)) (p .tape) (r .literal) (now (list .exit)) (r .tape)) ⌝ }
+    ensures { λ r. ⌜ ((o : Test) → symbolOf kind ≡ test-symbol o
+        → EmitsTest (translateTest o) (p .matrix) (now (list .entry)) (p .tape) (r .literal) (now (list .exit)) (r .tape)) ⌝ }
 {
     let operand = p.matrix;
     let tape = p.tape;
@@ -82,7 +91,7 @@ pub fn measure(list: &mut [i32], kind: usize, p: MadeMatrix) -> Made
     }
 }
 
-// Not: the opposite literal.
+// Kind 30, not: the opposite literal.
 pub fn negate(p: Made) -> Made
     requires { ⌜ Bounded (p .tape) ⌝ }
     requires { ⌜ Inside (p .tape .next) (literalOf (p .literal)) ⌝ }
@@ -95,11 +104,13 @@ pub fn negate(p: Made) -> Made
     }
 }
 
+// Kinds 31 to 34: and, or, implies, iff.
 pub fn connect(list: &mut [i32], kind: usize, p: Made, q: Made) -> Made
     requires { ⌜ Bounded (q .tape) ⌝ }
     requires { ⌜ Inside (q .tape .next) (literalOf (p .literal)) ⌝ }
     requires { ⌜ Inside (q .tape .next) (literalOf (q .literal)) ⌝ }
-    ensures { λ r. ⌜ ((o : Connective) → symbolOf kind ≡ connective-symbol o → EmitsLiteral (translateConnective o (literalOf (p .literal), literalOf (q .literal)) (q .tape .next)) (now (list .entry)) (q .tape) (r .literal) (now (list .exit)) (r .tape)) ⌝ }
+    ensures { λ r. ⌜ ((o : Connective) → symbolOf kind ≡ connective-symbol o
+        → EmitsTwo (translateConnective o) (p .literal) (q .literal) (now (list .entry)) (q .tape) (r .literal) (now (list .exit)) (r .tape)) ⌝ }
 {
     let tape = q.tape;
     match kind {
@@ -114,17 +125,19 @@ pub fn connect(list: &mut [i32], kind: usize, p: Made, q: Made) -> Made
 fn every(list: &mut [i32], tape: Tape, p: Literals) -> Made
     requires { ⌜ Bounded tape ⌝ }
     requires { ⌜ Operand (tape .next) p ⌝ }
-    ensures { λ r. ⌜ EmitsLiteral (spec.and (matrixOf p .cells) (tape .next)) (now (list .entry)) tape (r .literal) (now (list .exit)) (r .tape) ⌝ }
+    ensures { λ r. ⌜ EmitsTest spec.and p (now (list .entry)) tape (r .literal) (now (list .exit)) (r .tape) ⌝ }
 {
     let words = p.cells;
     let n = p.rows * p.columns;
     and(list, tape, &words[..n])
 }
 
+// Kinds 40 and 41, over the literals of the bodies: for all, for some.
 pub fn quantify(list: &mut [i32], kind: usize, p: MadeMatrix) -> Made
     requires { ⌜ Bounded (p .tape) ⌝ }
     requires { ⌜ Operand (p .tape .next) (p .matrix) ⌝ }
-    ensures { λ r. ⌜ ((o : Quantifier) → symbolOf kind ≡ quantifier-symbol o → EmitsLiteral (translateQuantifier o (matrixOf (p .matrix) .cells) (p .tape .next)) (now (list .entry)) (p .tape) (r .literal) (now (list .exit)) (r .tape)) ⌝ }
+    ensures { λ r. ⌜ ((o : Quantifier) → symbolOf kind ≡ quantifier-symbol o
+        → EmitsTest (translateQuantifier o) (p .matrix) (now (list .entry)) (p .tape) (r .literal) (now (list .exit)) (r .tape)) ⌝ }
 {
     let bodies = p.matrix;
     let tape = p.tape;

@@ -35,6 +35,7 @@ pub fn word_at(given: &[i32], i: usize) -> i32
     if i < given.len() { given[i] } else { -1 }
 }
 
+// The atom that variable x stands for.
 fn atom_at(env: [usize; 4], x: usize) -> usize
     ensures { λ r. ⌜ r ≡ getD env x 0 ⌝ }
 {
@@ -61,7 +62,8 @@ fn relation_leaf(sorts: &[u8], relations: &[u8], given: &[i32], r: usize) -> Lit
     requires { ⌜ r < 256 ⌝ }
     requires { ⌜ Scopes (now sorts) ⌝ }
     requires { ⌜ (1 ≤ blocks.byte (now relations) (4 * r)) × (blocks.byte (now relations) (4 * r) ≤ 2) ⌝ }
-    ensures { λ m. ⌜ ((sheet : blocks.Sheet) (env : Environment) → sheet .sorts ≡ now (sorts .entry) → sheet .relations ≡ now (relations .entry) → LeafIs sheet (now (given .entry)) trees.relation r env m) ⌝ }
+    ensures { λ m. ⌜ ((sheet : blocks.Sheet) (env : Environment) → sheet .sorts ≡ now (sorts .entry)
+        → sheet .relations ≡ now (relations .entry) → LeafIs sheet (now (given .entry)) trees.relation r env m) ⌝ }
 {
     let arity = byte(relations, 4 * r);
     let rows = row_count(sorts, relations, r);
@@ -136,7 +138,7 @@ fn identity_leaf(n: usize) -> Literals
     }
 }
 
-// The matrix of a leaf, by kind.
+// Kinds 1 to 4: relation, variable, sort, identity.
 pub fn leaf(
     sorts: &[u8],
     variables: &[u8],
@@ -149,7 +151,9 @@ pub fn leaf(
     requires { ⌜ a < 256 ⌝ }
     requires { ⌜ Scopes (now sorts) ⌝ }
     requires { ⌜ (kind ≡ 1 → (1 ≤ blocks.byte (now relations) (4 * a)) × (blocks.byte (now relations) (4 * a) ≤ 2)) ⌝ }
-    ensures { λ m. ⌜ ((l : Leaf) (nodes : List ℕ) → symbolOf kind ≡ leaf-symbol l → LeafIs (blocks.fourBlocks (now (sorts .entry)) (now (variables .entry)) (now (relations .entry)) nodes) (now (given .entry)) l a (environment env) m) ⌝ }
+    ensures { λ m. ⌜ ((l : Leaf) (nodes : List ℕ) → symbolOf kind ≡ leaf-symbol l
+        → LeafIs (blocks.fourBlocks (now (sorts .entry)) (now (variables .entry)) (now (relations .entry)) nodes)
+        (now (given .entry)) l a (environment env) m) ⌝ }
 {
     match kind {
         1 => relation_leaf(sorts, relations, given, a),
@@ -159,7 +163,7 @@ pub fn leaf(
     }
 }
 
-// A matrix without cells.
+// A matrix without cells, for a walk that is given up.
 pub fn nothing() -> Literals
     ensures { λ m. ⌜ ((n : ℕ) → 2 ≤ n → Operand n m) ⌝ }
 {

@@ -1,8 +1,8 @@
 -- The walks of a binder's body, atom by atom.
-use mathlib.Core.Path.{_≡_, refl, sym, ap, _∙_, subst, fun-ext}
+use mathlib.Core.Path.{_≡_, refl, sym, ap, _∙_, fun-ext}
 use mathlib.Core.Bool.{cond}
 use mathlib.Core.List.{List, [], _∷_, _++_, map, map-id}
-use Prim.Native.Nat.{ℕ, suc, _+_, _*_, _≤_, _<_}
+use Prim.Native.Nat.{ℕ, suc, _+_, _≤_, _<_}
 use native.Mathlib.Nat.{one-mul}
 use native.Mathlib.Numerals.{add-one}
 use native.Mathlib.Omega.{arith}
@@ -16,22 +16,20 @@ use Rattle.literal.specs.Literals.{Literal, literalOf}
 use Rattle.sheet.specs.Blocks.{Sheet, scope, sortOf}
 use Rattle.relational.specs.Trees.{Formula, formula}
 use Rattle.relational.specs.Meaning.{Environment, bind}
-use Rattle.relational.specs.Matrices.{Matrix, upto, setOf}
+use Rattle.relational.specs.Matrices.{upto, setOf}
 use Rattle.relational.proofs.Places.{map-append}
 use Rattle.encoding.specs.Builder as builder
 use Rattle.encoding.specs.Builder.{Builder, _<$>_}
 use Rattle.encoding.specs.Translation.{absent, translateFormula}
 use Rattle.emission.specs.declared.Tape.{Tape}
-use Rattle.emission.specs.declared.Literals.{Literals}
-use Rattle.emission.specs.Emission.{Inside, AllInside, literalsOf, Cells, cellsOf, matrixOf, Operand, Emits, EmitsMatrix}
+use Rattle.emission.specs.Emission.{Inside, literalsOf, Cells, cellsOf, Emits, EmitsMatrix}
 use Rattle.emission.proofs.Steps.{emits-return, emits-map, emits-as, emits-more}
 use Rattle.emission.proofs.Ranges.{inside-grows, literal-at}
 use Rattle.terms.specs.Nodes.{treeAt}
-use Rattle.terms.specs.Terms.{environment, Filled}
+use Rattle.terms.specs.Terms.{environment}
 use Rattle.terms.proofs.Lists.{filled-none, filled-fine}
 use Rattle.translation.specs.Walks.{Ready, IsFormula, bodyWalks, WalksFormula, WalksBodies}
 use Rattle.translation.proofs.Regulars.{regular-formula}
-use Rattle.translation.proofs.Walking.{ready-after}
 
 -- a store in the array of atoms binds a variable
 pub env-bind : (env : List ℕ) (x i : ℕ) → x < length env → environment (set env x i) ≡ bind (environment env) x i
@@ -42,10 +40,12 @@ env-bind env x i h = fun-ext λ y. at y (ℕ-discrete y x)
     at y (no n) = rw (ne-eqb y x n) (getD-set-other env x y i 0 n)
 
 -- ---- one more cell
-pub cells-next : (words : List ℤ) (k : ℕ) (w : ℤ) → k < length words → cellsOf (suc k) (set words k w) ≡ cellsOf k words ++ (literalOf w ∷ [])
+pub cells-next : (words : List ℤ) (k : ℕ) (w : ℤ) → k < length words
+    → cellsOf (suc k) (set words k w) ≡ cellsOf k words ++ (literalOf w ∷ [])
 cells-next words k w h = ap literalsOf (take-suc-set words k w h) ∙ map-append literalOf (take k words) (w ∷ [])
 
-pub cells-more : {k n m : ℕ} {words : List ℤ} (w : ℤ) → Cells k n words → n ≤ m → 2 ≤ m → k < 64 → Inside m (literalOf w) → Cells (suc k) m (set words k w)
+pub cells-more : {k n m : ℕ} {words : List ℤ} (w : ℤ) → Cells k n words → n ≤ m → 2 ≤ m → k < 64 → Inside m (literalOf w)
+    → Cells (suc k) m (set words k w)
 cells-more {k} {n} {m} {words} w c g two h i =
     filled-fine (λ j. literalOf (getD (set words k w) j (pos 0)))
     (record {
@@ -115,8 +115,8 @@ module _ (sheet : Sheet) (given : List ℤ) (env : List ℕ) (v : ℕ) (old : Li
             → EmitsMatrix ((setOf (scope sheet (sortOf sheet x)) <$> bodyWalks sheet (literalsOf given) f (environment env) x) (before .next))
             old before (record { arity = 1; rows = 1; columns = n; cells = words }) mid middle
         go f t =
-            let p : Emits (builder.each (bodyAt f) (map (λ i. i) (upto n)) (before .next)) old before (cellsOf n words) mid middle (λ m. Cells n m words) =
-            rw ek at (d .walks f t) in
+            let p : Emits (builder.each (bodyAt f) (map (λ i. i) (upto n)) (before .next)) old before (cellsOf n words) mid middle
+            (λ m. Cells n m words) = rw ek at (d .walks f t) in
             let q = rw (map-id (upto n)) at p in
             rw (← en)
             (emits-map (setOf n) (builder.each (bodyAt f) (upto n)) q (rw (one-mul n))

@@ -1,12 +1,12 @@
 -- Every step of the walk is regular: its next variable comes after its gates.
-use mathlib.Core.List.{List, [], _∷_}
+use mathlib.Core.List.{List}
 use Prim.Native.Nat.{ℕ, zero, suc}
 use Rattle.literal.specs.Literals.{Literal, opposite}
 use Rattle.sheet.specs.Blocks.{Sheet, scope, sortOf}
 use Rattle.relational.specs.Trees.{Binary, union, intersection, difference, join, product, Unary, inverse, closure, Comparison, equal, within, Test, some, none, lone, Connective, conjunction, disjunction, implication, equivalence, Quantifier, for-all, for-some, Expression, leaf, binary, unary, comprehension, Formula, comparison, test, negation, connective, quantified}
 use Rattle.relational.specs.Meaning.{Environment, bind}
 use Rattle.relational.specs.Matrices.{upto, rounds, pairs, Matrix, setOf, sameSize, joinPlaces, joinSize, productSize, matched, middles, crossed}
-use Rattle.encoding.specs.Builder.{Builder, _>>=_, _<$>_, each}
+use Rattle.encoding.specs.Builder.{_>>=_, each}
 use Rattle.encoding.specs.Gates.{or, and}
 use Rattle.encoding.specs.Translation.{Two, absent, both, joinCells, translateBinary, roundOf, afterRounds, translateUnary, translateComparison, translateTest, translateConnective, translateQuantifier, translate, translateFormula}
 use Rattle.emission.specs.declared.Pairing.{Pairing}
@@ -102,4 +102,5 @@ module _ (sheet : Sheet) (cells : List Literal) where
 
   pub regular-bodies : (f : Formula) (env : Environment) (x : ℕ) → Regular (bodyWalks sheet cells f env x)
   regular-bodies f env x =
-      regular-each (λ v. translateFormula sheet cells f (bind env x v)) (λ v. regular-formula f (bind env x v)) (upto (scope sheet (sortOf sheet x)))
+      regular-each (λ v. translateFormula sheet cells f (bind env x v)) (λ v. regular-formula f (bind env x v))
+      (upto (scope sheet (sortOf sheet x)))

@@ -1,44 +1,37 @@
 -- What the walk does at a node is what the translation of the node's tree asks.
-use mathlib.Core.Path.{_≡_, refl, sym, ap, _∙_, subst, fun-ext}
-use mathlib.Core.Bool.{Bool, true, false, cond, _&&_}
-use mathlib.Core.List.{List, [], _∷_, _++_, map}
-use Prim.Native.Nat.{ℕ, suc, _+_, _*_, _≤_, _<_}
-use native.Mathlib.Nat.{one-mul}
-use native.Mathlib.Numerals.{add-one}
+use mathlib.Core.Path.{_≡_}
+use mathlib.Core.List.{List}
+use Prim.Native.Nat.{ℕ, _≤_, _<_}
 use native.Mathlib.Omega.{arith}
-use native.Mathlib.Decide.{decLt, ℕ-discrete}
-use lib.Dec.{eqb, ltb, leb}
-use lib.IntN.{ℤ, pos, negsuc}
-use lib.ListN.{length, getD, set, List·getD-eq-default}
-use lib.Seq.{getD-set-same, getD-set-other}
-use borrow.Author.Tests.{leb-true, eq-eqb, ne-eqb}
-use Rattle.prelude.specs.Tests.{between, each}
-use Rattle.prelude.proofs.Laws.{each-at, and-left, and-right, between-low, between-high}
-use Rattle.literal.specs.Literals.{Literal, literalOf, opposite}
-use Rattle.sheet.specs.Blocks.{Sheet, byte, sortCount, scope, variableCount, sortOf, relationCount, columns, nodeCount}
+use lib.IntN.{ℤ, negsuc}
+use lib.ListN.{length}
+use Rattle.sheet.specs.Blocks.{Sheet}
 use Rattle.sheet.specs.Facts.{Facts}
-use Rattle.relational.specs.Trees.{Binary, Unary, Comparison, Test, Connective, Quantifier, binary-symbol, unary-symbol, comparison-symbol, test-symbol, connective-symbol, quantifier-symbol, leaf-symbol, symbolOf, relation, Leaf, Expression, leaf, binary, unary, comprehension, Formula, comparison, test, negation, connective, quantified, expression, formula}
-use Rattle.relational.specs.Meaning.{Environment, bind}
-use Rattle.relational.specs.Matrices.{Matrix, upto, setOf}
-use Rattle.encoding.specs.Builder as builder
-use Rattle.encoding.specs.Builder.{Builder, _>>=_, _<$>_}
-use Rattle.encoding.specs.Translation.{absent, literalAt, translateBinary, translateUnary, translateComparison, translateTest, translateConnective, translateQuantifier, translate, translateFormula}
+use Rattle.encoding.specs.Builder.{Builder, _>>=_}
+use Rattle.encoding.specs.Translation.{translate, translateFormula}
 use Rattle.emission.specs.declared.Tape.{Tape}
 use Rattle.emission.specs.declared.Literals.{Literals}
-use Rattle.emission.specs.Emission.{Inside, AllInside, literalsOf, Cells, cellsOf, matrixOf, Operand, Bounded, Within, Over, Emits, EmitsLiteral, EmitsMatrix}
-use Rattle.emission.proofs.Steps.{regular-bind, emits-return, emits-bind, emits-map, emits-as, emits-fine, given-up}
-use Rattle.emission.proofs.Ranges.{inside-grows, all-grows, inside-absent}
-use Rattle.terms.specs.declared.nodes.Node.{Node}
-use Rattle.terms.specs.declared.nodes.ExpressionForm.the-variants as form
-use Rattle.terms.specs.declared.nodes.FormulaForm.the-variants as claim
-use Rattle.terms.specs.Nodes.{nodeAt, treeAt}
-use Rattle.terms.specs.Terms.{environment, LeafIs}
+use Rattle.emission.specs.Emission.{literalsOf, Operand, Bounded, Over, Emits}
+use Rattle.emission.proofs.Steps.{Regular, regular-bind, emits-bind, given-up}
+use Rattle.emission.proofs.Ranges.{all-grows, inside-absent}
 use Rattle.cells.specs.Private.{Scopes}
-use Rattle.terms.proofs.ExpressionViews.{LeafAt, BinaryAt, UnaryAt, ComprehensionAt, at-leaf, at-binary, at-unary, at-comprehension}
-use Rattle.terms.proofs.FormulaViews.{ComparisonAt, TestAt, NegationAt, ConnectiveAt, QuantifierAt, at-comparison, at-test, at-negation, at-connective, at-quantifier}
-use Rattle.terms.proofs.Numbers as numbers
-use Rattle.translation.specs.Walks.{Ready, IsExpression, IsFormula, bodyWalks, WalksExpression, WalksFormula, WalksBodies}
-use Rattle.translation.proofs.Regulars.{regular-binary, regular-unary, regular-comparison, regular-test, regular-connective, regular-quantifier, regular-expression, regular-formula, regular-bodies}
+use Rattle.terms.specs.declared.nodes.Node.{Node}
+use Rattle.terms.specs.Nodes.{nodeAt}
+use Rattle.terms.specs.Terms.{environment}
+use Rattle.translation.specs.Walks.{Ready, IsExpression, IsFormula, WalksExpression, WalksFormula}
+use Rattle.translation.proofs.Regulars.{regular-expression, regular-formula}
+
+-- the walk is at node v, and has read it
+pub record Reached (sheet : Sheet) (given : List ℤ) (tape : Tape) (v : ℕ) (node : Node) (Tree : Sheet → ℕ → Type 0) : Type 0 where
+  pub ready : Ready sheet given tape v
+  pub read : node ≡ nodeAt (sheet .nodes) v
+  pub tree : Tree sheet v
+
+-- node a is an operand of node v, and can be walked
+pub record Below (sheet : Sheet) (given : List ℤ) (tape : Tape) (v a : ℕ) (Tree : Sheet → ℕ → Type 0) : Type 0 where
+  pub lower : a < v
+  pub ready : Ready sheet given tape a
+  pub tree : Tree sheet a
 
 -- ---- what acceptance gives
 pub sound-scopes : {sheet : Sheet} → Facts sheet → Scopes (sheet .sorts)
@@ -73,14 +66,20 @@ module _ {sheet : Sheet} {given : List ℤ} {tape : Tape} {v : ℕ} (r : Ready s
   ready-after h b g =
       record { facts = r .facts; there = omega (arith, r .there); bounded = b; inside = all-grows (literalsOf given) g (r .inside) }
 
--- what is asked of an operand's walk: its number, its place, its tree
-pub record Left (sheet : Sheet) (given : List ℤ) (tape : Tape) (v a : ℕ) (Tree : Sheet → ℕ → Type 0) : Type 0 where
-  pub lower : a < v
-  pub ready : Ready sheet given tape a
-  pub tree : Tree sheet a
+-- ---- two operands, then a step over both
+pub emits-two : {A B C : Type 0} (s : Builder A) (t : Builder B) (step : A → B → Builder C) → Regular s → Regular t
+    → ((x : A) (y : B) → Regular (step x y)) → {old mid new out : List ℤ} {before middle after end : Tape} {x : A} {y : B} {z : C}
+    → {F G H : ℕ → Type 0} → Emits (s (before .next)) old before x mid middle F → Emits (t (middle .next)) mid middle y new after G
+    → Emits (step x y (after .next)) new after z out end H
+    → Emits ((s >>= λ p. t >>= λ q. step p q) (before .next)) old before z out end H
+emits-two s t step rs rt r {x = x} w u c =
+    emits-bind s (λ p. t >>= λ q. step p q) rs (λ p. regular-bind t (λ q. step p q) rt λ q. r p q) w
+    (emits-bind t (λ q. step x q) rt (λ q. r x q) u c)
 
+-- ---- the list keeps its length
 module _ {sheet : Sheet} {given : List ℤ} {env : List ℕ} {v : ℕ} {old new : List ℤ} {before after : Tape} where
-  pub kept-expression : {m : Literals} → IsExpression sheet v → WalksExpression sheet given env v old before m new after → length new ≡ length old
+  pub kept-expression : {m : Literals} → IsExpression sheet v → WalksExpression sheet given env v old before m new after
+      → length new ≡ length old
   kept-expression x w = w .walks (x .it) (x .is) .kept
 
   pub kept-formula : {l : ℤ} → IsFormula sheet v → WalksFormula sheet given env v old before l new after → length new ≡ length old
@@ -93,8 +92,8 @@ module _ {sheet : Sheet} {given : List ℤ} {before : Tape} {v : ℕ} (r : Ready
   expression-over o f =
       record {
         walks = λ e h.
-            given-up (translate sheet (literalsOf given) e (environment env)) _ old before (regular-expression sheet (literalsOf given) e (environment env))
-            (r .bounded) o (f (before .next) (r .bounded .first));
+            given-up (translate sheet (literalsOf given) e (environment env)) _ old before
+            (regular-expression sheet (literalsOf given) e (environment env)) (r .bounded) o (f (before .next) (r .bounded .first));
       }
 
   pub formula-over : Over (before .next) → WalksFormula sheet given env v old before (negsuc 0) old before

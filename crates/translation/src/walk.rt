@@ -26,6 +26,7 @@ use terms::nodes::read_node;
 // The last next variable with which the walk goes on: 16,000 variables are used then.
 const LIMIT: usize = 16001;
 
+// The atoms of the variables, where x now stands for atom i.
 fn bind(env: [usize; 4], x: usize, i: usize) -> [usize; 4]
     requires { ⌜ x < 4 ⌝ }
     ensures { λ r. ⌜ (r ≡ set env x i) × (x < length env) ⌝ }
@@ -35,6 +36,7 @@ fn bind(env: [usize; 4], x: usize, i: usize) -> [usize; 4]
     inner
 }
 
+// Node v as an expression: its matrix.
 fn expression(
     sorts: &[u8],
     variables: &[u8],
@@ -48,7 +50,9 @@ fn expression(
 ) -> MadeMatrix
     requires { ⌜ Ready (fourBlocks (now sorts) (now variables) (now relations) (now nodes)) (now given) tape v ⌝ }
     requires { ⌜ IsExpression (fourBlocks (now sorts) (now variables) (now relations) (now nodes)) v ⌝ }
-    ensures { λ r. ⌜ WalksExpression (fourBlocks (now (sorts .entry)) (now (variables .entry)) (now (relations .entry)) (now (nodes .entry))) (now (given .entry)) env v (now (list .entry)) tape (r .matrix) (now (list .exit)) (r .tape) ⌝ }
+    ensures { λ r. ⌜ WalksExpression
+        (fourBlocks (now (sorts .entry)) (now (variables .entry)) (now (relations .entry)) (now (nodes .entry)))
+        (now (given .entry)) env v (now (list .entry)) tape (r .matrix) (now (list .exit)) (r .tape) ⌝ }
 {
     if LIMIT < tape.next {
         let matrix = nothing();
@@ -125,6 +129,7 @@ fn expression(
     }
 }
 
+// Node v as a formula: its literal.
 pub fn formula(
     sorts: &[u8],
     variables: &[u8],
@@ -138,7 +143,9 @@ pub fn formula(
 ) -> Made
     requires { ⌜ Ready (fourBlocks (now sorts) (now variables) (now relations) (now nodes)) (now given) tape v ⌝ }
     requires { ⌜ IsFormula (fourBlocks (now sorts) (now variables) (now relations) (now nodes)) v ⌝ }
-    ensures { λ r. ⌜ WalksFormula (fourBlocks (now (sorts .entry)) (now (variables .entry)) (now (relations .entry)) (now (nodes .entry))) (now (given .entry)) env v (now (list .entry)) tape (r .literal) (now (list .exit)) (r .tape) ⌝ }
+    ensures { λ r. ⌜ WalksFormula
+        (fourBlocks (now (sorts .entry)) (now (variables .entry)) (now (relations .entry)) (now (nodes .entry)))
+        (now (given .entry)) env v (now (list .entry)) tape (r .literal) (now (list .exit)) (r .tape) ⌝ }
 {
     if LIMIT < tape.next {
         return Made {
@@ -266,7 +273,9 @@ fn bodies(
     requires { ⌜ Ready (fourBlocks (now sorts) (now variables) (now relations) (now nodes)) (now given) tape v ⌝ }
     requires { ⌜ IsFormula (fourBlocks (now sorts) (now variables) (now relations) (now nodes)) v ⌝ }
     requires { ⌜ x < 4 ⌝ }
-    ensures { λ r. ⌜ WalksBodies (fourBlocks (now (sorts .entry)) (now (variables .entry)) (now (relations .entry)) (now (nodes .entry))) (now (given .entry)) env v (now (list .entry)) tape x (r .matrix) (now (list .exit)) (r .tape) ⌝ }
+    ensures { λ r. ⌜ WalksBodies
+        (fourBlocks (now (sorts .entry)) (now (variables .entry)) (now (relations .entry)) (now (nodes .entry)))
+        (now (given .entry)) env v (now (list .entry)) tape x (r .matrix) (now (list .exit)) (r .tape) ⌝ }
 {
     let n = byte(sorts, byte(variables, x));
     let mut words = [-1; 64];

@@ -1,13 +1,5 @@
 -- `combine` meets its contract, kind by kind.
 use Rattle.terms.proofs.Numbers.{at-union, at-intersection, at-difference, at-join, at-product}
-use mathlib.Core.Path.{_≡_, refl, sym, ap, _∙_}
-use native.Mathlib.Omega.{arith}
-use Rattle.emission.specs.Emission.{EmitsMatrix, EmitsLiteral}
-use Rattle.emission.proofs.Ranges.{opposite-read}
-use Rattle.literal.proofs.Signs.{back}
-use lib.Seq.{length-take-le}
-use Rattle.terms.proofs.Lists.{cells-inputs}
-use Rattle.terms.proofs.Numbers.{at-union, at-intersection, at-difference, at-join, at-product, at-inverse, at-closure, at-equal, at-within, at-some, at-none, at-lone, at-conjunction, at-disjunction, at-implication, at-equivalence, at-all, at-exists}
 use borrow.Author.Needs.{needs}
 use Rattle.terms.proofs.apply.combine.Statement.{statement}
 use Rattle.terms.proofs.apply.combine.Tie as tie
@@ -31,31 +23,33 @@ same-length : tie.Need-same-length
 same-length c = search needs
 
 returns : tie.Need-returns
-returns c o s = rw (at-union (c .before .before .before .before .before .before .before .args .kind) (c .before .before .before .match .keys1) o s) (c .before .matched .ensures)
+returns c o s = rw (at-union _ (c .before .before .before .match .keys1) o s) (c .before .matched .ensures)
 
 same-length-2 : tie.Need-same-length-2
 same-length-2 c = search needs
 
 returns-2 : tie.Need-returns-2
-returns-2 c o s = rw (at-intersection (c .before .before .before .before .before .before .before .args .kind) (c .before .before .before .match .keys2) o s) (c .before .matched2 .ensures)
+returns-2 c o s = rw (at-intersection _ (c .before .before .before .match .keys2) o s) (c .before .matched2 .ensures)
 
 same-length-3 : tie.Need-same-length-3
 same-length-3 c = search needs
 
 returns-3 : tie.Need-returns-3
-returns-3 c o s = rw (at-difference (c .before .before .before .before .before .before .before .args .kind) (c .before .before .before .match .keys3) o s) (c .before .matched3 .ensures)
+returns-3 c o s = rw (at-difference _ (c .before .before .before .match .keys3) o s) (c .before .matched3 .ensures)
 
 same-length-4 : tie.Need-same-length-4
 same-length-4 c = search needs
 
 returns-4 : tie.Need-returns-4
-returns-4 c o s = rw (at-join (c .before .before .before .before .before .before .before .args .kind) (c .before .before .before .match .keys4) o s) (c .before .join .ensures)
+returns-4 c o s = rw (at-join _ (c .before .before .before .match .keys4) o s) (c .before .join .ensures)
 
 same-length-5 : tie.Need-same-length-5
 same-length-5 c = search needs
 
 returns-5 : tie.Need-returns-5
-returns-5 c o s = rw (at-product (c .before .before .before .before .before .before .before .args .kind) (c .before .before .before .match .rest .0 .0 .0 .1) (c .before .before .before .match .rest .0 .0 .1) (c .before .before .before .match .rest .0 .1) (c .before .before .before .match .rest .1) o s) (c .before .product .ensures)
+returns-5 c o s =
+    let m = c .before .before .before .match in
+    rw (at-product _ (m .rest .0 .0 .0 .1) (m .rest .0 .0 .1) (m .rest .0 .1) (m .rest .1) o s) (c .before .product .ensures)
 
 pub combine-spec : {M : Type 1} → statement M
 combine-spec =

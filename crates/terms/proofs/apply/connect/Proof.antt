@@ -1,13 +1,7 @@
 -- `connect` meets its contract, kind by kind.
-use mathlib.Core.Path.{_≡_, refl, sym, ap, _∙_}
-use native.Mathlib.Omega.{arith}
-use Prim.Native.Nat.{_*_}
 use mir.Syntax.{w32}
 use mir.Val.{SFits}
-use Rattle.emission.proofs.Ranges.{opposite-read}
 use Rattle.literal.proofs.Signs.{back}
-use lib.Seq.{length-take-le}
-use Rattle.terms.proofs.Lists.{cells-inputs}
 use Rattle.terms.proofs.Numbers.{at-conjunction, at-disjunction, at-implication, at-equivalence}
 use borrow.Author.Needs.{needs}
 use Rattle.terms.proofs.apply.connect.Statement.{statement}
@@ -30,36 +24,48 @@ same-length c = search needs
 
 returns : tie.Need-returns
 returns c o s =
-    let f : SFits w32 (c .before .before .before .before .before .before .before .args .p .literal) = search needs in
-    let g : SFits w32 (c .before .before .before .before .before .before .before .args .q .literal) = search needs in
-    rw (at-conjunction (c .before .before .before .before .before .before .before .args .kind) (c .before .before .before .before .before .match .keys1) o s) (rw (back (c .before .before .before .before .before .before .before .args .p .literal) f, back (c .before .before .before .before .before .before .before .args .q .literal) g) at (c .before .pair .ensures))
+    let m = c .before .before .before .before .before .match in
+    let a = c .before .before .before .before .before .before .before .args in
+    let f : SFits w32 (a .p .literal) = search needs in
+    let g : SFits w32 (a .q .literal) = search needs in
+    rw (at-conjunction _ (m .keys1) o s)
+    (rw (back (a .p .literal) f, back (a .q .literal) g) at (c .before .pair .ensures))
 
 same-length-2 : tie.Need-same-length-2
 same-length-2 c = search needs
 
 returns-2 : tie.Need-returns-2
 returns-2 c o s =
-    let f : SFits w32 (c .before .before .before .before .before .before .before .args .p .literal) = search needs in
-    let g : SFits w32 (c .before .before .before .before .before .before .before .args .q .literal) = search needs in
-    rw (at-disjunction (c .before .before .before .before .before .before .before .args .kind) (c .before .before .before .before .before .match .keys2) o s) (rw (back (c .before .before .before .before .before .before .before .args .p .literal) f, back (c .before .before .before .before .before .before .before .args .q .literal) g) at (c .before .pair2 .ensures))
+    let m = c .before .before .before .before .before .match in
+    let a = c .before .before .before .before .before .before .before .args in
+    let f : SFits w32 (a .p .literal) = search needs in
+    let g : SFits w32 (a .q .literal) = search needs in
+    rw (at-disjunction _ (m .keys2) o s)
+    (rw (back (a .p .literal) f, back (a .q .literal) g) at (c .before .pair2 .ensures))
 
 same-length-3 : tie.Need-same-length-3
 same-length-3 c = search needs
 
 returns-3 : tie.Need-returns-3
 returns-3 c o s =
-    let f : SFits w32 (c .before .before .before .before .before .before .before .args .p .literal) = search needs in
-    let g : SFits w32 (c .before .before .before .before .before .before .before .args .q .literal) = search needs in
-    rw (at-implication (c .before .before .before .before .before .before .before .args .kind) (c .before .before .before .before .before .match .keys3) o s) (rw (back (c .before .before .before .before .before .before .before .args .p .literal) f, back (c .before .before .before .before .before .before .before .args .q .literal) g) at (c .before .pair3 .ensures))
+    let m = c .before .before .before .before .before .match in
+    let a = c .before .before .before .before .before .before .before .args in
+    let f : SFits w32 (a .p .literal) = search needs in
+    let g : SFits w32 (a .q .literal) = search needs in
+    rw (at-implication _ (m .keys3) o s)
+    (rw (back (a .p .literal) f, back (a .q .literal) g) at (c .before .pair3 .ensures))
 
 same-length-4 : tie.Need-same-length-4
 same-length-4 c = search needs
 
 returns-4 : tie.Need-returns-4
 returns-4 c o s =
-    let f : SFits w32 (c .before .before .before .before .before .before .before .args .p .literal) = search needs in
-    let g : SFits w32 (c .before .before .before .before .before .before .before .args .q .literal) = search needs in
-    rw (at-equivalence (c .before .before .before .before .before .before .before .args .kind) (c .before .before .before .before .before .match .rest .0 .0 .1) (c .before .before .before .before .before .match .rest .0 .1) (c .before .before .before .before .before .match .rest .1) o s) (rw (back (c .before .before .before .before .before .before .before .args .p .literal) f, back (c .before .before .before .before .before .before .before .args .q .literal) g) at (c .before .pair4 .ensures))
+    let m = c .before .before .before .before .before .match in
+    let a = c .before .before .before .before .before .before .before .args in
+    let f : SFits w32 (a .p .literal) = search needs in
+    let g : SFits w32 (a .q .literal) = search needs in
+    rw (at-equivalence _ (m .rest .0 .0 .1) (m .rest .0 .1) (m .rest .1) o s)
+    (rw (back (a .p .literal) f, back (a .q .literal) g) at (c .before .pair4 .ensures))
 
 pub connect-spec : {M : Type 1} → statement M
 connect-spec =

@@ -1,10 +1,4 @@
 -- `contrast` meets its contract, kind by kind.
-use mathlib.Core.Path.{_≡_, refl, sym, ap, _∙_}
-use native.Mathlib.Omega.{arith}
-use Rattle.emission.proofs.Ranges.{opposite-read}
-use Rattle.literal.proofs.Signs.{back}
-use lib.Seq.{length-take-le}
-use Rattle.terms.proofs.Lists.{cells-inputs}
 use Rattle.terms.proofs.Numbers.{at-equal, at-within}
 use borrow.Author.Needs.{needs}
 use Rattle.terms.proofs.apply.contrast.Statement.{statement}
@@ -20,13 +14,13 @@ same-length : tie.Need-same-length
 same-length c = search needs
 
 returns : tie.Need-returns
-returns c o s = rw (at-equal (c .before .before .before .before .before .before .before .args .kind) (c .before .before .before .match .keys1) o s) (c .before .compare .ensures)
+returns c o s = rw (at-equal _ (c .before .before .before .match .keys1) o s) (c .before .compare .ensures)
 
 same-length-2 : tie.Need-same-length-2
 same-length-2 c = search needs
 
 returns-2 : tie.Need-returns-2
-returns-2 c o s = rw (at-within (c .before .before .before .before .before .before .before .args .kind) (c .before .before .before .match .rest .1) o s) (c .before .compare2 .ensures)
+returns-2 c o s = rw (at-within _ (c .before .before .before .match .rest .1) o s) (c .before .compare2 .ensures)
 
 pub contrast-spec : {M : Type 1} → statement M
 contrast-spec =

@@ -1,10 +1,4 @@
 -- `measure` meets its contract, kind by kind.
-use mathlib.Core.Path.{_≡_, refl, sym, ap, _∙_}
-use native.Mathlib.Omega.{arith}
-use Rattle.emission.proofs.Ranges.{opposite-read}
-use Rattle.literal.proofs.Signs.{back}
-use lib.Seq.{length-take-le}
-use Rattle.terms.proofs.Lists.{cells-inputs}
 use Rattle.terms.proofs.Numbers.{at-some, at-none, at-lone}
 use borrow.Author.Needs.{needs}
 use Rattle.terms.proofs.apply.measure.Statement.{statement}
@@ -23,19 +17,21 @@ same-length : tie.Need-same-length
 same-length c = search needs
 
 returns : tie.Need-returns
-returns c o s = rw (at-some (c .before .before .before .before .before .before .args .kind) (c .before .before .before .match .keys1) o s) (c .before .some .ensures)
+returns c o s = rw (at-some _ (c .before .before .before .match .keys1) o s) (c .before .some .ensures)
 
 same-length-2 : tie.Need-same-length-2
 same-length-2 c = search needs
 
 returns-2 : tie.Need-returns-2
-returns-2 c o s = rw (at-none (c .before .before .before .before .before .before .args .kind) (c .before .before .before .match .keys2) o s) (c .before .none .ensures)
+returns-2 c o s = rw (at-none _ (c .before .before .before .match .keys2) o s) (c .before .none .ensures)
 
 same-length-3 : tie.Need-same-length-3
 same-length-3 c = search needs
 
 returns-3 : tie.Need-returns-3
-returns-3 c o s = rw (at-lone (c .before .before .before .before .before .before .args .kind) (c .before .before .before .match .rest .0 .1) (c .before .before .before .match .rest .1) o s) (c .before .lone .ensures)
+returns-3 c o s =
+    let m = c .before .before .before .match in
+    rw (at-lone _ (m .rest .0 .1) (m .rest .1) o s) (c .before .lone .ensures)
 
 pub measure-spec : {M : Type 1} → statement M
 measure-spec =

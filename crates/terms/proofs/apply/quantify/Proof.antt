@@ -1,10 +1,4 @@
 -- `quantify` meets its contract, kind by kind.
-use mathlib.Core.Path.{_≡_, refl, sym, ap, _∙_}
-use native.Mathlib.Omega.{arith}
-use Rattle.emission.proofs.Ranges.{opposite-read}
-use Rattle.literal.proofs.Signs.{back}
-use lib.Seq.{length-take-le}
-use Rattle.terms.proofs.Lists.{cells-inputs}
 use Rattle.terms.proofs.Numbers.{at-all, at-exists}
 use borrow.Author.Needs.{needs}
 use Rattle.terms.proofs.apply.quantify.Statement.{statement}
@@ -20,13 +14,13 @@ same-length : tie.Need-same-length
 same-length c = search needs
 
 returns : tie.Need-returns
-returns c o s = rw (at-all (c .before .before .before .before .before .before .args .kind) (c .before .before .before .match .keys1) o s) (c .before .every .ensures)
+returns c o s = rw (at-all _ (c .before .before .before .match .keys1) o s) (c .before .every .ensures)
 
 same-length-2 : tie.Need-same-length-2
 same-length-2 c = search needs
 
 returns-2 : tie.Need-returns-2
-returns-2 c o s = rw (at-exists (c .before .before .before .before .before .before .args .kind) (c .before .before .before .match .rest .1) o s) (c .before .some .ensures)
+returns-2 c o s = rw (at-exists _ (c .before .before .before .match .rest .1) o s) (c .before .some .ensures)
 
 pub quantify-spec : {M : Type 1} → statement M
 quantify-spec =

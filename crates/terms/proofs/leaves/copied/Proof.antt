@@ -1,26 +1,12 @@
 -- `copied` meets its contract.
-use mathlib.Core.Path.{_≡_, refl, sym, ap, _∙_}
-use mathlib.Core.List.{List}
-use Prim.Native.Nat.{ℕ}
-use Rattle.sheet.specs.Blocks.{byte}
-use Rattle.sheet.specs.Blocks.{fourBlocks}
-use Rattle.terms.specs.Terms.{Filled, cellFrom, environment}
-use Rattle.cells.proofs.Layouts.{square, set-rows, count-most, width-most, cells-most}
-use Rattle.terms.proofs.Numbers.{at-relation, at-variable, at-atoms, at-identity}
-use Rattle.terms.proofs.LeafMatrices.{constant-word, set-from, identity-from, diagonal, some-root, relation-from, variable-is, sort-is, identity-is}
+use mathlib.Core.Path.{ap, _∙_}
+use Rattle.terms.specs.Terms.{Filled, cellFrom}
 use borrow.Author.Needs.{needs}
-use Prim.Native.Nat.{_≤_, _-_, _*_}
-use mathlib.Core.Path.{_≡_, refl, ap, _∙_}
+use Prim.Native.Nat.{_≤_, _-_}
 use native.Mathlib.Omega.{arith}
-use lib.Dec.{eqb}
-use mathlib.Core.Bool.{true}
 use Rattle.literal.specs.Literals.{literalOf}
 use Rattle.literal.proofs.Signs.{back}
-use Rattle.encoding.specs.Translation.{absent, constant}
-use Rattle.terms.specs.Terms.{Filled, cellFrom}
-use Rattle.terms.proofs.Lists.{literal-of, filled-none, filled-more, filled-at, filled-fine}
-use Rattle.cells.proofs.Layouts.{square}
-use Rattle.terms.proofs.LeafMatrices.{constant-word, set-from, identity-from, diagonal, some-root}
+use Rattle.terms.proofs.Lists.{literal-of, filled-none, filled-more, filled-at}
 use Rattle.terms.proofs.leaves.copied.Statement.{statement}
 use Rattle.terms.proofs.leaves.copied.Tie as tie
 
@@ -52,15 +38,17 @@ loop-less : tie.Need-loop-less Inv-loop μ-loop
 loop-less c = search needs
 
 loop-again : tie.Need-loop-again Inv-loop μ-loop
-loop-again c = (
-  omega arith,
-  filled-more (cellFrom (c .before .before .before .args .given .now) (c .before .before .before .args .first)) _ (c .before .before .loop .inv .1) (omega arith)
-      (ap literalOf (back _ (record { sfits = c .word-at .ok }) ∙ c .word-at .ensures)
-      ∙ literal-of (c .before .before .before .args .given .now) _),
-)
+loop-again c =
+    let a = c .before .before .before .args in
+    let l = c .before .before .loop .inv .1 in
+    let word = back _ (record { sfits = c .word-at .ok }) ∙ c .word-at .ensures in
+    (omega arith, filled-more (cellFrom (a .given .now) (a .first)) _ l (omega arith) (ap literalOf word ∙ literal-of (a .given .now) _))
 
 returns : tie.Need-returns Inv-loop μ-loop
-returns c = filled-at (cellFrom (c .before .before .args .given .now) (c .before .before .args .first)) (c .before .loop .inv .1) _ (c .loop-test .left) (c .before .loop .inv .0)
+returns c =
+    let a = c .before .before .args in
+    let l = c .before .loop .inv in
+    filled-at (cellFrom (a .given .now) (a .first)) (l .1) _ (c .loop-test .left) (l .0)
 
 pub copied-spec : {M : Type 1} → statement M
 copied-spec =

@@ -1,31 +1,14 @@
 -- `identity_leaf` meets its contract.
-use mathlib.Core.Path.{_≡_, refl, sym, ap, _∙_}
-use mathlib.Core.List.{List}
-use Prim.Native.Nat.{ℕ}
-use Rattle.sheet.specs.Blocks.{byte}
-use Rattle.sheet.specs.Blocks.{fourBlocks}
-use Rattle.terms.specs.Terms.{Filled, cellFrom, environment}
-use Rattle.cells.proofs.Layouts.{square, set-rows, count-most, width-most, cells-most}
-use Rattle.terms.proofs.Numbers.{at-relation, at-variable, at-atoms, at-identity}
-use Rattle.terms.proofs.LeafMatrices.{constant-word, set-from, identity-from, diagonal, some-root, relation-from, variable-is, sort-is, identity-is}
-use mathlib.Core.Path.{_≡_, refl, ap, _∙_}
-use Rattle.literal.specs.Literals.{literalOf}
-use Rattle.literal.proofs.Signs.{back}
-use Rattle.encoding.specs.Translation.{absent, constant}
-use Rattle.terms.specs.Terms.{Filled, cellFrom}
-use Rattle.terms.proofs.Lists.{literal-of, filled-none, filled-more, filled-at, filled-fine}
+use mathlib.Core.Path.{_∙_}
+use Rattle.terms.specs.Terms.{Filled}
 use Rattle.cells.proofs.Layouts.{square}
-use Rattle.terms.proofs.LeafMatrices.{constant-word, set-from, identity-from, diagonal, some-root}
+use Rattle.terms.proofs.LeafMatrices.{constant-word, identity-from, diagonal, some-root}
+use Rattle.literal.proofs.Signs.{back}
+use Rattle.terms.proofs.Lists.{filled-none, filled-more, filled-at}
 use borrow.Author.Needs.{needs}
-use Prim.Native.Nat.{_≤_, _-_, _*_, _/_, _%_}
-use mathlib.Core.Path.{refl}
+use Prim.Native.Nat.{_≤_, _-_, _/_, _%_}
 use native.Mathlib.Omega.{arith}
 use lib.Dec.{eqb}
-use mathlib.Core.Bool.{true}
-use Rattle.encoding.specs.Translation.{constant}
-use Rattle.terms.specs.Terms.{Filled}
-use Rattle.terms.proofs.Lists.{filled-none, filled-more, filled-at}
-use Rattle.terms.proofs.LeafMatrices.{constant-word, set-from, identity-from, diagonal}
 use Rattle.terms.proofs.leaves.identity_leaf.Statement.{statement}
 use Rattle.terms.proofs.leaves.identity_leaf.Tie as tie
 
@@ -63,17 +46,20 @@ loop-less : tie.Need-loop-less Inv-loop μ-loop
 loop-less c = search needs
 
 loop-again : tie.Need-loop-again Inv-loop μ-loop
-loop-again c = (
-  omega arith,
-  filled-more (diagonal (c .before .before .before .args .n)) _ (c .before .before .loop .inv .1) (omega (arith, square (c .before .before .before .pre) (c .before .before .before .pre)))
-      (constant-word (eqb (c .before .before .loop .k / c .before .before .before .args .n) (c .before .before .loop .k % c .before .before .before .args .n))
-      (back _ (record { sfits = c .truth .ok }) ∙ c .truth .ensures)),
-)
+loop-again c =
+    let n = c .before .before .before .args .n in
+    let most = square (c .before .before .before .pre) (c .before .before .before .pre) in
+    let l = c .before .before .loop in
+    let word = back _ (record { sfits = c .truth .ok }) ∙ c .truth .ensures in (
+      omega arith,
+      filled-more (diagonal n) _ (l .inv .1) (omega arith) (constant-word (eqb (l .k / n) (l .k % n)) word),
+    )
 
 returns : tie.Need-returns Inv-loop μ-loop
 returns c =
-    identity-from _ _ (c .before .before .pre)
-    (filled-at (diagonal (c .before .before .args .n)) (c .before .loop .inv .1) _ (c .loop-test .left) (c .before .loop .inv .0))
+    let n = c .before .before .args .n in
+    let l = c .before .loop .inv in
+    identity-from _ _ (c .before .before .pre) (filled-at (diagonal n) (l .1) _ (c .loop-test .left) (l .0))
 
 pub identity-leaf-spec : {M : Type 1} → statement M
 identity-leaf-spec =

@@ -1,17 +1,8 @@
 -- `nothing` meets its contract.
-use borrow.Author.Needs.{needs}
-use Prim.Native.Nat.{_≤_, _-_, _*_}
-use mathlib.Core.Path.{_≡_, refl, ap, _∙_}
+use mathlib.Core.Path.{refl}
 use native.Mathlib.Omega.{arith}
-use lib.Dec.{eqb}
-use mathlib.Core.Bool.{true}
-use Rattle.literal.specs.Literals.{literalOf}
-use Rattle.literal.proofs.Signs.{back}
-use Rattle.encoding.specs.Translation.{absent, constant}
-use Rattle.terms.specs.Terms.{Filled, cellFrom}
-use Rattle.terms.proofs.Lists.{literal-of, filled-none, filled-more, filled-at, filled-fine}
-use Rattle.cells.proofs.Layouts.{square}
-use Rattle.terms.proofs.LeafMatrices.{constant-word, set-from, identity-from, diagonal, some-root}
+use Rattle.encoding.specs.Translation.{absent}
+use Rattle.terms.proofs.Lists.{filled-none, filled-fine}
 use Rattle.terms.proofs.leaves.nothing.Statement.{statement}
 use Rattle.terms.proofs.leaves.nothing.Tie as tie
 

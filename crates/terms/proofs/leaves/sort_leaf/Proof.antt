@@ -1,14 +1,13 @@
 -- `sort_leaf` meets its contract.
 use borrow.Author.Needs.{needs}
-use Prim.Native.Nat.{_≤_, _-_, _*_}
+use Prim.Native.Nat.{_≤_, _-_}
 use mathlib.Core.Path.{refl}
 use native.Mathlib.Omega.{arith}
-use lib.Dec.{eqb}
 use mathlib.Core.Bool.{true}
 use Rattle.encoding.specs.Translation.{constant}
 use Rattle.terms.specs.Terms.{Filled}
 use Rattle.terms.proofs.Lists.{filled-none, filled-more, filled-at}
-use Rattle.terms.proofs.LeafMatrices.{constant-word, set-from, identity-from, diagonal}
+use Rattle.terms.proofs.LeafMatrices.{set-from}
 use Rattle.terms.proofs.leaves.sort_leaf.Statement.{statement}
 use Rattle.terms.proofs.leaves.sort_leaf.Tie as tie
 
@@ -37,7 +36,9 @@ loop-again : tie.Need-loop-again Inv-loop μ-loop
 loop-again c = (omega arith, filled-more (λ i. constant true) _ (c .before .loop .inv .1) (omega arith) refl)
 
 returns : tie.Need-returns Inv-loop μ-loop
-returns c = set-from _ (λ i. true) _ (c .before .before .pre) (filled-at (λ i. constant true) (c .before .loop .inv .1) _ (c .loop-test .left) (c .before .loop .inv .0))
+returns c =
+    let l = c .before .loop .inv in
+    set-from _ (λ i. true) _ (c .before .before .pre) (filled-at (λ i. constant true) (l .1) _ (c .loop-test .left) (l .0))
 
 pub sort-leaf-spec : {M : Type 1} → statement M
 sort-leaf-spec =

@@ -1,5 +1,4 @@
 -- `truth` meets its contract.
-use borrow.Author.Needs.{needs}
 use Rattle.terms.proofs.leaves.truth.Statement.{statement}
 use Rattle.terms.proofs.leaves.truth.Tie as tie
 

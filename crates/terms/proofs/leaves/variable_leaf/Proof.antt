@@ -1,22 +1,14 @@
 -- `variable_leaf` meets its contract.
-use mathlib.Core.Path.{_≡_, refl, ap, _∙_}
-use Rattle.literal.specs.Literals.{literalOf}
+use mathlib.Core.Path.{_∙_}
 use Rattle.literal.proofs.Signs.{back}
-use Rattle.encoding.specs.Translation.{absent, constant}
-use Rattle.terms.specs.Terms.{Filled, cellFrom}
-use Rattle.terms.proofs.Lists.{literal-of, filled-none, filled-more, filled-at, filled-fine}
-use Rattle.cells.proofs.Layouts.{square}
-use Rattle.terms.proofs.LeafMatrices.{constant-word, set-from, identity-from, diagonal, some-root}
-use borrow.Author.Needs.{needs}
-use Prim.Native.Nat.{_≤_, _-_, _*_}
-use mathlib.Core.Path.{refl}
-use native.Mathlib.Omega.{arith}
-use lib.Dec.{eqb}
-use mathlib.Core.Bool.{true}
 use Rattle.encoding.specs.Translation.{constant}
 use Rattle.terms.specs.Terms.{Filled}
 use Rattle.terms.proofs.Lists.{filled-none, filled-more, filled-at}
-use Rattle.terms.proofs.LeafMatrices.{constant-word, set-from, identity-from, diagonal}
+use Rattle.terms.proofs.LeafMatrices.{constant-word, set-from}
+use borrow.Author.Needs.{needs}
+use Prim.Native.Nat.{_≤_, _-_}
+use native.Mathlib.Omega.{arith}
+use lib.Dec.{eqb}
 use Rattle.terms.proofs.leaves.variable_leaf.Statement.{statement}
 use Rattle.terms.proofs.leaves.variable_leaf.Tie as tie
 
@@ -45,17 +37,20 @@ loop-less : tie.Need-loop-less Inv-loop μ-loop
 loop-less c = search needs
 
 loop-again : tie.Need-loop-again Inv-loop μ-loop
-loop-again c = (
-  omega arith,
-  filled-more (λ i. constant (eqb i (c .before .before .before .args .atom))) _ (c .before .before .loop .inv .1) (omega arith)
-      (constant-word (eqb (c .before .before .loop .k) (c .before .before .before .args .atom))
-      (back _ (record { sfits = c .truth .ok }) ∙ c .truth .ensures)),
-)
+loop-again c =
+    let atom = c .before .before .before .args .atom in
+    let l = c .before .before .loop in
+    let word = back _ (record { sfits = c .truth .ok }) ∙ c .truth .ensures in (
+      omega arith,
+      filled-more (λ i. constant (eqb i atom)) _ (l .inv .1) (omega arith) (constant-word (eqb (l .k) atom) word),
+    )
 
 returns : tie.Need-returns Inv-loop μ-loop
 returns c =
-    set-from _ (λ i. eqb i (c .before .before .args .atom)) _ (c .before .before .pre)
-    (filled-at (λ i. constant (eqb i (c .before .before .args .atom))) (c .before .loop .inv .1) _ (c .loop-test .left) (c .before .loop .inv .0))
+    let atom = c .before .before .args .atom in
+    let l = c .before .loop .inv in
+    set-from _ (λ i. eqb i atom) _ (c .before .before .pre)
+    (filled-at (λ i. constant (eqb i atom)) (l .1) _ (c .loop-test .left) (l .0))
 
 pub variable-leaf-spec : {M : Type 1} → statement M
 variable-leaf-spec =

@@ -1,0 +1,87 @@
+// Counting and writing the clauses of a sheet, and clause text.
+ghost use mathlib.Core.Path.{_≡_};
+ghost use Rattle.clauses.specs.Answers as counted;
+ghost use Rattle.dimacs.specs.Answers as texts;
+ghost use Rattle.boundary.specs.Numbers.{countNumbers, textNumbers};
+use clauses::answer::Count;
+use dimacs::TextSize;
+
+// The numbers of variables, clauses and words.
+#[repr(C)]
+pub struct CountAnswer {
+    pub refusal: u32,
+    pub variables: usize,
+    pub clauses: usize,
+    pub words: usize,
+}
+
+fn count_numbers(answer: Count) -> CountAnswer
+    ensures { λ r. ⌜ r ≡ countNumbers (counted.answerOf answer) ⌝ }
+{
+    match answer {
+        Count::Fits(size) => CountAnswer {
+            refusal: 0,
+            variables: size.variables,
+            clauses: size.clauses,
+            words: size.words,
+        },
+        Count::Refused(r) => CountAnswer {
+            refusal: refusal::number(r),
+            variables: 0,
+            clauses: 0,
+            words: 0,
+        },
+    }
+}
+
+#[no_mangle]
+pub extern "C" fn fawnloom_count(sheet: &[u8]) -> CountAnswer
+    ensures { λ r. ⌜ r ≡ countNumbers (counted.countAnswer (now (sheet .entry))) ⌝ }
+{
+    count_numbers(clauses::count(sheet))
+}
+
+#[no_mangle]
+pub extern "C" fn fawnloom_write(sheet: &[u8], list: &mut [i32]) -> CountAnswer
+    ensures { λ r. ⌜ r ≡ countNumbers (counted.writeAnswer (now (sheet .entry)) (now (list .entry))) ⌝ }
+    ensures { λ r. ⌜ now (list .exit) ≡ counted.listAfter (now (sheet .entry)) (now (list .entry)) ⌝ }
+{
+    count_numbers(clauses::write(sheet, list))
+}
+
+// The bytes of a clause text: those that it needs, or those written.
+#[repr(C)]
+pub struct TextAnswer {
+    pub refusal: u32,
+    pub bytes: usize,
+}
+
+fn text_numbers(answer: TextSize) -> TextAnswer
+    ensures { λ r. ⌜ r ≡ textNumbers (texts.answerOf answer) ⌝ }
+{
+    match answer {
+        TextSize::Bytes(n) => TextAnswer {
+            refusal: 0,
+            bytes: n,
+        },
+        TextSize::Refused(r) => TextAnswer {
+            refusal: refusal::number(r),
+            bytes: 0,
+        },
+    }
+}
+
+#[no_mangle]
+pub extern "C" fn fawnloom_text_size(list: &[i32], v: u32) -> TextAnswer
+    ensures { λ r. ⌜ r ≡ textNumbers (texts.sizeAnswer v (now (list .entry))) ⌝ }
+{
+    text_numbers(dimacs::size(list, v))
+}
+
+#[no_mangle]
+pub extern "C" fn fawnloom_text(list: &[i32], v: u32, text: &mut [u8]) -> TextAnswer
+    ensures { λ r. ⌜ r ≡ textNumbers (texts.writeAnswer v (now (list .entry)) (now (text .entry))) ⌝ }
+    ensures { λ r. ⌜ now (text .exit) ≡ texts.textAfter v (now (list .entry)) (now (text .entry)) ⌝ }
+{
+    text_numbers(dimacs::write(list, v, text))
+}

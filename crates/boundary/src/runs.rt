@@ -1,0 +1,110 @@
+// Search, read-back, and the whole run over lent slices.
+ghost use mathlib.Core.Path.{_≡_};
+ghost use Rattle.search.specs.Answers as searched;
+ghost use Rattle.search.specs.Answers.{outcome};
+ghost use Rattle.solve.specs.Answers as back;
+ghost use Rattle.solve.specs.Finding.{slices, finding};
+ghost use Rattle.boundary.specs.Numbers.{searchNumbers, copyNumbers};
+use search::answer::Search;
+use solve::answer::ReadBack;
+
+// How a search ended, 1 found, 2 none, 3 spent, and its steps. Both are 0 under a refusal.
+#[repr(C)]
+pub struct SearchAnswer {
+    pub refusal: u32,
+    pub end: u32,
+    pub steps: u64,
+}
+
+fn search_numbers(answer: Search) -> SearchAnswer
+    ensures { λ r. ⌜ r ≡ searchNumbers (searched.answerOf answer) ⌝ }
+{
+    match answer {
+        Search::Found(n) => SearchAnswer {
+            refusal: 0,
+            end: 1,
+            steps: n,
+        },
+        Search::None(n) => SearchAnswer {
+            refusal: 0,
+            end: 2,
+            steps: n,
+        },
+        Search::Spent(n) => SearchAnswer {
+            refusal: 0,
+            end: 3,
+            steps: n,
+        },
+        Search::Refused(r) => SearchAnswer {
+            refusal: refusal::number(r),
+            end: 0,
+            steps: 0,
+        },
+    }
+}
+
+#[no_mangle]
+pub extern "C" fn fawnloom_search(
+    list: &[i32],
+    v: u32,
+    values: &mut [u8],
+    trail: &mut [i32],
+    budget: u64,
+) -> SearchAnswer
+    ensures { λ r. ⌜ r ≡ searchNumbers (outcome (now (list .entry)) v (now (values .entry)) (now (trail .entry)) budget .answer) ⌝ }
+    ensures { λ r. ⌜ now (values .exit) ≡ outcome (now (list .entry)) v (now (values .entry)) (now (trail .entry)) budget .values ⌝ }
+    ensures { λ r. ⌜ now (trail .exit) ≡ outcome (now (list .entry)) v (now (values .entry)) (now (trail .entry)) budget .trail ⌝ }
+{
+    search_numbers(search::search(list, v, values, trail, budget))
+}
+
+// The cells that read-back copied.
+#[repr(C)]
+pub struct ReadBackAnswer {
+    pub refusal: u32,
+    pub cells: usize,
+}
+
+fn copy_numbers(answer: ReadBack) -> ReadBackAnswer
+    ensures { λ r. ⌜ r ≡ copyNumbers (back.answerOf answer) ⌝ }
+{
+    match answer {
+        ReadBack::Copied(cells) => ReadBackAnswer {
+            refusal: 0,
+            cells: cells,
+        },
+        ReadBack::Refused(r) => ReadBackAnswer {
+            refusal: refusal::number(r),
+            cells: 0,
+        },
+    }
+}
+
+#[no_mangle]
+pub extern "C" fn fawnloom_read_back(
+    sheet: &[u8],
+    values: &[u8],
+    instance: &mut [u8],
+) -> ReadBackAnswer
+    ensures { λ r. ⌜ r ≡ copyNumbers (back.readBackAnswer (now (sheet .entry)) (now (values .entry)) (now (instance .entry))) ⌝ }
+    ensures { λ r. ⌜ now (instance .exit) ≡ back.instanceAfter (now (sheet .entry)) (now (values .entry)) (now (instance .entry)) ⌝ }
+{
+    copy_numbers(solve::read_back(sheet, values, instance))
+}
+
+#[no_mangle]
+pub extern "C" fn fawnloom_find(
+    sheet: &[u8],
+    list: &mut [i32],
+    values: &mut [u8],
+    trail: &mut [i32],
+    instance: &mut [u8],
+    budget: u64,
+) -> SearchAnswer
+    ensures { λ r. ⌜ r ≡ searchNumbers
+        (finding (now (sheet .entry)) (slices (now (list .entry)) (now (values .entry)) (now (trail .entry)) (now (instance .entry))) budget .answer) ⌝ }
+    ensures { λ r. ⌜ slices (now (list .exit)) (now (values .exit)) (now (trail .exit)) (now (instance .exit))
+        ≡ finding (now (sheet .entry)) (slices (now (list .entry)) (now (values .entry)) (now (trail .entry)) (now (instance .entry))) budget .left ⌝ }
+{
+    search_numbers(solve::find(sheet, list, values, trail, instance, budget))
+}
