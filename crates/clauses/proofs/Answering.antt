@@ -55,7 +55,8 @@ module _ (s : List ℕ) (layout : Layout) (accepted : reading s ≡ Accepted lay
     where
       within : Within (tape .next) → sizeAnswer tape ≡ countAnswer s
       within h =
-          rw (accepted, le-leb (tape .next) 16001 h, le-leb (variableTotal (sheetOf s)) 16000 (small h), t .variable-count h, t .clause-count h, t .word-count h)
+          let v = le-leb (variableTotal (sheetOf s)) 16000 (small h) in
+          rw (accepted, le-leb (tape .next) 16001 h, v, t .variable-count h, t .clause-count h, t .word-count h)
 
       over : Over (tape .next) → sizeAnswer tape ≡ countAnswer s
       over h = rw (accepted, lt-leb (tape .next) 16001 h, lt-leb (variableTotal (sheetOf s)) 16000 (t .over h))
@@ -87,6 +88,7 @@ module _ (s : List ℕ) (old : List ℤ) where
   unfolding writeAnswer listAfter
   write-refused e = (rw (← e), rw (← e))
 
-  pub write-short : {v c w : ℕ} → countAnswer s ≡ fits v c w → length old < w → (refused 13 ≡ writeAnswer s old) × (old ≡ listAfter s old)
+  pub write-short : {v c w : ℕ} → countAnswer s ≡ fits v c w → length old < w
+      → (refused 13 ≡ writeAnswer s old) × (old ≡ listAfter s old)
   unfolding writeAnswer listAfter
   write-short {v} {c} {w} e h = (rw (e, lt-leb w (length old) h), rw (e, lt-leb w (length old) h))

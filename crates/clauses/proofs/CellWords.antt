@@ -26,7 +26,8 @@ words-none = record { room = length-replicate 1024 (negsuc 0); cells = refl }
 pub word-is : (i : ℕ) (w : ℤ) → i < 1024 → w ≡ positiveWord (2 + i) → literalOf w ≡ positive (2 + i)
 word-is i w h e = ap literalOf (e ∙ positive-is (2 + i) (omega arith))
 
-pub words-more : {i : ℕ} {ws : List ℤ} (w : ℤ) → CellWords i ws → i < 1024 → literalOf w ≡ positive (2 + i) → CellWords (i + 1) (set ws i w)
+pub words-more : {i : ℕ} {ws : List ℤ} (w : ℤ) → CellWords i ws → i < 1024 → literalOf w ≡ positive (2 + i)
+    → CellWords (i + 1) (set ws i w)
 words-more {i} {ws} w h l e =
     rw (add-one i)
     (record {

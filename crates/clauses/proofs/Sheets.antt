@@ -36,7 +36,8 @@ module _ (s : List ℕ) (l : Layout) (accepted : reading s ≡ Accepted l) where
       let d = part-is (p .nodes) in
       λ i. fourBlocks (a i) (b i) (c i) (d i)
 
-  pub translatable : {n : ℕ} {ws : List ℤ} → n ≡ cellCount (sheetOf s) → n ≤ 1024 → CellWords n ws → Translatable (sheetOf s) (take n ws)
+  pub translatable : {n : ℕ} {ws : List ℤ} → n ≡ cellCount (sheetOf s) → n ≤ 1024 → CellWords n ws
+      → Translatable (sheetOf s) (take n ws)
   translatable {n} {ws} e h w =
       let r = root-is (sheetOf s) (accepted-sound s (ap isAccepted accepted)) in
       record {

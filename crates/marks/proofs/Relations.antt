@@ -34,8 +34,8 @@ pub row-same : {m n : ℕ} {row line : List Literal} → m ≡ n → row ≡ lin
 row-same e f = rw (e, f)
 
 -- a row's literals, copied from the cells
-module _ (sheet : Sheet) (given : List ℤ) (r i : ℕ) {n first : ℕ} (en : n ≡ rowLength sheet r) (ef : first ≡ firstCell sheet r) (few : n ≤ 8)
-    {ws : List ℤ} (h : Filled (cellFrom given (first + i * n)) n ws) where
+module _ (sheet : Sheet) (given : List ℤ) (r i : ℕ) {n first : ℕ} (en : n ≡ rowLength sheet r)
+    (ef : first ≡ firstCell sheet r) (few : n ≤ 8) {ws : List ℤ} (h : Filled (cellFrom given (first + i * n)) n ws) where
   pub row-is : literalsOf (take n ws) ≡ rowLiterals sheet (literalsOf given) r i
   row-is =
       let at = literalAt sheet (literalsOf given) in

@@ -3,7 +3,7 @@
 
 use super::{agree, covered, hex};
 use crate::{library, Outcome, Run};
-use reference::clauses::{count, write};
+use reference::clauses::{count, write, Size};
 use reference::every_kind;
 use reference::random::Source;
 use reference::random_damage::any;
@@ -14,7 +14,42 @@ use reference::sheet::Sheet;
 /// What stands in the slice before the call.
 const FILLING: i32 = 0x5eed;
 
+/// K1, K2, K5, K6 and "r equal r": the sheet, and its clauses by hand.
+type Marked = (&'static [u8], u32, &'static [&'static [i32]]);
+
+const fn small(mark: u8, kind: u8, b: u8) -> [u8; 20] {
+    [1, 0, 1, 2, 0, 0, 0, 4, 1, mark, 0, 0, 0, 6, 1, 0, 0, kind, 0, b]
+}
+
+const K6: &[u8] = &[1, 0, 1, 1, 0, 0, 0, 4, 2, 0, 0, 0, 0, 9, 1, 0, 0, 11, 0, 0, 22, 1, 0];
+
+#[rustfmt::skip]
+const MARKED: [Marked; 5] = [
+    (&small(0, 22, 0), 4, &[&[1], &[4, -2], &[4, -3], &[-4, 2, 3], &[4]]),
+    (&small(2, 22, 0), 4, &[&[1], &[-2, -3], &[2, 3], &[4, -2], &[4, -3], &[-4, 2, 3], &[4]]),
+    // AND over the one pair of OR(-2, -3), which is the gate 4 itself
+    (&small(0, 24, 0), 4, &[&[1], &[4, 2], &[4, 3], &[-4, -2, -3], &[4]]),
+    (K6, 2, &[&[1], &[2]]),
+    (&small(0, 20, 0), 10, &[
+        &[1],
+        &[4, 2], &[4, -2], &[-4, -2, 2], &[5, 2], &[5, -2], &[-5, -2, 2], &[6, 4], &[6, 5], &[-6, -4, -5],
+        &[7, 3], &[7, -3], &[-7, -3, 3], &[8, 3], &[8, -3], &[-8, -3, 3], &[9, 7], &[9, 8], &[-9, -7, -8],
+        &[10, -6], &[10, -9], &[-10, 6, 9], &[-10],
+    ]),
+];
+
+fn compare_marked(&(sheet, variables, clauses): &Marked) -> Result<(), String> {
+    let words: Vec<i32> = clauses.iter().flat_map(|clause| [&[clause.len() as i32], *clause].concat()).collect();
+    let size = Size { variables, clauses: clauses.len() as u32, words: words.len() as u32 };
+    let asked = || format!("marked, sheet {}", hex(sheet));
+    agree(library::count(sheet), Ok(size), asked)?;
+    let mut list = vec![FILLING; words.len() + 1];
+    agree(library::write(sheet, &mut list), Ok(size), asked)?;
+    agree(list, [words, vec![FILLING]].concat(), asked)
+}
+
 pub fn run(run: &Run) -> Outcome {
+    MARKED.iter().try_for_each(compare_marked)?;
     let mut tally = [("a list", 0), ("number 10", 0), ("number 13", 0), ("a refused sheet", 0)];
     let kinds = known();
     let mut words = 0;

@@ -22,7 +22,8 @@ use Rattle.marks.proofs.pairs_with.Tie as tie
 
 abbrev Inv-loop : tie.InvT-loop
 Inv-loop list₀ p others first after₀ k₀ list after k =
-    (k ≤ length others) × Adds (3 * k) (map pairClause (pairsWith (literalOf (toZ w32 p)) (literalsOf (take k others)))) list₀ after₀ list after
+    (k ≤ length others)
+    × Adds (3 * k) (map pairClause (pairsWith (literalOf (toZ w32 p)) (literalsOf (take k others)))) list₀ after₀ list after
 
 abbrev μ-loop : tie.MeasureT-loop
 μ-loop list₀ p others first after₀ k₀ list after k = length others - k
@@ -80,7 +81,8 @@ loop-again c =
     ((opposite (literalOf (read p)) ∷ opposite (literalOf w) ∷ []) ∷ []) = rw (e, f)
     in (
       omega arith,
-      adds-most (adds-as (adds-then (loop .inv .1) (adds-as (adds-one (read (first .result)) (read (second .result) ∷ []) (c .before .emit-clause .ensures)) g))
+      adds-most (adds-as (adds-then (loop .inv .1)
+          (adds-as (adds-one (read (first .result)) (read (second .result) ∷ []) (c .before .emit-clause .ensures)) g))
           (with-next (literalOf (read p)) ws k h)) (omega arith),
     )
 

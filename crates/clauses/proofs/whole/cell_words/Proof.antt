@@ -43,7 +43,8 @@ loop-again c =
     let i = c .before .before .loop .i in
     let h : i < 1024 = omega (arith, c .before .before .before .pre, c .before .loop-test .taken) in
     let w = c .positive .result in
-    (omega arith, rw (back w (record { sfits = c .positive .ok })) (words-more w (c .before .before .loop .inv .1) h (word-is i w h (c .positive .ensures))))
+    let more = words-more w (c .before .before .loop .inv .1) h (word-is i w h (c .positive .ensures)) in
+    (omega arith, rw (back w (record { sfits = c .positive .ok })) more)
 
 returns : tie.Need-returns Inv-loop μ-loop
 returns c = words-done (c .before .loop .inv .1) (c .before .loop .inv .0) (c .loop-test .left)

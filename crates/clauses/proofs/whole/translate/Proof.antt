@@ -51,7 +51,9 @@ part-translate-blocks-start-2 : tie.Need-part-translate-blocks-start-2
 part-translate-blocks-start-2 c = search needs
 
 part-translate-blocks-end-2 : tie.Need-part-translate-blocks-end-2
-part-translate-blocks-end-2 c = blocks (c .before .before .before .before .before .before .before .before .before .before .before .before) .variables .inside
+part-translate-blocks-end-2 c =
+    let at = c .before .before .before .before in
+    blocks (at .before .before .before .before .before .before .before .before) .variables .inside
 
 sub-translate-blocks-3 : tie.Need-sub-translate-blocks-3
 sub-translate-blocks-3 c = search needs
@@ -60,7 +62,9 @@ part-translate-blocks-start-3 : tie.Need-part-translate-blocks-start-3
 part-translate-blocks-start-3 c = search needs
 
 part-translate-blocks-end-3 : tie.Need-part-translate-blocks-end-3
-part-translate-blocks-end-3 c = blocks (c .before .before .before .before .before .before .before .before .before .before .before .before .before) .relations .inside
+part-translate-blocks-end-3 c =
+    let at = c .before .before .before .before .before in
+    blocks (at .before .before .before .before .before .before .before .before) .relations .inside
 
 sub-translate-blocks-4 : tie.Need-sub-translate-blocks-4
 sub-translate-blocks-4 c = search needs
@@ -69,7 +73,9 @@ part-translate-blocks-start-4 : tie.Need-part-translate-blocks-start-4
 part-translate-blocks-start-4 c = search needs
 
 part-translate-blocks-end-4 : tie.Need-part-translate-blocks-end-4
-part-translate-blocks-end-4 c = blocks (c .before .before .before .before .before .before .before .before .before .before .before .before .before .before) .nodes .inside
+part-translate-blocks-end-4 c =
+    let at = c .before .before .before .before .before .before in
+    blocks (at .before .before .before .before .before .before .before .before) .nodes .inside
 
 array-share-prefix-words : tie.Need-array-share-prefix-words
 array-share-prefix-words c = search needs
@@ -82,9 +88,10 @@ slice-aggregate-translate-blocks c =
 
 translate-blocks-requires : tie.Need-translate-blocks-requires
 translate-blocks-requires c κs =
-    let start = c .before .before .before .before .before .before .before .before .before .before .before .before .before .before .before .before .before in
-    let n = c .before .before .before .before .before .before .before .before .before .before .before .before .before .before .before .cell-count in
-    let words = c .before .before .before .before .before .before .before .before .before .before .before .before .before .before .cell-words in
+    let at = c .before .before .before .before .before .before .before .before .before .before .before .before .before .before in
+    let start = at .before .before .before in
+    let n = at .before .cell-count in
+    let words = at .cell-words in
     rw (blocks-are (start .args .sheet .now) (start .args .layout) (start .pre))
     (translatable (start .args .sheet .now) (start .args .layout) (start .pre) (n .ensures .0) (n .ensures .1) (words .ensures))
 
@@ -93,7 +100,8 @@ same-length c = search needs
 
 returns : tie.Need-returns
 returns c =
-    let start = c .before .before .before .before .before .before .before .before .before .before .before .before .before .before .before .before .before .before .before in
+    let at = c .before .before .before .before .before .before .before .before .before .before .before .before in
+    let start = at .before .before .before .before .before .before .before in
     rw (blocks-are (start .args .sheet .now) (start .args .layout) (start .pre)) at (c .before .translate-blocks .ensures)
 
 pub translate-spec : {M : Type 1} → statement M

@@ -43,31 +43,37 @@ formula-requires c κs =
     let t = start .pre in
     let sheet = sheet-at start in
     let given = start .args .given .now in
-    (root-ready sheet given t refl refl refl (c .before .before .before .before .before .emit-clause .ensures) (c .before .before .marks .ensures), t .formula)
+    let first = c .before .before .before .before .before .emit-clause in
+    (root-ready sheet given t refl refl refl (first .ensures) (c .before .before .marks .ensures), t .formula)
 
 slice-aggregate-emit-clause-2 : tie.Need-slice-aggregate-emit-clause-2
 slice-aggregate-emit-clause-2 c = search needs
 
 emit-clause-requires-2 : tie.Need-emit-clause-requires-2
 emit-clause-requires-2 c κs =
-    let start = c .before .before .before .before .before .before .before .before .before .before .before .before .before .before .before .before .before .before in
+    let marked = c .before .before .before .before .before .before .before .before in
+    let first = marked .before .before .before in
+    let start = first .before .before .before .before .before .before .before in
     let t = start .pre in
     let sheet = sheet-at start in
     let given = start .args .given .now in
-    walk-room sheet given t refl refl refl (c .before .before .before .before .before .before .before .before .before .before .before .emit-clause .ensures) (c .before .before .before .before .before .before .before .before .marks .ensures) (c .before .before .before .before .before .formula .ensures) [] refl
+    walk-room sheet given t refl refl refl (first .emit-clause .ensures) (marked .marks .ensures)
+    (c .before .before .before .before .before .formula .ensures) [] refl
 
 same-length : tie.Need-same-length
 same-length c = search needs
 
 returns : tie.Need-returns
 returns c =
-    let start = c .before .before .before .before .before .before .before .before .before .before .before .before .before .before .before .before .before .before .before .before in
+    let made = c .before .before .before .before .before .before .before .formula .result in
+    let e : literalOf (read (made .literal)) ≡ literalOf (made .literal) = ap literalOf (back (made .literal) (search needs)) in
+    let marked = c .before .before .before .before .before .before .before .before .before .before in
+    let first = marked .before .before .before in
+    let start = first .before .before .before .before .before .before .before in
     let t = start .pre in
     let sheet = sheet-at start in
     let given = start .args .given .now in
-    let made = c .before .before .before .before .before .before .before .formula .result in
-    let e : literalOf (read (made .literal)) ≡ literalOf (made .literal) = ap literalOf (back (made .literal) (search needs)) in
-    translates sheet given t refl refl refl (c .before .before .before .before .before .before .before .before .before .before .before .before .before .emit-clause .ensures) (c .before .before .before .before .before .before .before .before .before .before .marks .ensures)
+    translates sheet given t refl refl refl (first .emit-clause .ensures) (marked .marks .ensures)
     (c .before .before .before .before .before .before .before .formula .ensures) (appends-as (rw e) (c .before .emit-clause2 .ensures))
 
 pub translate-blocks-spec : {M : Type 1} → statement M
