@@ -1,6 +1,6 @@
-mod Answers
+pub mod Answers
 pub mod Cases
 pub mod Decimals
 pub mod Lines
-mod Puts
+pub mod Puts
 mod Walks

@@ -15,7 +15,7 @@ pub enum TextSize {
 }
 
 // Puts a number in decimal, and answers where it ends: the digits of its tenth first, then its last digit.
-fn put_decimal(text: &mut [u8], at: usize, n: usize) -> usize
+pub fn put_decimal(text: &mut [u8], at: usize, n: usize) -> usize
     requires { ⌜ Room (now text) at (decimal n) ⌝ }
     ensures { λ r. ⌜ Put (now (text .entry)) at (decimal n) (now (text .exit)) r ⌝ }
 {

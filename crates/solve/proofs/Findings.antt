@@ -1,7 +1,7 @@
 -- A call of `find` declines, and then the sheet or the slices do not fit, or it runs, and then they do.
 use mathlib.Core.Path.{_≡_, refl, sym, ap, _∙_, subst}
 use mathlib.Core.Bool.{Bool, true, false, cond, _&&_}
-use mathlib.Core.Logic.{_⊎_, inl, inr}
+use mathlib.Core.Logic.{_⊎_, inl, inr, ⊎-elim}
 use mathlib.Core.List.{List}
 use Prim.Native.Nat.{ℕ, _≤_, _<_}
 use native.Mathlib.Omega.{arith}
@@ -15,6 +15,7 @@ use Rattle.encoding.specs.Whole.{variableTotal, wordTotal}
 use Rattle.clauses.specs.Answers as count
 use Rattle.clauses.specs.Answers.{countAnswer}
 use Rattle.clauses.proofs.Answered.{Counted, count-fits}
+use Rattle.search.specs.Answers.{found, refused}
 use Rattle.solve.specs.Finding.{Slices, Finding, decline, haveRoom, findIn, findAfter, finding}
 use Rattle.solve.specs.Demand3.{FitsLimits, FitSlices}
 use Rattle.solve.proofs.Calls.{counts}
@@ -116,3 +117,14 @@ module _ (s : List ℕ) (lent : Slices) (budget : ℕ) where
 
   pub called : Declined ⊎ Ran
   called = by-counting (countAnswer s) refl
+
+  -- "found" is no answer of a call that declines
+  pub found-fits : (steps : ℕ) → finding s lent budget .answer ≡ found steps → FitsLimits s
+  found-fits steps e =
+      ⊎-elim
+      (λ (d : Declined).
+      let f : refused (d .number) ≡ found steps = ap (λ x. x .answer) (sym (d .is)) ∙ e in
+      let z : _≡_ {A = ℕ} 0 1 = cc in
+      absurd (omega arith))
+      (λ (r : Ran). r .limits)
+      called

@@ -10,16 +10,29 @@ use reference::dimacs::text;
 use reference::finder::{finder, BYTES};
 use reference::random::Source;
 use reference::random_damage::any;
-use reference::random_sheet::{gates_of, pigeonhole, sheet, style};
+use reference::random_sheet::{closures, gates_of, pigeonhole, sheet, style};
 use reference::search::{search, End};
-use reference::sheet::read;
+use reference::sheet::{read, LENGTH, SHORT};
 use std::io::Write;
 use std::process::{Command, Stdio};
 
 /// Searches of more steps than this are not waited for.
 const BUDGET: u64 = 3_000;
 
+/// The finder takes a list of exactly 16,384 words, and none of 16,386 or more.
+fn full_list() -> Result<(), String> {
+    for (gates, mark, words) in [(1_638, 0, 16_384), (1_638, 2, 16_386), (1_639, 0, 16_394)] {
+        let mut sheet = gates_of(gates);
+        sheet.relations[0].mark = mark;
+        let bytes = sheet.bytes();
+        agree(translate(&sheet).map(|list| list.words().len()), Ok(words), || hex(&bytes))?;
+        agree(program("finder", &bytes)?, finder(&bytes), || format!("{words} words, sheet {}", hex(&bytes)))?;
+    }
+    Ok(())
+}
+
 pub fn run(run: &Run) -> Outcome {
+    full_list()?;
     let mut tally = [("found", 0), ("none", 0), ("refused", 0), ("brute force", 0), ("a solver", 0)];
     for case in run.cases(150) {
         let source = &mut Source::new(run.seed, "programs", case);
@@ -70,6 +83,7 @@ fn some_input(source: &mut Source) -> Vec<u8> {
         2 => [sheet(source, style).bytes(), vec![0; 4_200]].concat()[..BYTES + source.below(3)].to_vec(),
         3 => pigeonhole(0, source.between(2, 6) as u8, source.between(2, 5) as u8).bytes(),
         4 => gates_of(source.pick(&[5_000, 15_995, 15_996, 15_997, 15_998, 15_999, 16_000])).bytes(),
+        5 => closures(source.below(2)).bytes(),
         _ => sheet(source, style).bytes(),
     }
 }
@@ -87,10 +101,15 @@ fn is_long(bytes: &[u8]) -> bool {
     answer.is_ok_and(|answer| answer.end == End::Spent)
 }
 
+/// The clause words that `cnf` takes.
+const WORDS: usize = 262_144;
+
 /// What `cnf` prints: the clause text, or the refusal in the finder's form.
 fn clause_text(bytes: &[u8]) -> String {
-    let clauses = read(bytes).and_then(|sheet| translate(&sheet));
-    match clauses.and_then(|clauses| text(&clauses.words(), clauses.variables)) {
+    let sheet = if bytes.len() > BYTES { Err(LENGTH) } else { read(bytes) };
+    let clauses = sheet.and_then(|sheet| translate(&sheet));
+    let few = clauses.and_then(|clauses| if clauses.words().len() > WORDS { Err(SHORT) } else { Ok(clauses) });
+    match few.and_then(|clauses| text(&clauses.words(), clauses.variables)) {
         Ok(text) => text,
         Err(number) => format!("refused {number}\n"),
     }

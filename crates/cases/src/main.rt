@@ -1,0 +1,52 @@
+// The stored inputs of data/, through the finder and through `cnf`.
+fn open(name: &[u8]) -> i32 {
+    let fd = os::open_read(name);
+    if fd < 0 {
+        io::write_all(1, b"no file\n");
+    }
+    fd
+}
+
+fn find(name: &[u8]) {
+    io::write_all(1, b"finder ");
+    io::write_all(1, name);
+    io::write_all(1, b"\n");
+    let fd = open(name);
+    console::find(fd);
+    libc::close(fd);
+}
+
+fn clauses(name: &[u8]) {
+    io::write_all(1, b"cnf ");
+    io::write_all(1, name);
+    io::write_all(1, b"\n");
+    let fd = open(name);
+    console::print_clauses(fd);
+    libc::close(fd);
+}
+
+fn both(name: &[u8]) {
+    find(name);
+    clauses(name);
+}
+
+fn main() {
+    both(b"k1");
+    both(b"k2");
+    both(b"k3");
+    both(b"k5");
+    both(b"k6");
+    both(b"k7");
+    both(b"k8");
+    both(b"k8_nine");
+    both(b"k9");
+    both(b"k10");
+    both(b"rows");
+    both(b"bytes_4096");
+    both(b"bytes_4097");
+    find(b"cycle");
+    find(b"spent");
+    find(b"closure_8");
+    both(b"some_4096");
+    both(b"closures_12");
+}

@@ -1,0 +1,4 @@
+// A sheet on standard input, its clause text in the DIMACS CNF format on standard output, for any solver.
+fn main() {
+    console::print_clauses(0);
+}

@@ -1,0 +1,3 @@
+mod Pieces
+mod Texts
+pub mod Cases

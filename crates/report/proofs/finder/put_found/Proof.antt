@@ -1,0 +1,66 @@
+-- `put_found` meets its contract: the line of `found`, and then the lines of the relations.
+use mathlib.Core.Path.{_≡_, sym, ap, _∙_}
+use native.Mathlib.Omega.{arith}
+use borrow.Author.Needs.{needs}
+use denote.Enum.Declared.{tagOf}
+use Rattle.sheet.proofs.Reading.{the-type}
+use Rattle.dimacs.proofs.Puts.{put-both, put-length}
+use Rattle.report.proofs.finder.put_found.Statement.{statement}
+use Rattle.report.proofs.finder.put_found.Tie as tie
+
+slice-aggregate-put-end : tie.Need-slice-aggregate-put-end
+slice-aggregate-put-end c = search needs
+
+put-end-requires : tie.Need-put-end-requires
+put-end-requires c κs = (omega (arith, c .before .before .before .before .before .pre .0), omega arith)
+
+read-requires : tie.Need-read-requires
+read-requires c κs = search needs
+
+enum-told : tie.Need-enum-told
+enum-told c = search needs
+
+enum-known-reading : tie.Need-enum-known-reading
+enum-known-reading c = search needs
+
+put-relations-requires : tie.Need-put-relations-requires
+put-relations-requires c κs =
+    let k = c .before .before .before .before in
+    let e = k .before .before .before .put-end .ensures in
+    let s = k .before .before .before .before .before .before .before .before .before in
+    (sym (k .read .ensures) ∙ c .before .before .reading .given .1, omega (arith, e .1, put-length (e .0), s .pre .0))
+
+same-length : tie.Need-same-length
+same-length c = search needs
+
+-- the sheet is accepted
+returns : tie.Need-returns
+returns c =
+    let k = c .before .before in
+    let s = k .before .before .before .before .before .before .before .before .before in
+    let e : tagOf the-type (k .read .result) ≡ 0 = ap (tagOf the-type) (k .read .ensures ∙ s .pre .1 .accepted) in
+    absurd (omega (arith, c .before .match .keys1))
+
+same-length-2 : tie.Need-same-length-2
+same-length-2 c = search needs
+
+returns-2 : tie.Need-returns-2
+returns-2 c =
+    let k = c .before .before in
+    let e = k .before .before .before .before .before .before .before .before .put-end .ensures in
+    (put-both (e .0) (k .put-relations .ensures .0), omega (arith, e .1, k .put-relations .ensures .1))
+
+pub put-found-spec : {M : Type 1} → statement M
+put-found-spec =
+    tie.close
+    (tie.spec
+    slice-aggregate-put-end
+    put-end-requires
+    read-requires
+    enum-told
+    enum-known-reading
+    put-relations-requires
+    same-length
+    returns
+    same-length-2
+    returns-2)

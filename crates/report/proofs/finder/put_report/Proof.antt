@@ -1,0 +1,125 @@
+-- `put_report` meets its contract: the line of each end.
+use mathlib.Core.Path.{_≡_, sym, ap, _∙_}
+use mathlib.Core.List.{List}
+use Prim.Native.Nat.{ℕ}
+use native.Mathlib.Omega.{arith}
+use borrow.Author.Needs.{needs}
+use Rattle.prelude.specs.Texts.{bytesOf}
+use Rattle.search.specs.declared.answer.Search.{Search}
+use Rattle.search.specs.Answers.{answerOf}
+use Rattle.sheet.specs.Blocks.{sheetOf}
+use Rattle.dimacs.specs.Private.{Put}
+use Rattle.dimacs.proofs.Puts.{put-as}
+use Rattle.report.specs.Printed.{report, endLine}
+use Rattle.report.proofs.finder.put_report.Statement.{statement}
+use Rattle.report.proofs.finder.put_report.Tie as tie
+
+-- what was put, by the case that the end is
+shown : (s : tie.Start) {a : Search} {new : List ℕ} {end : ℕ} → s .args .ended ≡ a
+    → Put (s .args .text .now) 0 (report (answerOf a) (sheetOf (s .args .input .now)) (s .args .instance .now)) new end
+    → Put (s .args .text .now) 0 (report (answerOf (s .args .ended)) (sheetOf (s .args .input .now)) (s .args .instance .now)) new end
+shown s e p = put-as (ap (λ (x : Search). report (answerOf x) (sheetOf (s .args .input .now)) (s .args .instance .now)) (sym e)) p
+
+enum-known-ended : tie.Need-enum-known-ended
+enum-known-ended c = search needs
+
+slice-aggregate-put-end : tie.Need-slice-aggregate-put-end
+slice-aggregate-put-end c = search needs
+
+put-end-requires : tie.Need-put-end-requires
+put-end-requires c κs = (omega (arith, c .before .before .before .before .before .before .before .before .pre .0), omega arith)
+
+enum-known-ended-2 : tie.Need-enum-known-ended-2
+enum-known-ended-2 c = search needs
+
+slice-aggregate-put-end-2 : tie.Need-slice-aggregate-put-end-2
+slice-aggregate-put-end-2 c = search needs
+
+put-end-requires-2 : tie.Need-put-end-requires-2
+put-end-requires-2 c κs = (omega (arith, c .before .before .before .before .before .before .before .before .pre .0), omega arith)
+
+enum-known-ended-3 : tie.Need-enum-known-ended-3
+enum-known-ended-3 c = search needs
+
+slice-aggregate-put-end-3 : tie.Need-slice-aggregate-put-end-3
+slice-aggregate-put-end-3 c = search needs
+
+number-requires : tie.Need-number-requires
+number-requires c κs = search needs
+
+cast-put-end : tie.Need-cast-put-end
+cast-put-end c = search needs
+
+put-end-requires-3 : tie.Need-put-end-requires-3
+put-end-requires-3 c κs = (omega (arith, c .before .before .before .before .before .before .before .before .before .pre .0), omega arith)
+
+enum-known-ended-4 : tie.Need-enum-known-ended-4
+enum-known-ended-4 c = search needs
+
+put-found-requires : tie.Need-put-found-requires
+put-found-requires c κs =
+    let s = c .before .before .before .before .before .before .before in
+    (s .pre .0, s .pre .1 _ (ap answerOf (c .before .before .ended4 .given .1)))
+
+same-length : tie.Need-same-length
+same-length c = search needs
+
+returns : tie.Need-returns
+returns c =
+    let k = c .before .before in
+    let s = k .before .before .before .before .before .before .before .before .before in
+    (shown s (k .before .before .before .before .ended .given .1) (k .put-end .ensures .0), omega (arith, k .put-end .ensures .1))
+
+same-length-2 : tie.Need-same-length-2
+same-length-2 c = search needs
+
+returns-2 : tie.Need-returns-2
+returns-2 c =
+    let k = c .before .before in
+    let s = k .before .before .before .before .before .before .before .before .before in
+    (shown s (k .before .before .before .before .ended2 .given .1) (k .put-end2 .ensures .0), omega (arith, k .put-end2 .ensures .1))
+
+same-length-3 : tie.Need-same-length-3
+same-length-3 c = search needs
+
+returns-3 : tie.Need-returns-3
+returns-3 c =
+    let k = c .before .before in
+    let s = k .before .before .before .before .before .before .before .before .before .before in
+    let p = put-as (ap (endLine (bytesOf "refused ")) (k .before .number .ensures)) (k .put-end3 .ensures .0) in
+    (shown s (k .before .before .before .before .before .ended3 .given .1) p, omega (arith, k .put-end3 .ensures .1))
+
+same-length-4 : tie.Need-same-length-4
+same-length-4 c = search needs
+
+returns-4 : tie.Need-returns-4
+returns-4 c =
+    let k = c .before .before in
+    let s = k .before .before .before .before .before .before .before .before in
+    (shown s (k .before .before .before .ended4 .given .1) (k .put-found .ensures .0), k .put-found .ensures .1)
+
+pub put-report-spec : {M : Type 1} → statement M
+put-report-spec =
+    tie.close
+    (tie.spec
+    enum-known-ended
+    slice-aggregate-put-end
+    put-end-requires
+    enum-known-ended-2
+    slice-aggregate-put-end-2
+    put-end-requires-2
+    enum-known-ended-3
+    slice-aggregate-put-end-3
+    number-requires
+    cast-put-end
+    put-end-requires-3
+    enum-known-ended-4
+    put-found-requires
+    same-length
+    returns
+    same-length-2
+    returns-2
+    same-length-3
+    returns-3
+    same-length-4
+    returns-4)

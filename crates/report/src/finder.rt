@@ -1,0 +1,95 @@
+// What the finder prints for an input.
+ghost use mathlib.Core.Path.{_≡_};
+ghost use Prim.Native.Nat.{ℕ, _+_, _≤_};
+ghost use lib.ListN.{length, take};
+ghost use Rattle.sheet.specs.declared.Reading.the-variants.{Accepted};
+ghost use Rattle.sheet.specs.Blocks.{sheetOf};
+ghost use Rattle.sheet.specs.Reading.{reading};
+ghost use Rattle.search.specs.Answers.{found, answerOf};
+ghost use Rattle.dimacs.specs.Private.{Put};
+ghost use Rattle.solve.specs.Finding.{slices};
+ghost use Rattle.solve.specs.Demand3.{FitsLimits};
+ghost use Rattle.report.specs.Printed.{relationLines, report, findingText, slicesAfter, Prints};
+use super::lines::put_end;
+use super::lines::put_lines;
+use search::answer::Search;
+use sheet::Layout;
+use sheet::Reading;
+
+// Puts the lines of an accepted sheet's relations.
+fn put_relations(text: &mut [u8], at: usize, input: &[u8], layout: Layout, instance: &[u8]) -> usize
+    requires { ⌜ reading (now input) ≡ Accepted layout ⌝ }
+    requires { ⌜ at + 1216 ≤ length (now text) ⌝ }
+    ensures { λ r. ⌜ Put (now (text .entry)) at (relationLines (sheetOf (now (input .entry))) (now (instance .entry))) (now (text .exit)) r ⌝ }
+    ensures { λ r. ⌜ r ≤ at + 1216 ⌝ }
+{
+    let sorts = layout.sorts;
+    let relations = layout.relations;
+    let a = sorts.start;
+    let b = a + sorts.count;
+    let c = relations.start;
+    let d = c + 4 * relations.count;
+    put_lines(
+        text,
+        at,
+        &input[a..b],
+        &input[c..d],
+        relations.count,
+        instance,
+    )
+}
+
+// Puts the line of `found`, and the lines of the relations.
+fn put_found(text: &mut [u8], input: &[u8], steps: u64, instance: &[u8]) -> usize
+    requires { ⌜ 2048 ≤ length (now text) ⌝ }
+    requires { ⌜ FitsLimits (now input) ⌝ }
+    ensures { λ r. ⌜ Put (now (text .entry)) 0 (report (found steps) (sheetOf (now (input .entry))) (now (instance .entry)))
+        (now (text .exit)) r ⌝ }
+    ensures { λ r. ⌜ r ≤ 2048 ⌝ }
+{
+    let at = put_end(text, b"found ", steps);
+    let reading = sheet::read(input);
+    match reading {
+        Reading::Refused(_) => at,
+        Reading::Accepted(layout) => put_relations(text, at, input, layout, instance),
+    }
+}
+
+// Puts the line of an end, and after `found` the lines of the relations.
+fn put_report(text: &mut [u8], input: &[u8], ended: Search, instance: &[u8]) -> usize
+    requires { ⌜ 2048 ≤ length (now text) ⌝ }
+    requires { ⌜ ((n : ℕ) → answerOf ended ≡ found n → FitsLimits (now input)) ⌝ }
+    ensures { λ r. ⌜ Put (now (text .entry)) 0 (report (answerOf ended) (sheetOf (now (input .entry))) (now (instance .entry)))
+        (now (text .exit)) r ⌝ }
+    ensures { λ r. ⌜ r ≤ 2048 ⌝ }
+{
+    match ended {
+        Search::None(steps) => put_end(text, b"none ", steps),
+        Search::Spent(steps) => put_end(text, b"spent ", steps),
+        Search::Refused(r) => put_end(text, b"refused ", refusal::number(r) as u64),
+        Search::Found(steps) => put_found(text, input, steps, instance),
+    }
+}
+
+// Reads the input as a sheet, and writes what the finder prints to the front of the text.
+pub fn find_text(
+    input: &[u8],
+    list: &mut [i32],
+    values: &mut [u8],
+    trail: &mut [i32],
+    instance: &mut [u8],
+    text: &mut [u8; 2048],
+) -> usize
+    ensures { λ r. ⌜ (r ≤ length (now (text .exit))) × (r ≡ length (take r (now (text .exit)))) ⌝ }
+    ensures { λ r. ⌜ Prints
+        (findingText (now (input .entry)) (slices (now (list .entry)) (now (values .entry)) (now (trail .entry)) (now (instance .entry))))
+        (now (text .entry)) (now (text .exit)) r ⌝ }
+    ensures { λ r. ⌜ slices (now (list .exit)) (now (values .exit)) (now (trail .exit)) (now (instance .exit))
+        ≡ slicesAfter (now (input .entry)) (slices (now (list .entry)) (now (values .entry)) (now (trail .entry)) (now (instance .entry))) ⌝ }
+{
+    if input.len() > 4096 {
+        return put_end(text, b"refused ", 2);
+    }
+    let ended = solve::find(input, list, values, trail, instance, 1000000);
+    put_report(text, input, ended, instance)
+}

@@ -1,0 +1,122 @@
+// The lines of the finder.
+ghost use mathlib.Core.Path.{_≡_};
+ghost use Prim.Native.Nat.{suc, _+_, _*_, _≤_, _<_};
+ghost use lib.ListN.{length};
+ghost use Rattle.cells.specs.Private.{Scopes};
+ghost use Rattle.sheet.specs.Blocks as blocks;
+ghost use Rattle.dimacs.specs.Private.{Room, Put};
+ghost use Rattle.report.specs.Printed.{endLine, cellDigit};
+ghost use Rattle.report.specs.Private.{rowFrom, lineFrom, PutLines};
+use cells::row_count;
+use cells::row_length;
+use dimacs::put_decimal;
+use sheet::bytes::byte;
+
+// Puts a piece of text, and answers where it ends.
+fn put_bytes(text: &mut [u8], at: usize, piece: &[u8]) -> usize
+    requires { ⌜ Room (now text) at (now piece) ⌝ }
+    ensures { λ r. ⌜ Put (now (text .entry)) at (now (piece .entry)) (now (text .exit)) r ⌝ }
+{
+    let mut end = at;
+    let mut i = 0;
+    while i < piece.len() {
+        text[end] = piece[i];
+        end += 1;
+        i += 1;
+    }
+    end
+}
+
+// Puts a word, a number and the end of the line at the start of the text.
+pub(crate) fn put_end(text: &mut [u8], word: &[u8], n: u64) -> usize
+    requires { ⌜ 37 ≤ length (now text) ⌝ }
+    requires { ⌜ length (now word) ≤ 16 ⌝ }
+    ensures { λ r. ⌜ Put (now (text .entry)) 0 (endLine (now (word .entry)) n) (now (text .exit)) r ⌝ }
+    ensures { λ r. ⌜ r ≤ 37 ⌝ }
+{
+    let at = put_bytes(text, 0, word);
+    let feed = put_decimal(text, at, n as usize);
+    text[feed] = b'\n';
+    feed + 1
+}
+
+// The digit of cell k.
+fn cell_digit(instance: &[u8], k: usize) -> u8
+    ensures { λ r. ⌜ r ≡ cellDigit (blocks.byte (now (instance .entry)) k) ⌝ }
+{
+    if byte(instance, k) == 0 { b'0' } else { b'1' }
+}
+
+// Puts a row: a space, and the digit of each cell.
+fn put_row(text: &mut [u8], at: usize, instance: &[u8], first: usize, columns: usize) -> usize
+    requires { ⌜ at + suc columns ≤ length (now text) ⌝ }
+    requires { ⌜ first + columns ≤ 4096 ⌝ }
+    ensures { λ r. ⌜ Put (now (text .entry)) at (rowFrom (now (instance .entry)) first columns) (now (text .exit)) r ⌝ }
+{
+    text[at] = b' ';
+    let mut end = at + 1;
+    let mut j = 0;
+    while j < columns {
+        text[end] = cell_digit(instance, first + j);
+        end += 1;
+        j += 1;
+    }
+    end
+}
+
+// Puts the line of relation r, of which the first cell, the rows and the cells in one row are known.
+fn put_line(
+    text: &mut [u8],
+    at: usize,
+    instance: &[u8],
+    r: usize,
+    first: usize,
+    rows: usize,
+    columns: usize,
+) -> usize
+    requires { ⌜ at + 76 ≤ length (now text) ⌝ }
+    requires { ⌜ r < 16 ⌝ }
+    requires { ⌜ first ≤ 1024 ⌝ }
+    requires { ⌜ rows ≤ 8 ⌝ }
+    requires { ⌜ columns ≤ 8 ⌝ }
+    ensures { λ end. ⌜ Put (now (text .entry)) at (lineFrom (now (instance .entry)) r first rows columns) (now (text .exit)) end ⌝ }
+    ensures { λ end. ⌜ end ≤ at + 76 ⌝ }
+{
+    text[at] = b'r';
+    let mut end = put_decimal(text, at + 1, r);
+    let mut i = 0;
+    while i < rows {
+        end = put_row(text, end, instance, first + i * columns, columns);
+        i += 1;
+    }
+    text[end] = b'\n';
+    end + 1
+}
+
+// Puts the lines of the first relations.
+pub(crate) fn put_lines(
+    text: &mut [u8],
+    at: usize,
+    sorts: &[u8],
+    relations: &[u8],
+    count: usize,
+    instance: &[u8],
+) -> usize
+    requires { ⌜ count ≤ 16 ⌝ }
+    requires { ⌜ at + 1216 ≤ length (now text) ⌝ }
+    requires { ⌜ Scopes (now sorts) ⌝ }
+    ensures { λ r. ⌜ PutLines (now (sorts .entry)) (now (relations .entry)) (now (instance .entry)) (now (text .entry)) at count
+        (now (text .exit)) r ⌝ }
+{
+    let mut end = at;
+    let mut first: usize = 0;
+    let mut r: usize = 0;
+    while r < count {
+        let rows = row_count(sorts, relations, r);
+        let columns = row_length(sorts, relations, r);
+        end = put_line(text, end, instance, r, first, rows, columns);
+        first += rows * columns;
+        r += 1;
+    }
+    end
+}
