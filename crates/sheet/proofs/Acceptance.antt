@@ -58,7 +58,8 @@ all-conditions s a =
     let p₅ = passes (scoped sheet) Refusal.Scope (declarationJudged sheet) (p₄ .1) in
     let p₆ = passes (declared sheet) Refusal.Declaration (nodeJudged sheet) (p₅ .1) in
     let p₇ = passes (nodesFine sheet) Refusal.Node (walkJudged sheet) (p₆ .1) in
-    let p₈ = passes (shaped sheet) Refusal.Shape (unless (rooted sheet) Refusal.Root (unless (walkable sheet) Refusal.Walk (Accepted (layoutOf sheet)))) (p₇ .1) in
+    let p₈ = passes (shaped sheet) Refusal.Shape
+    (unless (rooted sheet) Refusal.Root (unless (walkable sheet) Refusal.Walk (Accepted (layoutOf sheet)))) (p₇ .1) in
     let p₉ = passes (rooted sheet) Refusal.Root (unless (walkable sheet) Refusal.Walk (Accepted (layoutOf sheet))) (p₈ .1) in
     let p₁₀ = passes (walkable sheet) Refusal.Walk (Accepted (layoutOf sheet)) (p₉ .1) in
     record {

@@ -41,7 +41,8 @@ pub(crate) fn variables_fine(variables: &[u8], sorts: usize) -> bool
 // A set's last byte is 0, a relation's second sort is there; columns, mark and first sort.
 fn relation_fine(relations: &[u8], sorts: usize, r: usize) -> bool
     requires { ⌜ r ≤ 16 ⌝ }
-    ensures { λ f. ⌜ ((sheet : blocks.Sheet) → sheet .relations ≡ now (relations .entry) → length (sheet .sorts) ≡ sorts → f ≡ relationDeclared sheet r) ⌝ }
+    ensures { λ f. ⌜ ((sheet : blocks.Sheet) → sheet .relations ≡ now (relations .entry) → length (sheet .sorts) ≡ sorts
+        → f ≡ relationDeclared sheet r) ⌝ }
 {
     let columns = byte(relations, 4 * r);
     let mark = byte(relations, 4 * r + 1);
@@ -57,7 +58,8 @@ fn relation_fine(relations: &[u8], sorts: usize, r: usize) -> bool
 // Number 5, of relations.
 pub(crate) fn relations_fine(relations: &[u8], sorts: usize) -> bool
     requires { ⌜ length (now relations) / 4 ≤ 16 ⌝ }
-    ensures { λ f. ⌜ ((sheet : blocks.Sheet) → sheet .relations ≡ now (relations .entry) → length (sheet .sorts) ≡ sorts → f ≡ each (blocks.relationCount sheet) (relationDeclared sheet)) ⌝ }
+    ensures { λ f. ⌜ ((sheet : blocks.Sheet) → sheet .relations ≡ now (relations .entry) → length (sheet .sorts) ≡ sorts
+        → f ≡ each (blocks.relationCount sheet) (relationDeclared sheet)) ⌝ }
 {
     let count = relations.len() / 4;
     let mut fine = true;

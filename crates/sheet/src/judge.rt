@@ -46,7 +46,8 @@ fn is_counted(sorts: usize, variables: usize, relations: usize, nodes: usize) ->
 // Where each block stands, from the lengths of those before it.
 fn layout(sorts: usize, variables: usize, relations: usize, nodes: usize) -> Layout
     requires { ⌜ (sorts ≤ 8) × (variables ≤ 4) × (relations ≤ 100) × (nodes ≤ 1000) ⌝ }
-    ensures { λ r. ⌜ ((sheet : blocks.Sheet) → length (sheet .sorts) ≡ sorts → length (sheet .variables) ≡ variables → length (sheet .relations) ≡ relations → length (sheet .nodes) ≡ nodes → r ≡ spec.layoutOf sheet) ⌝ }
+    ensures { λ r. ⌜ ((sheet : blocks.Sheet) → length (sheet .sorts) ≡ sorts → length (sheet .variables) ≡ variables
+        → length (sheet .relations) ≡ relations → length (sheet .nodes) ≡ nodes → r ≡ spec.layoutOf sheet) ⌝ }
 {
     let variables_at = 3 + sorts + 2;
     let relations_at = variables_at + variables + 2;
@@ -73,8 +74,10 @@ fn layout(sorts: usize, variables: usize, relations: usize, nodes: usize) -> Lay
 
 // Numbers 7 to 9, over blocks whose declarations and nodes are right.
 fn judge_walk(sorts: &[u8], variables: &[u8], relations: &[u8], nodes: &[u8]) -> Reading
-    requires { ⌜ (length (now sorts) ≤ 8) × (length (now variables) ≤ 4) × (length (now relations) ≤ 100) × (1 ≤ length (now nodes) / 3) × (length (now nodes) / 3 ≤ 200) ⌝ }
-    ensures { λ r. ⌜ r ≡ spec.walkJudged (blocks.fourBlocks (now (sorts .entry)) (now (variables .entry)) (now (relations .entry)) (now (nodes .entry))) ⌝ }
+    requires { ⌜ (length (now sorts) ≤ 8) × (length (now variables) ≤ 4) × (length (now relations) ≤ 100) × (1 ≤ length (now nodes) / 3)
+        × (length (now nodes) / 3 ≤ 200) ⌝ }
+    ensures { λ r. ⌜ r ≡ spec.walkJudged
+        (blocks.fourBlocks (now (sorts .entry)) (now (variables .entry)) (now (relations .entry)) (now (nodes .entry))) ⌝ }
 {
     let count = nodes.len() / 3;
     let root = count - 1;
@@ -102,7 +105,8 @@ pub(crate) fn judge_blocks(
     relations: &[u8],
     nodes: &[u8],
 ) -> Reading
-    ensures { λ r. ⌜ r ≡ spec.wholeJudged (blocks.fourBlocks (now (sorts .entry)) (now (variables .entry)) (now (relations .entry)) (now (nodes .entry))) ⌝ }
+    ensures { λ r. ⌜ r ≡ spec.wholeJudged
+        (blocks.fourBlocks (now (sorts .entry)) (now (variables .entry)) (now (relations .entry)) (now (nodes .entry))) ⌝ }
 {
     let sort_count = sorts.len();
     let variable_count = variables.len();

@@ -45,7 +45,8 @@ fn field_fine(
     v: usize,
     x: usize,
 ) -> bool
-    ensures { λ r. ⌜ ((sheet : blocks.Sheet) → blocks.sortCount sheet ≡ sorts → blocks.variableCount sheet ≡ variables → blocks.relationCount sheet ≡ relations → r ≡ fieldFine sheet f v x) ⌝ }
+    ensures { λ r. ⌜ ((sheet : blocks.Sheet) → blocks.sortCount sheet ≡ sorts → blocks.variableCount sheet ≡ variables
+        → blocks.relationCount sheet ≡ relations → r ≡ fieldFine sheet f v x) ⌝ }
 {
     match f {
         Field::Unused => x == 0,
@@ -58,7 +59,8 @@ fn field_fine(
 
 fn node_fine(nodes: &[u8], sorts: usize, variables: usize, relations: usize, v: usize) -> bool
     requires { ⌜ v ≤ 200 ⌝ }
-    ensures { λ r. ⌜ ((sheet : blocks.Sheet) → sheet .nodes ≡ now (nodes .entry) → blocks.sortCount sheet ≡ sorts → blocks.variableCount sheet ≡ variables → blocks.relationCount sheet ≡ relations → r ≡ nodeFine sheet v) ⌝ }
+    ensures { λ r. ⌜ ((sheet : blocks.Sheet) → sheet .nodes ≡ now (nodes .entry) → blocks.sortCount sheet ≡ sorts
+        → blocks.variableCount sheet ≡ variables → blocks.relationCount sheet ≡ relations → r ≡ nodeFine sheet v) ⌝ }
 {
     let row = row_of(byte(nodes, 3 * v));
     let a = row.a;
@@ -72,7 +74,8 @@ fn node_fine(nodes: &[u8], sorts: usize, variables: usize, relations: usize, v: 
 // Number 6.
 pub(crate) fn nodes_fine(nodes: &[u8], sorts: usize, variables: usize, relations: usize) -> bool
     requires { ⌜ length (now nodes) / 3 ≤ 200 ⌝ }
-    ensures { λ r. ⌜ ((sheet : blocks.Sheet) → sheet .nodes ≡ now (nodes .entry) → blocks.sortCount sheet ≡ sorts → blocks.variableCount sheet ≡ variables → blocks.relationCount sheet ≡ relations → r ≡ each (blocks.nodeCount sheet) (nodeFine sheet)) ⌝ }
+    ensures { λ r. ⌜ ((sheet : blocks.Sheet) → sheet .nodes ≡ now (nodes .entry) → blocks.sortCount sheet ≡ sorts
+        → blocks.variableCount sheet ≡ variables → blocks.relationCount sheet ≡ relations → r ≡ each (blocks.nodeCount sheet) (nodeFine sheet)) ⌝ }
 {
     let count = nodes.len() / 3;
     let mut fine = true;

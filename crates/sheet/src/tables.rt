@@ -59,7 +59,8 @@ fn node_shape(
     v: usize,
 ) -> Shape
     requires { ⌜ v ≤ 200 ⌝ }
-    ensures { λ r. ⌜ ((sheet : blocks.Sheet) → sheet .variables ≡ now (variables .entry) → sheet .relations ≡ now (relations .entry) → sheet .nodes ≡ now (nodes .entry) → r ≡ spec.shapeStep sheet v shapes) ⌝ }
+    ensures { λ r. ⌜ ((sheet : blocks.Sheet) → sheet .variables ≡ now (variables .entry) → sheet .relations ≡ now (relations .entry)
+        → sheet .nodes ≡ now (nodes .entry) → r ≡ spec.shapeStep sheet v shapes) ⌝ }
 {
     let row = row_of(byte(nodes, 3 * v));
     let rule = row.rule;
@@ -80,7 +81,8 @@ fn node_shape(
 // The shapes of all nodes.
 pub(crate) fn shapes_of(variables: &[u8], relations: &[u8], nodes: &[u8]) -> [Shape; 200]
     requires { ⌜ length (now nodes) / 3 ≤ 200 ⌝ }
-    ensures { λ r. ⌜ ((sheet : blocks.Sheet) → sheet .variables ≡ now (variables .entry) → sheet .relations ≡ now (relations .entry) → sheet .nodes ≡ now (nodes .entry) → Fills (λ x. x) Shape.Ill (spec.shapes sheet) r) ⌝ }
+    ensures { λ r. ⌜ ((sheet : blocks.Sheet) → sheet .variables ≡ now (variables .entry) → sheet .relations ≡ now (relations .entry)
+        → sheet .nodes ≡ now (nodes .entry) → Fills (λ x. x) Shape.Ill (spec.shapes sheet) r) ⌝ }
 {
     let count = nodes.len() / 3;
     let mut shapes = [Shape::Ill; 200];
@@ -138,7 +140,8 @@ fn free_in(nodes: &[u8], x: usize) -> [bool; 200]
 // Number 8: no variable is free in the root.
 pub(crate) fn closed(nodes: &[u8], variables: usize) -> bool
     requires { ⌜ (1 ≤ length (now nodes) / 3) × (length (now nodes) / 3 ≤ 200) ⌝ }
-    ensures { λ r. ⌜ ((sheet : blocks.Sheet) → sheet .nodes ≡ now (nodes .entry) → r ≡ each variables (λ x. not (getD (spec.free sheet x) (blocks.root sheet) false))) ⌝ }
+    ensures { λ r. ⌜ ((sheet : blocks.Sheet) → sheet .nodes ≡ now (nodes .entry)
+        → r ≡ each variables (λ x. not (getD (spec.free sheet x) (blocks.root sheet) false))) ⌝ }
 {
     let root = nodes.len() / 3 - 1;
     let mut fine = true;
@@ -179,7 +182,8 @@ fn visits_by(row: Row, atoms: u64, p: u64, q: u64) -> u64
 // The visits of each node's walk, capped.
 pub(crate) fn visits_of(sorts: &[u8], variables: &[u8], nodes: &[u8]) -> [u64; 200]
     requires { ⌜ length (now nodes) / 3 ≤ 200 ⌝ }
-    ensures { λ r. ⌜ ((sheet : blocks.Sheet) → sheet .sorts ≡ now (sorts .entry) → sheet .variables ≡ now (variables .entry) → sheet .nodes ≡ now (nodes .entry) → Fills cap 0 (spec.visits sheet) r) ⌝ }
+    ensures { λ r. ⌜ ((sheet : blocks.Sheet) → sheet .sorts ≡ now (sorts .entry) → sheet .variables ≡ now (variables .entry)
+        → sheet .nodes ≡ now (nodes .entry) → Fills cap 0 (spec.visits sheet) r) ⌝ }
 {
     let count = nodes.len() / 3;
     let mut visits = [0u64; 200];

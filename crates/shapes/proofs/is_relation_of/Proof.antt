@@ -30,7 +30,9 @@ returns-3 : tie.Need-returns-3
 returns-3 c = search needs
 
 returns-4 : tie.Need-returns-4
-returns-4 c = c .both .ensures ∙ sym (ap (isRelationOf (c .before .before .before .before .args .s) (c .before .before .before .before .args .t)) (c .before .before .y .given .1))
+returns-4 c = c .both .ensures
+    ∙ sym (ap (isRelationOf (c .before .before .before .before .args .s) (c .before .before .before .before .args .t))
+    (c .before .before .y .given .1))
 
 pub is-relation-of-spec : {M : Type 1} → statement M
 is-relation-of-spec =

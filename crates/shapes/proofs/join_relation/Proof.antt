@@ -30,10 +30,14 @@ returns-2 : tie.Need-returns-2
 returns-2 c = search needs
 
 returns-3 : tie.Need-returns-3
-returns-3 c = c .only .ensures ∙ sym (ap (joinRelation (c .before .before .before .before .args .s) (c .before .before .before .before .args .t)) (c .before .before .y .given .1))
+returns-3 c = c .only .ensures
+    ∙ sym (ap (joinRelation (c .before .before .before .before .args .s) (c .before .before .before .before .args .t))
+    (c .before .before .y .given .1))
 
 returns-4 : tie.Need-returns-4
-returns-4 c = c .only2 .ensures ∙ sym (ap (joinRelation (c .before .before .before .before .args .s) (c .before .before .before .before .args .t)) (c .before .before .y2 .given .1))
+returns-4 c = c .only2 .ensures
+    ∙ sym (ap (joinRelation (c .before .before .before .before .args .s) (c .before .before .before .before .args .t))
+    (c .before .before .y2 .given .1))
 
 pub join-relation-spec : {M : Type 1} → statement M
 join-relation-spec =

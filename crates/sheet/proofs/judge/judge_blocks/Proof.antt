@@ -24,34 +24,52 @@ is-counted : (c : tie.After-is-counted) → c .is-counted .result ≡ counted (b
 unfolding counted
 is-counted c = c .is-counted .ensures
 
-is-scoped : (c : tie.After-scopes-fine) → c .scopes-fine .result ≡ scoped (blocksOf (c .before .before .before .before .before .before .before .before .before))
+is-scoped : (c : tie.After-scopes-fine)
+    → c .scopes-fine .result ≡ scoped (blocksOf (c .before .before .before .before .before .before .before .before .before))
 unfolding scoped
 is-scoped c = c .scopes-fine .ensures
 
-is-declared : (c : tie.After-both) → c .both .result ≡ declared (blocksOf (c .before .before .before .before .before .before .before .before .before .before .before .before .before))
+is-declared : (c : tie.After-both)
+    → c .both .result ≡ declared
+    (blocksOf (c .before .before .before .before .before .before .before .before .before .before .before .before .before))
 unfolding declared
 is-declared c =
-    c .both .ensures ∙ ap₂ _&&_ (c .before .before .variables-fine .ensures) (c .before .relations-fine .ensures (blocksOf (c .before .before .before .before .before .before .before .before .before .before .before .before .before)) refl refl)
+    c .both .ensures ∙ ap₂ _&&_ (c .before .before .variables-fine .ensures)
+    (c .before .relations-fine .ensures
+    (blocksOf (c .before .before .before .before .before .before .before .before .before .before .before .before .before)) refl refl)
 
-is-fine : (c : tie.After-nodes-fine) → c .nodes-fine .result ≡ nodesFine (blocksOf (c .before .before .before .before .before .before .before .before .before .before .before .before .before .before .before))
+is-fine : (c : tie.After-nodes-fine)
+    → c .nodes-fine .result
+    ≡ nodesFine (blocksOf (c .before .before .before .before .before .before .before .before .before .before .before .before .before .before .before))
 unfolding nodesFine
-is-fine c = c .nodes-fine .ensures (blocksOf (c .before .before .before .before .before .before .before .before .before .before .before .before .before .before .before)) refl refl refl refl
+is-fine c = c .nodes-fine .ensures
+    (blocksOf (c .before .before .before .before .before .before .before .before .before .before .before .before .before .before .before)) refl refl refl refl
 
 -- past a test the rest of the tests decides
-past-whole : (c : tie.Else1) {x : Reading} → x ≡ countJudged (blocksOf (c .before .before .before .before .before .before)) → x ≡ wholeJudged (blocksOf (c .before .before .before .before .before .before))
+past-whole : (c : tie.Else1) {x : Reading} → x ≡ countJudged (blocksOf (c .before .before .before .before .before .before))
+    → x ≡ wholeJudged (blocksOf (c .before .before .before .before .before .before))
 past-whole c h = pass _ _ Refusal.Length _ _ (c .before .is-whole .ensures) (c .if1 .left) h
 
-past-counted : (c : tie.Else2) {x : Reading} → x ≡ scopeJudged (blocksOf (c .before .before .before .before .before .before .before .before)) → x ≡ wholeJudged (blocksOf (c .before .before .before .before .before .before .before .before))
+past-counted : (c : tie.Else2) {x : Reading} → x ≡ scopeJudged (blocksOf (c .before .before .before .before .before .before .before .before))
+    → x ≡ wholeJudged (blocksOf (c .before .before .before .before .before .before .before .before))
 past-counted c h = past-whole (c .before .before) (pass _ _ Refusal.Count _ _ (is-counted (c .before)) (c .if2 .left) h)
 
-past-scoped : (c : tie.Else3) {x : Reading} → x ≡ declarationJudged (blocksOf (c .before .before .before .before .before .before .before .before .before .before)) → x ≡ wholeJudged (blocksOf (c .before .before .before .before .before .before .before .before .before .before))
+past-scoped : (c : tie.Else3) {x : Reading}
+    → x ≡ declarationJudged (blocksOf (c .before .before .before .before .before .before .before .before .before .before))
+    → x ≡ wholeJudged (blocksOf (c .before .before .before .before .before .before .before .before .before .before))
 past-scoped c h = past-counted (c .before .before) (pass _ _ Refusal.Scope _ _ (is-scoped (c .before)) (c .if3 .left) h)
 
-past-declared : (c : tie.Else4) {x : Reading} → x ≡ nodeJudged (blocksOf (c .before .before .before .before .before .before .before .before .before .before .before .before .before .before)) → x ≡ wholeJudged (blocksOf (c .before .before .before .before .before .before .before .before .before .before .before .before .before .before))
+past-declared : (c : tie.Else4) {x : Reading}
+    → x ≡ nodeJudged (blocksOf (c .before .before .before .before .before .before .before .before .before .before .before .before .before .before))
+    → x ≡ wholeJudged (blocksOf (c .before .before .before .before .before .before .before .before .before .before .before .before .before .before))
 past-declared c h =
     past-scoped (c .before .before .before .before) (pass _ _ Refusal.Declaration _ _ (is-declared (c .before)) (c .if4 .left) h)
 
-past-fine : (c : tie.Else5) {x : Reading} → x ≡ walkJudged (blocksOf (c .before .before .before .before .before .before .before .before .before .before .before .before .before .before .before .before)) → x ≡ wholeJudged (blocksOf (c .before .before .before .before .before .before .before .before .before .before .before .before .before .before .before .before))
+past-fine : (c : tie.Else5) {x : Reading}
+    → x ≡ walkJudged (blocksOf
+    (c .before .before .before .before .before .before .before .before .before .before .before .before .before .before .before .before))
+    → x ≡ wholeJudged (blocksOf
+    (c .before .before .before .before .before .before .before .before .before .before .before .before .before .before .before .before))
 past-fine c h = past-declared (c .before .before) (pass _ _ Refusal.Node _ _ (is-fine (c .before)) (c .if5 .left) h)
 
 -- what number 3 leaves of the counts

@@ -26,7 +26,8 @@ is-shaped c =
     let f = c .before .shapes-of .ensures (blocksOf (c .before .before .before .before .before .before)) refl refl refl in
     c .all-shaped .ensures ∙ each-cong _ _ _ (λ i h. ap isShaped (f .at i))
 
-is-rooted : (c : tie.After-both) → c .both .result ≡ rooted (blocksOf (c .before .before .before .before .before .before .before .before .before .before .before))
+is-rooted : (c : tie.After-both)
+    → c .both .result ≡ rooted (blocksOf (c .before .before .before .before .before .before .before .before .before .before .before))
 unfolding rooted
 is-rooted c =
     let sheet = blocksOf (c .before .before .before .before .before .before .before .before .before .before .before) in
@@ -35,7 +36,11 @@ is-rooted c =
     ∙ ap₂ _&&_ (c .before .before .is-formula .ensures ∙ ap isFormula (c .before .before .before .shape-at .ensures ∙ f .at (root sheet)))
     (c .before .closed .ensures sheet refl)
 
-is-visits : (c : tie.After-count-at) → c .count-at .result ≡ capped (getD (visits (blocksOf (c .before .before .before .before .before .before .before .before .before .before .before .before .before .before))) (root (blocksOf (c .before .before .before .before .before .before .before .before .before .before .before .before .before .before))) 0)
+is-visits : (c : tie.After-count-at)
+    → c .count-at .result
+    ≡ capped (getD (visits
+    (blocksOf (c .before .before .before .before .before .before .before .before .before .before .before .before .before .before)))
+    (root (blocksOf (c .before .before .before .before .before .before .before .before .before .before .before .before .before .before))) 0)
 is-visits c =
     let sheet = blocksOf (c .before .before .before .before .before .before .before .before .before .before .before .before .before .before) in
     c .count-at .ensures ∙ c .before .visits-of .ensures sheet refl refl refl .at (root sheet)
@@ -78,7 +83,8 @@ count-at-requires c κs = search needs
 returns-3 : tie.Need-returns-3
 unfolding walkable
 returns-3 c =
-    pass _ _ Refusal.Shape _ _ (is-shaped (c .before .before .before .before .before .before .before .before .before)) (c .before .before .before .before .before .before .before .before .if1 .left)
+    pass _ _ Refusal.Shape _ _ (is-shaped (c .before .before .before .before .before .before .before .before .before))
+    (c .before .before .before .before .before .before .before .before .if1 .left)
     (pass _ _ Refusal.Root _ _ (is-rooted (c .before .before .before .before)) (c .before .before .before .if2 .left)
     (refuse-false _ Refusal.Walk _ (over-limit _ _ (is-visits (c .before)) (c .if3 .taken))))
 
@@ -88,10 +94,12 @@ layout-requires c κs = search needs
 returns-4 : tie.Need-returns-4
 unfolding walkable
 returns-4 c =
-    pass _ _ Refusal.Shape _ _ (is-shaped (c .before .before .before .before .before .before .before .before .before .before)) (c .before .before .before .before .before .before .before .before .before .if1 .left)
+    pass _ _ Refusal.Shape _ _ (is-shaped (c .before .before .before .before .before .before .before .before .before .before))
+    (c .before .before .before .before .before .before .before .before .before .if1 .left)
     (pass _ _ Refusal.Root _ _ (is-rooted (c .before .before .before .before .before)) (c .before .before .before .before .if2 .left)
     (pass-true _ Refusal.Walk _ _ (under-limit _ _ (is-visits (c .before .before)) (c .before .if3 .left))
-    (ap Accepted (c .layout .ensures (blocksOf (c .before .before .before .before .before .before .before .before .before .before .before .before .before .before .before .before)) refl refl refl refl))))
+    (ap Accepted (c .layout .ensures
+    (blocksOf (c .before .before .before .before .before .before .before .before .before .before .before .before .before .before .before .before)) refl refl refl refl))))
 
 pub judge-walk-spec : {M : Type 1} → statement M
 judge-walk-spec =

@@ -76,8 +76,11 @@ same-step : (sheet : Sheet) (x v : ℕ) (entries array : List Bool) → Fills (�
 unfolding freeStep
 same-step sheet x v entries array f = rw (f .at (fieldA sheet v), f .at (fieldB sheet v)) refl
 
-found : (c : tie.After-free-by Inv-loop μ-loop) (sheet : Sheet) → sheet .nodes ≡ c .before .before .before .before .before .before .before .before .before .before .args .nodes .now
-    → c .free-by .result ≡ freeStep sheet (c .before .before .before .before .before .before .before .before .before .before .args .x) (c .before .before .before .before .before .before .before .before .loop .v) (c .before .before .before .before .before .before .before .before .loop .free)
+found : (c : tie.After-free-by Inv-loop μ-loop) (sheet : Sheet)
+    → sheet .nodes ≡ c .before .before .before .before .before .before .before .before .before .before .args .nodes .now
+    → c .free-by .result ≡ freeStep sheet (c .before .before .before .before .before .before .before .before .before .before .args .x)
+    (c .before .before .before .before .before .before .before .before .loop .v)
+    (c .before .before .before .before .before .before .before .before .loop .free)
 unfolding freeStep
 found c sheet n =
     rw (
@@ -96,7 +99,9 @@ loop-again c =
     let l = c .before .before .before .before .before .before .before .before .loop in (
       omega arith,
       simp length-set (l .inv .1),
-      λ sheet n. fills-more (λ f. f) false (freeStep sheet (c .before .before .before .before .before .before .before .before .before .before .args .x)) (l .v) (l .free) (c .free-by .result) (omega arith) (l .inv .2 sheet n)
+      λ sheet n. fills-more (λ f. f) false
+          (freeStep sheet (c .before .before .before .before .before .before .before .before .before .before .args .x)) (l .v) (l .free)
+          (c .free-by .result) (omega arith) (l .inv .2 sheet n)
           (found c sheet n ∙ same-step sheet _ (l .v) _ (l .free) (l .inv .2 sheet n)),
     )
 

@@ -67,15 +67,20 @@ count-at-requires-2 : tie.Need-count-at-requires-2 Inv-loop μ-loop
 count-at-requires-2 c κs = search needs
 
 -- no entry of the array is large
-entry-low : (c : tie.After-count-at2 Inv-loop μ-loop) (i : ℕ) → getD (c .before .before .before .before .before .before .before .before .before .loop .visits) i 0 ≤ 1000001
+entry-low : (c : tie.After-count-at2 Inv-loop μ-loop) (i : ℕ)
+    → getD (c .before .before .before .before .before .before .before .before .before .loop .visits) i 0 ≤ 1000001
 entry-low c i =
     let a = c .before .before .before .before .before .before .before .before .before .before .before .before .before .args in
     let sheet : Sheet = record { sorts = a .sorts .now; variables = a .variables .now; relations = []; nodes = a .nodes .now } in
     rw (c .before .before .before .before .before .before .before .before .before .loop .inv .2 sheet refl refl refl .at i) (capped-le _)
 
 visits-by-requires : tie.Need-visits-by-requires Inv-loop μ-loop
-visits-by-requires c κs =
-    (omega (arith, c .before .before .byte5 .ensures .1), rw (c .before .count-at .ensures) (entry-low c _), rw (c .count-at2 .ensures) (entry-low c _))
+visits-by-requires c κs = (
+  omega (arith, c .before .before .byte5 .ensures .1),
+  rw (c .before .count-at .ensures) (entry-low c _),
+  rw (c .count-at2 .ensures)
+      (entry-low c _),
+)
 
 mul-visits : tie.Need-mul-visits Inv-loop μ-loop
 mul-visits c = search needs
@@ -98,9 +103,12 @@ same-step sheet v entries array f =
     (capped-visits (rowOf (kind sheet v)) (scope sheet (sortOf sheet (fieldA sheet v)))
     (getD entries (fieldA sheet v) 0) (getD entries (fieldB sheet v) 0))
 
-found : (c : tie.After-visits-by Inv-loop μ-loop) (sheet : Sheet) → sheet .sorts ≡ c .before .before .before .before .before .before .before .before .before .before .before .before .before .before .args .sorts .now
+found : (c : tie.After-visits-by Inv-loop μ-loop) (sheet : Sheet)
+    → sheet .sorts ≡ c .before .before .before .before .before .before .before .before .before .before .before .before .before .before .args .sorts .now
     → sheet .variables ≡ c .before .before .before .before .before .before .before .before .before .before .before .before .before .before .args .variables .now → sheet .nodes ≡ c .before .before .before .before .before .before .before .before .before .before .before .before .before .before .args .nodes .now
-    → c .visits-by .result ≡ capped (visitsStep sheet (c .before .before .before .before .before .before .before .before .before .before .loop .v) (c .before .before .before .before .before .before .before .before .before .before .loop .visits))
+    → c .visits-by .result
+    ≡ capped (visitsStep sheet (c .before .before .before .before .before .before .before .before .before .before .loop .v)
+    (c .before .before .before .before .before .before .before .before .before .before .loop .visits))
 unfolding visitsStep
 found c sheet s x n =
     rw (
