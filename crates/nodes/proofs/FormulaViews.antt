@@ -1,16 +1,17 @@
 -- What the tree of a node and its form say of the node's symbol, its fields, and the trees of the nodes that they name: formulas.
 use mathlib.Core.Path.{_≡_, refl, sym, _∙_}
 use Prim.Native.Nat.{ℕ, _<_}
+use native.Mathlib.Omega.{arith}
 use Rattle.kinds.specs.Kinds.{rowOf}
 use Rattle.sheet.specs.Blocks.{Sheet, variableCount, nodeCount, kind, fieldA, fieldB}
 use Rattle.sheet.specs.Facts.{Facts}
-use Rattle.relational.specs.Trees.{Comparison, Test, Connective, Quantifier, Expression, leaf, Formula, comparison, test, negation, connective, quantified, Symbol, leaf-symbol, binary-symbol, unary-symbol, comparison-symbol, test-symbol, connective-symbol, quantifier-symbol, comprehension-symbol, negation-symbol, unknown-symbol, symbolOf, treeBy, expression, formula}
-use Rattle.terms.specs.declared.nodes.FormulaForm.{FormulaForm}
-use Rattle.terms.specs.declared.nodes.FormulaForm.the-variants as claim
-use Rattle.terms.specs.declared.nodes.Node.{Node}
-use Rattle.terms.specs.Nodes.{formulaForm, nodeAt, treeAt}
-use Rattle.terms.proofs.Rows.{row-by}
-use Rattle.terms.proofs.Views.{expressed, formed, whole-formula, no-both, claimBy, claim-by, field-a, field-b, before, tree-of, tree-by, lower, same-formula}
+use Rattle.relational.specs.Trees.{Comparison, Test, Connective, Quantifier, leaf, Formula, comparison, test, negation, connective, quantified, Symbol, leaf-symbol, binary-symbol, unary-symbol, comparison-symbol, test-symbol, connective-symbol, quantifier-symbol, comprehension-symbol, negation-symbol, unknown-symbol, symbolOf, treeBy, formula}
+use Rattle.nodes.specs.declared.forms.FormulaForm.{FormulaForm}
+use Rattle.nodes.specs.declared.forms.FormulaForm.the-variants as claim
+use Rattle.nodes.specs.declared.forms.Node.{Node}
+use Rattle.nodes.specs.Nodes.{formulaForm, nodeAt, treeAt, IsExpression, IsFormula}
+use Rattle.relational.proofs.Rows.{row-of-symbol}
+use Rattle.nodes.proofs.Views.{expressed, formed, whole-formula, no-both, formula-there, claimBy, claim-by, field-a, field-b, before, tree-of, tree-by, lower, same-formula}
 
 module _ (sheet : Sheet) (v : ℕ) (node : Node) where
   pub record ComparisonAt (f : Formula) : Type 0 where
@@ -18,45 +19,38 @@ module _ (sheet : Sheet) (v : ℕ) (node : Node) where
     pub symbol : symbolOf (node .kind) ≡ comparison-symbol it
     pub lower-a : node .a < v
     pub lower-b : node .b < v
-    pub p : Expression
-    pub left : treeAt sheet (node .a) ≡ expression p
-    pub q : Expression
-    pub right : treeAt sheet (node .b) ≡ expression q
-    pub is : f ≡ comparison it p q
+    pub left : IsExpression sheet (node .a)
+    pub right : IsExpression sheet (node .b)
+    pub is : f ≡ comparison it (left .it) (right .it)
 
   pub record TestAt (f : Formula) : Type 0 where
     pub it : Test
     pub symbol : symbolOf (node .kind) ≡ test-symbol it
     pub lower-a : node .a < v
-    pub p : Expression
-    pub left : treeAt sheet (node .a) ≡ expression p
-    pub is : f ≡ test it p
+    pub left : IsExpression sheet (node .a)
+    pub is : f ≡ test it (left .it)
 
   pub record NegationAt (f : Formula) : Type 0 where
     pub lower-a : node .a < v
-    pub p : Formula
-    pub left : treeAt sheet (node .a) ≡ formula p
-    pub is : f ≡ negation p
+    pub left : IsFormula sheet (node .a)
+    pub is : f ≡ negation (left .it)
 
   pub record ConnectiveAt (f : Formula) : Type 0 where
     pub it : Connective
     pub symbol : symbolOf (node .kind) ≡ connective-symbol it
     pub lower-a : node .a < v
     pub lower-b : node .b < v
-    pub p : Formula
-    pub left : treeAt sheet (node .a) ≡ formula p
-    pub q : Formula
-    pub right : treeAt sheet (node .b) ≡ formula q
-    pub is : f ≡ connective it p q
+    pub left : IsFormula sheet (node .a)
+    pub right : IsFormula sheet (node .b)
+    pub is : f ≡ connective it (left .it) (right .it)
 
   pub record QuantifierAt (f : Formula) : Type 0 where
     pub it : Quantifier
     pub symbol : symbolOf (node .kind) ≡ quantifier-symbol it
-    pub names : node .a < variableCount sheet
+    pub names : node .a < 4
     pub lower-b : node .b < v
-    pub p : Formula
-    pub body : treeAt sheet (node .b) ≡ formula p
-    pub is : f ≡ quantified it (node .a) p
+    pub body : IsFormula sheet (node .b)
+    pub is : f ≡ quantified it (node .a) (body .it)
 
   pub data FormulaView (f : Formula) : FormulaForm → Type 0 where
     comparison-view : ComparisonAt f → FormulaView f claim.Comparison
@@ -65,7 +59,10 @@ module _ (sheet : Sheet) (v : ℕ) (node : Node) where
     connective-view : ConnectiveAt f → FormulaView f claim.Connective
     quantifier-view : QuantifierAt f → FormulaView f claim.Quantifier
 
-module _ (sheet : Sheet) (fine : Facts sheet) (v : ℕ) (there : v < nodeCount sheet) (f : Formula) (h : treeAt sheet v ≡ formula f) where
+module _ (sheet : Sheet) (fine : Facts sheet) (v : ℕ) (f : Formula) (h : treeAt sheet v ≡ formula f) where
+  there : v < nodeCount sheet
+  there = formula-there (record { it = f; is = h })
+
   -- the tree grows from the trees before it
   grown : (s : Symbol) → symbolOf (kind sheet v) ≡ s
       → treeBy s (fieldA sheet v) (before sheet v (fieldA sheet v)) (before sheet v (fieldB sheet v)) ≡ formula f
@@ -94,17 +91,15 @@ module _ (sheet : Sheet) (fine : Facts sheet) (v : ℕ) (there : v < nodeCount s
         symbol = q;
         lower-a = a;
         lower-b = b;
-        p = t .it;
-        left = tree-of sheet v there a (t .is);
-        q = u .it;
-        right = tree-of sheet v there b (u .is);
+        left = record { it = t .it; is = tree-of sheet v there a (t .is) };
+        right = record { it = u .it; is = tree-of sheet v there b (u .is) };
         is = same-formula (u .grown);
       })
   formula-by (test-symbol o) q =
       let s : Symbol = test-symbol o in
       let a : fieldA sheet v < v = lower (fieldA sheet v) v (field-a sheet fine v there s q) in
       let t = expressed (before sheet v (fieldA sheet v)) _ _ (whole-formula f) (grown s q) in
-      test-view (record { it = o; symbol = q; lower-a = a; p = t .it; left = tree-of sheet v there a (t .is); is = same-formula (t .grown) })
+      test-view (record { it = o; symbol = q; lower-a = a; left = record { it = t .it; is = tree-of sheet v there a (t .is) }; is = same-formula (t .grown) })
   formula-by (connective-symbol o) q =
       let s : Symbol = connective-symbol o in
       let a : fieldA sheet v < v = lower (fieldA sheet v) v (field-a sheet fine v there s q) in
@@ -117,10 +112,8 @@ module _ (sheet : Sheet) (fine : Facts sheet) (v : ℕ) (there : v < nodeCount s
         symbol = q;
         lower-a = a;
         lower-b = b;
-        p = t .it;
-        left = tree-of sheet v there a (t .is);
-        q = u .it;
-        right = tree-of sheet v there b (u .is);
+        left = record { it = t .it; is = tree-of sheet v there a (t .is) };
+        right = record { it = u .it; is = tree-of sheet v there b (u .is) };
         is = same-formula (u .grown);
       })
   formula-by (quantifier-symbol o) q =
@@ -131,10 +124,9 @@ module _ (sheet : Sheet) (fine : Facts sheet) (v : ℕ) (there : v < nodeCount s
       (record {
         it = o;
         symbol = q;
-        names = lower (fieldA sheet v) (variableCount sheet) (field-a sheet fine v there s q);
+        names = omega (arith, lower (fieldA sheet v) (variableCount sheet) (field-a sheet fine v there s q), fine .counts .few-variables);
         lower-b = b;
-        p = t .it;
-        body = tree-of sheet v there b (t .is);
+        body = record { it = t .it; is = tree-of sheet v there b (t .is) };
         is = same-formula (t .grown);
       })
   formula-by comprehension-symbol q =
@@ -145,11 +137,11 @@ module _ (sheet : Sheet) (fine : Facts sheet) (v : ℕ) (there : v < nodeCount s
       let s : Symbol = negation-symbol in
       let a : fieldA sheet v < v = lower (fieldA sheet v) v (field-a sheet fine v there s q) in
       let t = formed (before sheet v (fieldA sheet v)) _ _ (whole-formula f) (grown s q) in
-      negation-view (record { lower-a = a; p = t .it; left = tree-of sheet v there a (t .is); is = same-formula (t .grown) })
+      negation-view (record { lower-a = a; left = record { it = t .it; is = tree-of sheet v there a (t .is) }; is = same-formula (t .grown) })
   formula-by unknown-symbol q = absurd (whole-formula f (sym (grown unknown-symbol q)))
 
   claim-of : formulaForm (rowOf (kind sheet v) .rule) ≡ claimBy (symbolOf (kind sheet v))
-  claim-of = rw (row-by (kind sheet v)) (claim-by (symbolOf (kind sheet v)))
+  claim-of = rw (row-of-symbol (kind sheet v)) (claim-by (symbolOf (kind sheet v)))
 
   formula-view : (x : FormulaForm) → formulaForm (rowOf (kind sheet v) .rule) ≡ x → FormulaView sheet v (nodeAt (sheet .nodes) v) f x
   formula-view x p =

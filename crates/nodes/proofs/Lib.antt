@@ -1,0 +1,5 @@
+pub mod Binding
+pub mod Numbers
+pub mod Views
+pub mod ExpressionViews
+pub mod FormulaViews
