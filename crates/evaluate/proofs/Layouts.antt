@@ -1,11 +1,10 @@
 -- Where the cells of a relation stand: how many there are at most, and what a leaf that is a relation stands for.
-use mathlib.Core.Path.{_≡_, refl, sym, _∙_, fun-ext}
+use mathlib.Core.Path.{_≡_, refl, sym, _∙_}
 use mathlib.Core.Logic.{_⊎_, inl, inr, ⊎-elim}
 use mathlib.Core.Bool.{Bool, true, false, cond}
 use mathlib.Core.List.{List}
 use Prim.Native.Nat.{ℕ, zero, suc, _+_, _*_, _<_, _≤_}
 use native.Mathlib.Nat.{eq-or-lt-of-le, mul-le-mul}
-use native.Mathlib.Decide.{ℕ-discrete}
 use native.Mathlib.Numerals.{add-one}
 use native.Mathlib.Omega.{arith}
 use lib.Dec.{eqb}
@@ -15,23 +14,11 @@ use borrow.Author.Tests.{eq-eqb, ne-eqb}
 use Rattle.sheet.specs.Blocks.{Sheet, scope, columns, firstSort, secondSort, multiplicity}
 use Rattle.relational.specs.Trees.{relation}
 use Rattle.relational.specs.Cells.{rowCount, rowLength, firstCell, cell}
-use Rattle.relational.specs.Meaning.{Environment, bind}
+use Rattle.relational.specs.Meaning.{Environment}
 use Rattle.relational.specs.Evaluation.{count, valueLeaf, rowHolds, rowCells}
 use Rattle.matrix.specs.Values.{SetOrRelation, sized, flagsFrom}
 use Rattle.matrix.specs.Numbers.{rowBy}
 use Rattle.matrix.proofs.Symbols.{row-of}
-use Rattle.evaluate.specs.Walking.{environmentOf}
-
--- ---- binding a variable
-pub bind-law : (env : List ℕ) (x atom : ℕ) → x < length env → environmentOf (set env x atom) ≡ bind (environmentOf env) x atom
-bind-law env x atom l = fun-ext at
-  where
-    at : (y : ℕ) → getD (set env x atom) y 0 ≡ cond (eqb y x) atom (getD env y 0)
-    at y = go (ℕ-discrete y x)
-      where
-        go : Dec (y ≡ x) → getD (set env x atom) y 0 ≡ cond (eqb y x) atom (getD env y 0)
-        go (yes e) = rw (eq-eqb y x e, e) (getD-set-same env x atom 0 l)
-        go (no e) = rw (ne-eqb y x e) (getD-set-other env x y atom 0 e)
 
 module _ (sheet : Sheet) where
   pub count-set : (r : ℕ) → columns sheet r ≡ 1 → 1 ≡ rowCount sheet r

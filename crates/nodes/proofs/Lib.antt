@@ -3,3 +3,4 @@ pub mod Numbers
 pub mod Views
 pub mod ExpressionViews
 pub mod FormulaViews
+pub mod Roots

@@ -71,3 +71,7 @@ unfolding symbolOf
 number-of k s e h =
     let f : symbolIn k (map numbered symbols) ≡ s = ap (symbolIn k) (sym all-numbered) ∙ e in
     number-in k symbols (ap isKnown f ∙ h) ∙ ap numberOf f
+
+pub relation-symbol : (k : ℕ) → k ≡ 1 → symbolOf k ≡ leaf-symbol relation
+unfolding symbolOf
+relation-symbol k e = rw e refl

@@ -17,7 +17,8 @@ use Rattle.nodes.specs.declared.forms.ExpressionForm.{ExpressionForm}
 use Rattle.nodes.specs.declared.forms.ExpressionForm.the-variants as form
 use Rattle.nodes.specs.declared.forms.FormulaForm.{FormulaForm}
 use Rattle.nodes.specs.declared.forms.FormulaForm.the-variants as claim
-use Rattle.nodes.specs.Nodes.{expressionForm, formulaForm, treeAt, IsExpression, IsFormula}
+use Rattle.nodes.specs.declared.forms.Node.{Node}
+use Rattle.nodes.specs.Nodes.{expressionForm, formulaForm, nodeAt, treeAt, IsExpression, IsFormula}
 use Rattle.sheet.proofs.TableLaws.{table-length, table-at, table-same}
 use Rattle.relational.proofs.Rows.{rowOfSymbol, row-of-symbol}
 
@@ -73,6 +74,12 @@ expression-low f i = omega (arith, expression-there i, f .counts .few-nodes)
 
 pub formula-low : {sheet : Sheet} {v : ℕ} → Facts sheet → IsFormula sheet v → v ≤ 200
 formula-low f i = omega (arith, formula-there i, f .counts .few-nodes)
+
+-- a walk is at node v, and has read it
+pub record Reached (sheet : Sheet) (v : ℕ) (node : Node) (Tree : Sheet → ℕ → Type 0) : Type 0 where
+  pub facts : Facts sheet
+  pub read : node ≡ nodeAt (sheet .nodes) v
+  pub tree : Tree sheet v
 
 -- ---- the form of a symbol
 abbrev pub formBy : Symbol → ExpressionForm

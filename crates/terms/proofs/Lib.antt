@@ -1,3 +1,3 @@
 pub mod Lists
-pub mod Numbers
+mod Numbers
 pub mod LeafMatrices

@@ -18,52 +18,44 @@ use Rattle.nodes.specs.declared.forms.Node.{Node}
 use Rattle.nodes.specs.declared.forms.FormulaForm.the-variants as claim
 use Rattle.nodes.specs.Nodes.{treeAt, IsExpression, IsFormula}
 use Rattle.nodes.specs.Environments.{environment}
+use Rattle.nodes.proofs.Views as views
 use Rattle.nodes.proofs.FormulaViews.{ComparisonAt, TestAt, NegationAt, ConnectiveAt, QuantifierAt, at-comparison, at-test, at-negation, at-connective, at-quantifier}
 use Rattle.translation.specs.Walks.{bodyWalks, WalksExpression, WalksFormula, WalksBodies}
 use Rattle.translation.proofs.Regulars.{regular-comparison, regular-test, regular-connective, regular-quantifier, regular-expression, regular-formula, regular-bodies}
 use Rattle.translation.proofs.Walking.{Reached, Below, operand-grows, ready-after, emits-two}
 
 module _ {sheet : Sheet} {given : List ℤ} {before : Tape} {v : ℕ} {node : Node} (h : Reached sheet given before v node IsFormula) where
-  -- ---- the node by its form
-  comparison-at : (f : Formula) → treeAt sheet v ≡ formula f → node .formula ≡ claim.Comparison → ComparisonAt sheet v node f
-  comparison-at f t p = at-comparison sheet (h .ready .facts) v f t (h .read) p
+  -- the node, whatever its tree is called
+  abbrev with-tree : (f : Formula) → treeAt sheet v ≡ formula f → views.Reached sheet v node IsFormula
+  with-tree f t = record { facts = h .ready .facts; read = h .read; tree = record { it = f; is = t } }
 
-  test-at : (f : Formula) → treeAt sheet v ≡ formula f → node .formula ≡ claim.Test → TestAt sheet v node f
-  test-at f t p = at-test sheet (h .ready .facts) v f t (h .read) p
-
-  negation-at : (f : Formula) → treeAt sheet v ≡ formula f → node .formula ≡ claim.Negation → NegationAt sheet v node f
-  negation-at f t p = at-negation sheet (h .ready .facts) v f t (h .read) p
-
-  connective-at : (f : Formula) → treeAt sheet v ≡ formula f → node .formula ≡ claim.Connective → ConnectiveAt sheet v node f
-  connective-at f t p = at-connective sheet (h .ready .facts) v f t (h .read) p
-
-  quantifier-at : (f : Formula) → treeAt sheet v ≡ formula f → node .formula ≡ claim.Quantifier → QuantifierAt sheet v node f
-  quantifier-at f t p = at-quantifier sheet (h .ready .facts) v f t (h .read) p
+  here : views.Reached sheet v node IsFormula
+  here = with-tree (h .tree .it) (h .tree .is)
 
   -- ---- the first operand
   pub comparison-left : node .formula ≡ claim.Comparison → Below sheet given before v (node .a) IsExpression
   comparison-left p =
-      let b = comparison-at (h .tree .it) (h .tree .is) p in
+      let b = at-comparison here p in
       record { lower = b .lower-a; ready = h .ready; tree = b .left }
 
   pub test-left : node .formula ≡ claim.Test → Below sheet given before v (node .a) IsExpression
   test-left p =
-      let b = test-at (h .tree .it) (h .tree .is) p in
+      let b = at-test here p in
       record { lower = b .lower-a; ready = h .ready; tree = b .left }
 
   pub negation-left : node .formula ≡ claim.Negation → Below sheet given before v (node .a) IsFormula
   negation-left p =
-      let b = negation-at (h .tree .it) (h .tree .is) p in
+      let b = at-negation here p in
       record { lower = b .lower-a; ready = h .ready; tree = b .left }
 
   pub connective-left : node .formula ≡ claim.Connective → Below sheet given before v (node .a) IsFormula
   connective-left p =
-      let b = connective-at (h .tree .it) (h .tree .is) p in
+      let b = at-connective here p in
       record { lower = b .lower-a; ready = h .ready; tree = b .left }
 
   pub quantifier-body : node .formula ≡ claim.Quantifier → Below sheet given before v (node .b) IsFormula × (node .a < 4)
   quantifier-body p =
-      let b = quantifier-at (h .tree .it) (h .tree .is) p in (
+      let b = at-quantifier here p in (
         record { lower = b .lower-b; ready = h .ready; tree = b .body },
         b .names,
       )
@@ -73,7 +65,7 @@ module _ {sheet : Sheet} {given : List ℤ} {before : Tape} {v : ℕ} {node : No
     module _ {mid : List ℤ} {middle : Tape} {m : Literals} (w : WalksExpression sheet given env (node .a) old before m mid middle) where
       pub comparison-right : node .formula ≡ claim.Comparison → Below sheet given middle v (node .b) IsExpression
       comparison-right p =
-          let b = comparison-at (h .tree .it) (h .tree .is) p in
+          let b = at-comparison here p in
           let i = w .walks (b .left .it) (b .left .is) in
           let ready = ready-after (h .ready) (i .bounded) (i .grows) in
           record { lower = b .lower-b; ready = ready; tree = b .right }
@@ -81,7 +73,7 @@ module _ {sheet : Sheet} {given : List ℤ} {before : Tape} {v : ℕ} {node : No
       module _ {new : List ℤ} {after : Tape} {q : Literals} (u : WalksExpression sheet given env (node .b) mid middle q new after) where
         pub comparison-operands : node .formula ≡ claim.Comparison → Bounded after × (Operand (after .next) m × Operand (after .next) q)
         comparison-operands p =
-            let b = comparison-at (h .tree .it) (h .tree .is) p in
+            let b = at-comparison here p in
             let i = w .walks (b .left .it) (b .left .is) in
             let j = u .walks (b .right .it) (b .right .is) in
             (j .bounded, (operand-grows (j .grows) (i .fine), j .fine))
@@ -91,7 +83,7 @@ module _ {sheet : Sheet} {given : List ℤ} {before : Tape} {v : ℕ} {node : No
             → EmitsLiteral (translateComparison o (matrixOf m) (matrixOf q) (after .next)) new after z out end)
             → WalksFormula sheet given env v old before z out end
         unfolding translate
-        comparison-walks {out} {end} {z} p c = record { walks = λ f t. go f (comparison-at f t p) }
+        comparison-walks {out} {end} {z} p c = record { walks = λ f t. go f (at-comparison (with-tree f t) p) }
           where
             go : (f : Formula) → ComparisonAt sheet v node f
                 → EmitsLiteral (translateFormula sheet (literalsOf given) f (environment env) (before .next)) old before z out end
@@ -108,7 +100,7 @@ module _ {sheet : Sheet} {given : List ℤ} {before : Tape} {v : ℕ} {node : No
     module _ {mid : List ℤ} {middle : Tape} {m : ℤ} (w : WalksFormula sheet given env (node .a) old before m mid middle) where
       pub connective-right : node .formula ≡ claim.Connective → Below sheet given middle v (node .b) IsFormula
       connective-right p =
-          let b = connective-at (h .tree .it) (h .tree .is) p in
+          let b = at-connective here p in
           let i = w .walks (b .left .it) (b .left .is) in
           let ready = ready-after (h .ready) (i .bounded) (i .grows) in
           record { lower = b .lower-b; ready = ready; tree = b .right }
@@ -117,7 +109,7 @@ module _ {sheet : Sheet} {given : List ℤ} {before : Tape} {v : ℕ} {node : No
         pub connective-operands : node .formula ≡ claim.Connective
             → Bounded after × (Inside (after .next) (literalOf m) × Inside (after .next) (literalOf q))
         connective-operands p =
-            let b = connective-at (h .tree .it) (h .tree .is) p in
+            let b = at-connective here p in
             let i = w .walks (b .left .it) (b .left .is) in
             let j = u .walks (b .right .it) (b .right .is) in
             (j .bounded, (inside-grows (j .grows) (i .fine), j .fine))
@@ -126,7 +118,7 @@ module _ {sheet : Sheet} {given : List ℤ} {before : Tape} {v : ℕ} {node : No
             → ((o : Connective) → symbolOf (node .kind) ≡ connective-symbol o → EmitsTwo (translateConnective o) m q new after z out end)
             → WalksFormula sheet given env v old before z out end
         unfolding translate
-        connective-walks {out} {end} {z} p c = record { walks = λ f t. go f (connective-at f t p) }
+        connective-walks {out} {end} {z} p c = record { walks = λ f t. go f (at-connective (with-tree f t) p) }
           where
             go : (f : Formula) → ConnectiveAt sheet v node f
                 → EmitsLiteral (translateFormula sheet (literalsOf given) f (environment env) (before .next)) old before z out end
@@ -143,7 +135,7 @@ module _ {sheet : Sheet} {given : List ℤ} {before : Tape} {v : ℕ} {node : No
     module _ {new : List ℤ} {after : Tape} {m : Literals} (w : WalksExpression sheet given env (node .a) old before m new after) where
       pub test-operand : node .formula ≡ claim.Test → Bounded after × Operand (after .next) m
       test-operand p =
-          let b = test-at (h .tree .it) (h .tree .is) p in
+          let b = at-test here p in
           let i = w .walks (b .left .it) (b .left .is) in
           (i .bounded, i .fine)
 
@@ -151,7 +143,7 @@ module _ {sheet : Sheet} {given : List ℤ} {before : Tape} {v : ℕ} {node : No
           → ((o : Test) → symbolOf (node .kind) ≡ test-symbol o → EmitsTest (translateTest o) m new after z out end)
           → WalksFormula sheet given env v old before z out end
       unfolding translate
-      test-walks {out} {end} {z} p c = record { walks = λ f t. go f (test-at f t p) }
+      test-walks {out} {end} {z} p c = record { walks = λ f t. go f (at-test (with-tree f t) p) }
         where
           go : (f : Formula) → TestAt sheet v node f
               → EmitsLiteral (translateFormula sheet (literalsOf given) f (environment env) (before .next)) old before z out end
@@ -166,14 +158,14 @@ module _ {sheet : Sheet} {given : List ℤ} {before : Tape} {v : ℕ} {node : No
     module _ {new : List ℤ} {after : Tape} {l : ℤ} (w : WalksFormula sheet given env (node .a) old before l new after) where
       pub negation-operand : node .formula ≡ claim.Negation → Bounded after × Inside (after .next) (literalOf l)
       negation-operand p =
-          let b = negation-at (h .tree .it) (h .tree .is) p in
+          let b = at-negation here p in
           let i = w .walks (b .left .it) (b .left .is) in
           (i .bounded, i .fine)
 
       pub negation-walks : {end : Tape} {z : ℤ} → node .formula ≡ claim.Negation → end ≡ after → literalOf z ≡ opposite (literalOf l)
           → WalksFormula sheet given env v old before z new end
       unfolding translate
-      negation-walks {end} {z} p q e = record { walks = λ f t. go f (negation-at f t p) }
+      negation-walks {end} {z} p q e = record { walks = λ f t. go f (at-negation (with-tree f t) p) }
         where
           go : (f : Formula) → NegationAt sheet v node f
               → EmitsLiteral (translateFormula sheet (literalsOf given) f (environment env) (before .next)) old before z new end
@@ -187,7 +179,7 @@ module _ {sheet : Sheet} {given : List ℤ} {before : Tape} {v : ℕ} {node : No
     module _ {new : List ℤ} {after : Tape} {m : Literals} (w : WalksBodies sheet given env (node .b) old before (node .a) m new after) where
       pub quantifier-operand : node .formula ≡ claim.Quantifier → Bounded after × Operand (after .next) m
       quantifier-operand p =
-          let b = quantifier-at (h .tree .it) (h .tree .is) p in
+          let b = at-quantifier here p in
           let i = w .walks (b .body .it) (b .body .is) in
           (i .bounded, i .fine)
 
@@ -195,7 +187,7 @@ module _ {sheet : Sheet} {given : List ℤ} {before : Tape} {v : ℕ} {node : No
           → ((o : Quantifier) → symbolOf (node .kind) ≡ quantifier-symbol o → EmitsTest (translateQuantifier o) m new after z out end)
           → WalksFormula sheet given env v old before z out end
       unfolding translate
-      quantifier-walks {out} {end} {z} p c = record { walks = λ f t. go f (quantifier-at f t p) }
+      quantifier-walks {out} {end} {z} p c = record { walks = λ f t. go f (at-quantifier (with-tree f t) p) }
         where
           go : (f : Formula) → QuantifierAt sheet v node f
               → EmitsLiteral (translateFormula sheet (literalsOf given) f (environment env) (before .next)) old before z out end
