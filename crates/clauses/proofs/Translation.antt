@@ -16,6 +16,7 @@ use Rattle.emission.specs.declared.Tape.{Tape}
 use Rattle.emission.specs.Emission.{Inside, AllInside, literalsOf, Writes, Appends, Room, Bounded, Within, Emits}
 use Rattle.emission.proofs.Writes.{writes-then, writes-as, writes-length}
 use Rattle.emission.proofs.Steps.{emits-as}
+use Rattle.cells.proofs.Layouts.{scopes-of}
 use Rattle.nodes.specs.Environments.{environment}
 use Rattle.nodes.proofs.Binding.{zero-atoms}
 use Rattle.marks.specs.Marking.{Small, Adds, Declared, blocks}
@@ -30,7 +31,7 @@ module _ (sheet : Sheet) (given : List ℤ) (t : Translatable sheet given) where
   given-inside {m} h = rw (t .cells) (cells-inside (cellCount sheet) m (rw (← t .size) h))
 
   pub marks-declared : Declared (blocks (sheet .sorts) (sheet .relations))
-  marks-declared = record { few = t .facts .counts .few-relations; scopes = record { most = t .facts .scope-few }; some = t .rows }
+  marks-declared = record { few = t .facts .counts .few-relations; scopes = scopes-of (t .facts); some = t .rows }
 
   module _ {start first : Tape} {old l₁ : List ℤ} (en : start .next ≡ 2 + length given) (ec : start .clauses ≡ 0)
       (ew : start .words ≡ 0) (p : Appends ((positive 1 ∷ []) ∷ []) old start l₁ first) where

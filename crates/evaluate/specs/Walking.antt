@@ -1,31 +1,25 @@
 -- What the walk of a node gives, and what it needs of the sheet.
 -- Cited by contracts of private functions only: nothing here needs belief.
-use mathlib.Core.Path.{_≡_}
 use mathlib.Core.Bool.{Bool, false, cond}
 use mathlib.Core.List.{List, [], map}
-use Prim.Native.Nat.{ℕ, _<_}
+use Prim.Native.Nat.{ℕ}
 use lib.Dec.{eqb}
-use lib.ListN.{length, getD}
 use Rattle.prelude.specs.Tests.{each, all, any}
-use Rattle.sheet.specs.Blocks.{Sheet, scope, sortOf, relationCount, multiplicity}
+use Rattle.sheet.specs.Blocks.{Sheet, scope, sortOf, multiplicity}
 use Rattle.sheet.specs.Facts.{Facts}
 use Rattle.relational.specs.Trees.{relation, variable, atoms, identity, Tree, expression, formula, broken}
-use Rattle.relational.specs.Cells.{rowCount, firstCell}
+use Rattle.relational.specs.Cells.{rowCount}
+use Rattle.cells.specs.Private.{Starts}
 use Rattle.relational.specs.Meaning.{Environment, bind}
 use Rattle.nodes.specs.Environments.{environment}
 use Rattle.nodes.specs.Nodes.{treeAt}
 use Rattle.relational.specs.Matrices.{Matrix, setOf, upto}
 use Rattle.relational.specs.Evaluation.{valueOf, truthOf, valueLeaf, rowHolds, rowCells}
 
-module _ (sheet : Sheet) where
-  -- the first cell of each relation
-  pub record Starts (starts : List ℕ) : Type 0 where
-    pub long : length starts ≡ 16
-    pub first : (r : ℕ) → r < relationCount sheet → getD starts r 0 ≡ firstCell sheet r
-
-  pub record Ready (starts : List ℕ) : Type 0 where
-    pub facts : Facts sheet
-    pub cells : Starts starts
+-- the sheet is accepted, and the first cell of each relation is known
+pub record Ready (sheet : Sheet) (starts : List ℕ) : Type 0 where
+  pub facts : Facts sheet
+  pub cells : Starts sheet starts
 
 module _ (sheet : Sheet) (instance : List ℕ) where
   -- kinds 1 to 4

@@ -7,7 +7,6 @@ use marks::marks_hold;
 use matrix::flags::both;
 use walk::formula;
 
-pub mod cells; // cells.rt: where the cells of each relation stand
 mod leaves; // leaves.rt: the leaves of an expression
 mod marks; // marks.rt: multiplicities
 mod walk; // walk.rt: expressions and formulas

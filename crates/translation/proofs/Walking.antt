@@ -5,7 +5,6 @@ use Prim.Native.Nat.{ℕ, _≤_, _<_}
 use lib.IntN.{ℤ, negsuc}
 use lib.ListN.{length}
 use Rattle.sheet.specs.Blocks.{Sheet}
-use Rattle.sheet.specs.Facts.{Facts}
 use Rattle.encoding.specs.Builder.{Builder, _>>=_}
 use Rattle.encoding.specs.Translation.{translate, translateFormula}
 use Rattle.emission.specs.declared.Tape.{Tape}
@@ -13,7 +12,6 @@ use Rattle.emission.specs.declared.Literals.{Literals}
 use Rattle.emission.specs.Emission.{literalsOf, Operand, Bounded, Over, Emits}
 use Rattle.emission.proofs.Steps.{Regular, regular-bind, emits-bind, given-up}
 use Rattle.emission.proofs.Ranges.{all-grows, inside-absent}
-use Rattle.cells.specs.Private.{Scopes}
 use Rattle.nodes.specs.declared.forms.Node.{Node}
 use Rattle.nodes.specs.Nodes.{nodeAt, IsExpression, IsFormula}
 use Rattle.nodes.specs.Environments.{environment}
@@ -31,10 +29,6 @@ pub record Below (sheet : Sheet) (given : List ℤ) (tape : Tape) (v a : ℕ) (T
   pub lower : a < v
   pub ready : Ready sheet given tape
   pub tree : Tree sheet a
-
--- ---- what acceptance gives
-pub sound-scopes : {sheet : Sheet} → Facts sheet → Scopes (sheet .sorts)
-sound-scopes s = record { most = s .scope-few }
 
 pub operand-grows : {n m : ℕ} {p : Literals} → n ≤ m → Operand n p → Operand m p
 operand-grows {n} {m} {p} h o =

@@ -9,9 +9,10 @@ use mir.Val.{SFits}
 use borrow.Author.Needs.{needs}
 use Rattle.literal.proofs.Signs.{back}
 use Rattle.sheet.specs.Blocks.{byte, fourBlocks}
+use Rattle.cells.proofs.Layouts.{scopes-of}
 use Rattle.nodes.specs.Nodes.{IsExpression, IsFormula}
 use Rattle.nodes.proofs.Views.{expression-low, formula-low}
-use Rattle.translation.proofs.Walking.{Reached, sound-scopes, kept-expression, kept-formula, expression-over, formula-over}
+use Rattle.translation.proofs.Walking.{Reached, kept-expression, kept-formula, expression-over, formula-over}
 use Rattle.translation.proofs.ExpressionWalks.{leaf-arity, leaf-walks, binary-left, binary-right, binary-operands, binary-walks, unary-left, unary-operand, unary-walks, comprehension-body, comprehension-walks}
 use Rattle.translation.proofs.FormulaWalks.{comparison-left, comparison-right, comparison-operands, comparison-walks, test-left, test-operand, test-walks, negation-left, negation-operand, negation-walks, connective-left, connective-right, connective-operands, connective-walks, quantifier-body, quantifier-operand, quantifier-walks}
 use Rattle.translation.proofs.BodyWalks.{Done, done-none, done-ready, done-kept, done-more, done-all}
@@ -125,7 +126,7 @@ bodies-few : (t : ℕ) (b : bodies-lts.After-byte2 (bodies-calls t) (bodies-at t
     → b .byte2 .result ≤ 8
 bodies-few t b =
     let s = b .before .before .before .before .before .before in
-    omega (arith, b .byte2 .ensures .0, sound-scopes (s .pre .1 .0 .facts) .most (b .before .byte .result))
+    omega (arith, b .byte2 .ensures .0, scopes-of (s .pre .1 .0 .facts) .most (b .before .byte .result))
 
 bodies-byte-requires : (t : ℕ) → bodies-lts.Need-byte-requires (bodies-calls t) (bodies-at t) bodies.Post bodies-Inv-loop bodies-μ-loop
 bodies-byte-requires t c κs = search needs
@@ -218,7 +219,7 @@ expression-leaf-requires : (t : ℕ) → expression-lts.Need-leaf-requires (expr
 expression-leaf-requires t c κs =
     let n = c .before .before in
     let h = expression-node t n in
-    (n .read-node .ensures .1, (sound-scopes (h .ready .facts), leaf-arity h (c .enum-told .given .1)))
+    (n .read-node .ensures .1, (scopes-of (h .ready .facts), leaf-arity h (c .enum-told .given .1)))
 
 expression-enum-told-2 : (t : ℕ) → expression-lts.Need-enum-told-2 (expression-calls t) (expression-at t) expression.Post
 expression-enum-told-2 t c = search needs
