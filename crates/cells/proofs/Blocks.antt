@@ -1,6 +1,5 @@
 -- The blocks of an accepted sheet are the parts that its layout names.
-use mathlib.Core.Path.{_≡_, refl, sym, ap, _∙_}
-use mathlib.Core.Bool.{true}
+use mathlib.Core.Path.{_≡_, refl, _∙_}
 use mathlib.Core.List.{List}
 use Prim.Native.Nat.{ℕ, _+_, _*_, _-_, _/_, _%_, _≤_}
 use native.Mathlib.Nat.{div-add-mod}
@@ -12,8 +11,8 @@ use borrow.Author.Tests.{eqb-true}
 use Rattle.prelude.proofs.Laws.{and-left, and-right}
 use Rattle.sheet.specs.declared.Layout.{Layout}
 use Rattle.sheet.specs.declared.Reading.the-variants.{Accepted}
-use Rattle.sheet.specs.Blocks.{Sheet, lengthAt, blockAt, after, variablesHead, relationsHead, nodesHead, blocksEnd, sheetOf}
-use Rattle.sheet.specs.Reading.{layoutOf, reading}
+use Rattle.sheet.specs.Blocks.{lengthAt, blockAt, after, variablesHead, relationsHead, nodesHead, blocksEnd, sheetOf}
+use Rattle.sheet.specs.Reading.{reading}
 use Rattle.sheet.proofs.Acceptance.{conditions, accepted-layout}
 
 -- a block of n bytes stands at a place

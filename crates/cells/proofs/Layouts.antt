@@ -1,15 +1,18 @@
 -- Rows and cells of relations, from the bytes of their declarations.
-use mathlib.Core.Path.{_≡_, refl, sym, ap, _∙_}
+use mathlib.Core.Path.{_≡_, refl, ap, _∙_}
+use mathlib.Core.Logic.{⊎-elim}
 use mathlib.Core.Bool.{Bool, true, false, cond}
 use mathlib.Core.List.{List, []}
 use Prim.Native.Nat.{ℕ, zero, suc, _+_, _*_, _≤_, _<_}
-use native.Mathlib.Nat.{mul-le-mul}
+use native.Mathlib.Nat.{eq-or-lt-of-le, mul-le-mul}
 use native.Mathlib.Numerals.{add-one}
 use native.Mathlib.Omega.{arith}
 use lib.Dec.{eqb}
+use lib.ListN.{length, getD, set, replicate, length-set}
+use lib.Seq.{getD-set-same, getD-set-other}
 use borrow.Author.Tests.{eq-eqb, ne-eqb}
-use Rattle.prelude.proofs.Laws.{decided}
 use Rattle.sheet.specs.Blocks.{Sheet, fourBlocks, byte, scope, columns, firstSort, secondSort}
+use Rattle.sheet.specs.Facts.{Facts}
 use Rattle.relational.specs.Cells.{isSet, rowCount, rowLength, cellsOf, firstCell}
 use Rattle.cells.specs.Private.{Scopes}
 
@@ -50,6 +53,15 @@ module _ (sheet : Sheet) (r : ℕ) {sorts : List ℕ} (es : sheet .sorts ≡ sor
       most : (b : Bool) → cond b (scope sheet (firstSort sheet r)) (scope sheet (secondSort sheet r)) ≤ 8
       most true = scope-most (firstSort sheet r)
       most false = scope-most (secondSort sheet r)
+
+pub scopes-of : {sheet : Sheet} → Facts sheet → Scopes (sheet .sorts)
+scopes-of f = record { most = f .scope-few }
+
+pub first-most : (sheet : Sheet) → Facts sheet → (r : ℕ) → firstCell sheet r ≤ 64 * r
+unfolding firstCell
+first-most sheet f zero = omega arith
+first-most sheet f (suc r) =
+    omega (arith, first-most sheet f r, mul-le-mul (rows-most sheet r refl (scopes-of f)) (length-most sheet r refl (scopes-of f)))
 
 -- a sheet with these declarations
 abbrev declared : List ℕ → List ℕ → Sheet
@@ -93,3 +105,21 @@ module _ {sorts relations : List ℕ} (scopes : Scopes sorts) (i : ℕ) {a b : �
 
 pub earlier-done : {sorts relations : List ℕ} {n i r : ℕ} → Earlier sorts relations n i → i ≤ r → r ≤ i → Earlier sorts relations n r
 earlier-done {n} {i} {r} h p q = let e : i ≡ r = omega arith in rw e at h
+
+-- what the loop over all relations has stored: the first cells of those before r
+pub record Stored (sorts relations starts : List ℕ) (r : ℕ) : Type 0 where
+  pub long : length starts ≡ 16
+  pub first : (sheet : Sheet) → sheet .sorts ≡ sorts → sheet .relations ≡ relations → (q : ℕ) → q < r → getD starts q 0 ≡ firstCell sheet q
+
+pub stored-none : (sorts relations : List ℕ) → Stored sorts relations (replicate 16 0) 0
+stored-none sorts relations = record { long = refl; first = λ sheet es er q l. absurd (omega arith) }
+
+pub stored-more : {sorts relations starts : List ℕ} {n r : ℕ} → r < 16 → Earlier sorts relations n r → Stored sorts relations starts r
+    → Stored sorts relations (set starts r n) (r + 1)
+stored-more {starts = starts} {n} {r} l e h =
+    record {
+      long = length-set starts r n ∙ h .long;
+      first = λ sheet es er q p.
+          ⊎-elim (λ s. rw s (getD-set-same starts r n 0 (omega (arith, h .long)) ∙ e .is sheet es er))
+          (λ s. getD-set-other starts r q n 0 (λ z. absurd (omega (arith, z))) ∙ h .first sheet es er q s) (eq-or-lt-of-le (omega arith));
+    }

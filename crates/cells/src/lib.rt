@@ -1,11 +1,12 @@
 // Where the cells of relations stand, from the bytes of an accepted sheet (document 01, "Clauses").
 ghost use mathlib.Core.Path.{_≡_};
-ghost use Prim.Native.Nat.{_*_, _≤_, _<_};
+ghost use Prim.Native.Nat.{_*_, _/_, _≤_, _<_};
+ghost use lib.ListN.{length};
 ghost use Rattle.sheet.specs.declared.Reading.the-variants.{Accepted};
 ghost use Rattle.sheet.specs.Blocks.{Sheet, sheetOf};
 ghost use Rattle.sheet.specs.Reading.{reading};
 ghost use Rattle.relational.specs.Cells.{rowCount, rowLength, firstCell, cellCount};
-ghost use Rattle.cells.specs.Private.{Scopes};
+ghost use Rattle.cells.specs.Private.{Scopes, Starts};
 use sheet::Layout;
 use sheet::bytes::byte;
 
@@ -45,6 +46,31 @@ pub fn first_cell(sorts: &[u8], relations: &[u8], r: usize) -> usize
         i += 1;
     }
     n
+}
+
+// How many cells there are, and the first cell of each relation.
+pub struct Cells {
+    pub count: usize,
+    pub starts: [usize; 16],
+}
+
+// All of these, in one pass.
+pub fn first_cells(sorts: &[u8], relations: &[u8]) -> Cells
+    requires { ⌜ length (now relations) / 4 ≤ 16 ⌝ }
+    requires { ⌜ Scopes (now sorts) ⌝ }
+    ensures { λ c. ⌜ ((sheet : Sheet) → sheet .sorts ≡ now (sorts .entry) → sheet .relations ≡ now (relations .entry)
+        → ((c .count ≡ cellCount sheet) × Starts sheet (c .starts))) ⌝ }
+{
+    let n = relations.len() / 4;
+    let mut starts = [0; 16];
+    let mut count: usize = 0;
+    let mut r: usize = 0;
+    while r < n {
+        starts[r] = count;
+        count += row_count(sorts, relations, r) * row_length(sorts, relations, r);
+        r += 1;
+    }
+    Cells { count, starts }
 }
 
 // All cells of an accepted sheet.

@@ -15,8 +15,7 @@ use Rattle.sheet.proofs.Acceptance.{accepted-facts}
 use Rattle.cells.proofs.Blocks.{placed, part-is}
 use Rattle.relational.specs.Cells.{cellCount}
 use Rattle.relational.specs.Matrices.{upto}
-use Rattle.relational.proofs.Satisfaction.{root-is}
-use Rattle.relational.proofs.Accepted.{isAccepted, accepted-sound}
+use Rattle.nodes.proofs.Roots.{root-formula}
 use Rattle.encoding.proofs.Accepted.{accepted-rows}
 use Rattle.clauses.specs.Translating.{CellWords, Translatable}
 
@@ -39,10 +38,10 @@ module _ (s : List ℕ) (l : Layout) (accepted : reading s ≡ Accepted l) where
   pub translatable : {n : ℕ} {ws : List ℤ} → n ≡ cellCount (sheetOf s) → n ≤ 1024 → CellWords n ws
       → Translatable (sheetOf s) (take n ws)
   translatable {n} {ws} e h w =
-      let r = root-is (sheetOf s) (accepted-sound s (ap isAccepted accepted)) in
+      let f = accepted-facts s l accepted in
       record {
-        facts = accepted-facts s l accepted;
-        formula = record { it = r .0; is = r .1 };
+        facts = f;
+        formula = root-formula (sheetOf s) f;
         rows = accepted-rows s l accepted;
         few = rw (← e) h;
         size = length-take-le n ws (omega (arith, w .room)) ∙ e;

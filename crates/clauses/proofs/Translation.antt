@@ -1,11 +1,11 @@
 -- The steps of a whole translation give the definition's clauses.
-use mathlib.Core.Path.{_≡_, refl, ap, _∙_, fun-ext}
+use mathlib.Core.Path.{_≡_, refl, ap, _∙_}
 use mathlib.Core.List.{List, [], _∷_}
 use Prim.Native.Nat.{ℕ, zero, suc, pred, _+_, _≤_, _<_}
 use native.Mathlib.Nat.{zero-add}
 use native.Mathlib.Omega.{arith}
 use lib.IntN.{ℤ}
-use lib.ListN.{length, getD}
+use lib.ListN.{length, replicate}
 use Rattle.literal.specs.Literals.{positive, literalOf}
 use Rattle.clause_list.specs.ClauseList.{wordsOf}
 use Rattle.sheet.specs.Blocks.{Sheet, root}
@@ -16,26 +16,14 @@ use Rattle.emission.specs.declared.Tape.{Tape}
 use Rattle.emission.specs.Emission.{Inside, AllInside, literalsOf, Writes, Appends, Room, Bounded, Within, Emits}
 use Rattle.emission.proofs.Writes.{writes-then, writes-as, writes-length}
 use Rattle.emission.proofs.Steps.{emits-as}
-use Rattle.terms.specs.Terms.{environment}
+use Rattle.cells.proofs.Layouts.{scopes-of}
+use Rattle.nodes.specs.Environments.{environment}
+use Rattle.nodes.proofs.Binding.{zero-atoms}
 use Rattle.marks.specs.Marking.{Small, Adds, Declared, blocks}
 use Rattle.marks.proofs.Sheets.{same-marks}
 use Rattle.translation.specs.Walks.{Ready, WalksFormula}
 use Rattle.clauses.specs.Translating.{Translatable, Translates}
 use Rattle.clauses.proofs.CellWords.{cells-inside}
-
--- ---- the root's walk starts with atom 0 for each variable
-abbrev zeros : List ℕ
-zeros = 0 ∷ 0 ∷ 0 ∷ 0 ∷ []
-
-zero-at : (x : ℕ) → getD zeros x 0 ≡ 0
-zero-at zero = refl
-zero-at (suc zero) = refl
-zero-at (suc (suc zero)) = refl
-zero-at (suc (suc (suc zero))) = refl
-zero-at (suc (suc (suc (suc x)))) = refl
-
-zero-atoms : environment zeros ≡ λ x. 0
-zero-atoms = fun-ext zero-at
 
 module _ (sheet : Sheet) (given : List ℤ) (t : Translatable sheet given) where
   -- ---- what the steps ask for
@@ -43,7 +31,7 @@ module _ (sheet : Sheet) (given : List ℤ) (t : Translatable sheet given) where
   given-inside {m} h = rw (t .cells) (cells-inside (cellCount sheet) m (rw (← t .size) h))
 
   pub marks-declared : Declared (blocks (sheet .sorts) (sheet .relations))
-  marks-declared = record { few = t .facts .counts .few-relations; scopes = record { most = t .facts .scope-few }; some = t .rows }
+  marks-declared = record { few = t .facts .counts .few-relations; scopes = scopes-of (t .facts); some = t .rows }
 
   module _ {start first : Tape} {old l₁ : List ℤ} (en : start .next ≡ 2 + length given) (ec : start .clauses ≡ 0)
       (ew : start .words ≡ 0) (p : Appends ((positive 1 ∷ []) ∷ []) old start l₁ first) where
@@ -73,20 +61,19 @@ module _ (sheet : Sheet) (given : List ℤ) (t : Translatable sheet given) where
         words = omega (arith, marked-next, first-words, q .few-words);
       }
 
-      pub root-ready : Ready sheet given marked (root sheet)
+      pub root-ready : Ready sheet given marked
       root-ready = record {
         facts = t .facts;
-        there = omega (arith, t .facts .counts .some-nodes);
         bounded = bounded;
         inside = given-inside (omega (arith, marked-next));
       }
 
       -- ---- the root's walk
-      root-built : translateFormula sheet (literalsOf given) (t .formula .it) (environment zeros) (marked .next) ≡ rootWalk sheet
+      root-built : translateFormula sheet (literalsOf given) (t .formula .it) (environment (replicate 4 0)) (marked .next) ≡ rootWalk sheet
       unfolding rootWalk
       root-built = rw (t .formula .is, zero-atoms, t .cells, marked-next, t .size)
 
-      module _ {l₃ : List ℤ} {walked : Tape} {w : ℤ} (r : WalksFormula sheet given zeros (root sheet) l₂ marked w l₃ walked) where
+      module _ {l₃ : List ℤ} {walked : Tape} {w : ℤ} (r : WalksFormula sheet given (replicate 4 0) (root sheet) l₂ marked w l₃ walked) where
         walk : Emits (rootWalk sheet) l₂ marked (literalOf w) l₃ walked (λ n. Inside n (literalOf w))
         walk = emits-as root-built refl (r .walks (t .formula .it) (t .formula .is))
 

@@ -16,7 +16,7 @@ use Rattle.relational.specs.Matrices.{upto}
 use Rattle.encoding.specs.Whole.{cellLiterals, words, variableTotal, clauseTotal, wordTotal}
 use Rattle.emission.specs.declared.Tape.{Tape}
 use Rattle.emission.specs.Emission.{literalsOf, Within, Over}
-use Rattle.translation.specs.Walks.{IsFormula}
+use Rattle.nodes.specs.Nodes.{IsFormula}
 use Rattle.clauses.specs.Answers.{Answer, fits, refused}
 
 -- the first n words are the literals of n cells

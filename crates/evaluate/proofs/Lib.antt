@@ -1,5 +1,3 @@
-mod Symbols
 mod Steps
 mod Layouts
 mod Loops
-mod Roots

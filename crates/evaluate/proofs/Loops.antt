@@ -6,8 +6,6 @@ use Prim.Native.Nat.{ℕ, _+_}
 use native.Mathlib.Numerals.{add-one}
 use lib.Dec.{eqb}
 use Rattle.prelude.specs.Tests.{each, all, any}
-use Rattle.sheet.specs.Blocks.{Sheet}
-use Rattle.relational.specs.Cells.{firstCell}
 use Rattle.relational.specs.Matrices.{upto}
 use Rattle.relational.specs.Evaluation.{both, either}
 use Rattle.matrix.proofs.Counting.{any-none, any-more, all-none, all-more}
@@ -40,7 +38,3 @@ quantifier-more kind f k truth next = go (eqb kind 40)
         → next ≡ cond b (all (λ (t : Bool). t) (map f (upto (k + 1)))) (any (λ (t : Bool). t) (map f (upto (k + 1))))
     go true e h = all-more (λ (t : Bool). t) f k truth next e h
     go false e h = any-more (λ (t : Bool). t) f k truth next e h
-
-pub first-none : (sheet : Sheet) → 0 ≡ firstCell sheet 0
-unfolding firstCell
-first-none sheet = refl

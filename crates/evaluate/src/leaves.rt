@@ -3,15 +3,15 @@ ghost use mathlib.Core.Path.{_≡_};
 ghost use mathlib.Core.Bool.{cond};
 ghost use lib.Dec.{eqb};
 ghost use Prim.Native.Nat.{_<_};
-ghost use lib.ListN.{length};
 ghost use Rattle.sheet.specs.Blocks as blocks;
 ghost use Rattle.relational.specs.Trees as trees;
 ghost use Rattle.relational.specs.Meaning as meaning;
 ghost use Rattle.relational.specs.Evaluation as spec;
 ghost use Rattle.matrix.specs.Values.{Gives};
+ghost use Rattle.nodes.specs.Environments.{environment};
 ghost use Rattle.evaluate.specs.Walking as walking;
-use super::cells::row_count;
-use super::cells::row_length;
+use cells::row_count;
+use cells::row_length;
 use matrix::Value;
 use matrix::flags::both;
 use matrix::flags::either;
@@ -19,18 +19,10 @@ use matrix::leaves::full;
 use matrix::leaves::given;
 use matrix::leaves::identity;
 use matrix::leaves::single;
+use nodes::environments::atom_at;
 use sheet::bytes::byte;
 
-// "the innermost binder of a variable counts": variable x has the atom, the others are as before.
-pub(crate) fn bind(env: [usize; 4], x: usize, atom: usize) -> [usize; 4]
-    requires { ⌜ (x < 4) × (length env ≡ 4) ⌝ }
-    ensures { λ r. ⌜ (length r ≡ 4) × (walking.environmentOf r ≡ meaning.bind (walking.environmentOf env) x atom) ⌝ }
-{
-    let mut inner = env;
-    inner[x] = atom;
-    inner
-}
-
+// The flags of a relation.
 fn relation(
     sorts: &[u8],
     variables: &[u8],
@@ -76,15 +68,14 @@ pub(crate) fn leaf(
     a: usize,
 ) -> Value
     requires { ⌜ walking.Ready (blocks.fourBlocks (now sorts) (now variables) (now relations) (now nodes)) (now starts) ⌝ }
-    requires { ⌜ walking.Present (blocks.fourBlocks (now sorts) (now variables) (now relations) (now nodes)) kind a ⌝ }
-    requires { ⌜ length env ≡ 4 ⌝ }
+    requires { ⌜ (kind ≡ 1 → a < blocks.relationCount (blocks.fourBlocks (now sorts) (now variables) (now relations) (now nodes))) ⌝ }
     ensures { λ v. ⌜ Gives v (walking.leafBy
         (blocks.fourBlocks (now (sorts .entry)) (now (variables .entry)) (now (relations .entry)) (now (nodes .entry)))
-        (now (instance .entry)) (walking.environmentOf env) kind a) ⌝ }
+        (now (instance .entry)) (environment env) kind a) ⌝ }
 {
     match kind {
         1 => relation(sorts, variables, relations, nodes, instance, starts, a),
-        2 => single(byte(sorts, byte(variables, a)), env[a]),
+        2 => single(byte(sorts, byte(variables, a)), atom_at(env, a)),
         3 => full(byte(sorts, a)),
         _ => identity(byte(sorts, a)),
     }

@@ -7,10 +7,8 @@ use marks::marks_hold;
 use matrix::flags::both;
 use walk::formula;
 
-pub mod cells; // cells.rt: where the cells of each relation stand
 mod leaves; // leaves.rt: the leaves of an expression
 mod marks; // marks.rt: multiplicities
-mod nodes; // nodes.rt: a node's kind and fields, and how it is evaluated
 mod walk; // walk.rt: expressions and formulas
 
 // Whether the marks hold and the root is true.

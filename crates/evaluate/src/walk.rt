@@ -1,25 +1,22 @@
 // The walk: expressions contain formulas and formulas expressions, and the node number falls.
 ghost use mathlib.Core.Path.{_≡_};
 ghost use Prim.Native.Nat.{_<_};
-ghost use lib.ListN.{length};
 ghost use Rattle.sheet.specs.Blocks as blocks;
 ghost use Rattle.matrix.specs.Values.{Gives};
+ghost use Rattle.nodes.specs.Nodes.{IsExpression, IsFormula};
 ghost use Rattle.evaluate.specs.Walking as walking;
-use super::leaves::bind;
 use super::leaves::leaf;
 use super::leaves::quantify;
-use super::nodes::ExpressionForm;
-use super::nodes::FormulaForm;
-use super::nodes::expression_form;
-use super::nodes::formula_form;
-use super::nodes::node_at;
 use matrix::Value;
 use matrix::flags::connect;
-use matrix::leaves::full;
 use matrix::operators::binary;
 use matrix::operators::unary;
 use matrix::truths::compare;
 use matrix::truths::test;
+use nodes::environments::bind;
+use nodes::forms::ExpressionForm;
+use nodes::forms::FormulaForm;
+use nodes::forms::read_node;
 use sheet::bytes::byte;
 
 // The value of the expression at a node.
@@ -34,17 +31,16 @@ fn expression(
     at: usize,
 ) -> Value
     requires { ⌜ walking.Ready (blocks.fourBlocks (now sorts) (now variables) (now relations) (now nodes)) (now starts) ⌝ }
-    requires { ⌜ length env ≡ 4 ⌝ }
-    requires { ⌜ walking.IsExpression (blocks.fourBlocks (now sorts) (now variables) (now relations) (now nodes)) at ⌝ }
+    requires { ⌜ IsExpression (blocks.fourBlocks (now sorts) (now variables) (now relations) (now nodes)) at ⌝ }
     ensures { λ v. ⌜ Gives v (walking.valueAt
         (blocks.fourBlocks (now (sorts .entry)) (now (variables .entry)) (now (relations .entry)) (now (nodes .entry)))
         (now (instance .entry)) env at) ⌝ }
 {
-    let node = node_at(nodes, at);
+    let node = read_node(nodes, at);
+    let form = node.expression;
     let kind = node.kind;
     let a = node.a;
     let b = node.b;
-    let form = expression_form(kind);
     match form {
         ExpressionForm::Leaf => leaf(
             sorts,
@@ -77,7 +73,6 @@ fn expression(
             b,
             a,
         ),
-        ExpressionForm::Other => full(0),
     }
 }
 
@@ -94,8 +89,7 @@ fn comprehension(
     x: usize,
 ) -> Value
     requires { ⌜ walking.Ready (blocks.fourBlocks (now sorts) (now variables) (now relations) (now nodes)) (now starts) ⌝ }
-    requires { ⌜ length env ≡ 4 ⌝ }
-    requires { ⌜ walking.IsFormula (blocks.fourBlocks (now sorts) (now variables) (now relations) (now nodes)) body ⌝ }
+    requires { ⌜ IsFormula (blocks.fourBlocks (now sorts) (now variables) (now relations) (now nodes)) body ⌝ }
     requires { ⌜ x < 4 ⌝ }
     ensures { λ v. ⌜ Gives v (walking.chosenAt
         (blocks.fourBlocks (now (sorts .entry)) (now (variables .entry)) (now (relations .entry)) (now (nodes .entry)))
@@ -140,8 +134,7 @@ fn quantified(
     kind: usize,
 ) -> bool
     requires { ⌜ walking.Ready (blocks.fourBlocks (now sorts) (now variables) (now relations) (now nodes)) (now starts) ⌝ }
-    requires { ⌜ length env ≡ 4 ⌝ }
-    requires { ⌜ walking.IsFormula (blocks.fourBlocks (now sorts) (now variables) (now relations) (now nodes)) body ⌝ }
+    requires { ⌜ IsFormula (blocks.fourBlocks (now sorts) (now variables) (now relations) (now nodes)) body ⌝ }
     requires { ⌜ x < 4 ⌝ }
     ensures { λ r. ⌜ r ≡ walking.quantifierBy kind (walking.truthsAt
         (blocks.fourBlocks (now (sorts .entry)) (now (variables .entry)) (now (relations .entry)) (now (nodes .entry)))
@@ -183,17 +176,16 @@ pub(crate) fn formula(
     at: usize,
 ) -> bool
     requires { ⌜ walking.Ready (blocks.fourBlocks (now sorts) (now variables) (now relations) (now nodes)) (now starts) ⌝ }
-    requires { ⌜ length env ≡ 4 ⌝ }
-    requires { ⌜ walking.IsFormula (blocks.fourBlocks (now sorts) (now variables) (now relations) (now nodes)) at ⌝ }
+    requires { ⌜ IsFormula (blocks.fourBlocks (now sorts) (now variables) (now relations) (now nodes)) at ⌝ }
     ensures { λ r. ⌜ r ≡ walking.truthAt
         (blocks.fourBlocks (now (sorts .entry)) (now (variables .entry)) (now (relations .entry)) (now (nodes .entry)))
         (now (instance .entry)) env at ⌝ }
 {
-    let node = node_at(nodes, at);
+    let node = read_node(nodes, at);
+    let form = node.formula;
     let kind = node.kind;
     let a = node.a;
     let b = node.b;
-    let form = formula_form(kind);
     match form {
         FormulaForm::Comparison => {
             let p = expression(sorts, variables, relations, nodes, instance, starts, env, a);
@@ -231,6 +223,5 @@ pub(crate) fn formula(
             a,
             kind,
         ),
-        FormulaForm::Other => false,
     }
 }

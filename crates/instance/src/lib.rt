@@ -10,7 +10,7 @@ ghost use Rattle.sheet.specs.Reading.{reading};
 ghost use Rattle.instance.specs.Answers.{CheckAnswers, answerOf};
 ghost use Rattle.instance.specs.Held.{heldAnswer};
 use answer::Check;
-use evaluate::cells::first_cells;
+use cells::first_cells;
 use evaluate::holds;
 use matrix::flags::both;
 use refusal::Refusal;

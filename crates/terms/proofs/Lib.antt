@@ -1,7 +1,3 @@
 pub mod Lists
-pub mod Rows
-mod Views
-pub mod ExpressionViews
-pub mod FormulaViews
-pub mod Numbers
+mod Numbers
 pub mod LeafMatrices

@@ -1,4 +1,4 @@
--- Environments by their atoms, and the matrices of leaves.
+-- The matrices of leaves.
 -- Cited by contracts of functions that only this project's crates call: nothing here needs belief.
 use mathlib.Core.Path.{_≡_}
 use mathlib.Core.Bool.{Bool}
@@ -15,10 +15,6 @@ use Rattle.relational.specs.Matrices.{upto, Place, places, setOf, relationOf, l
 use Rattle.encoding.specs.Translation.{constant, absent, literalAt}
 use Rattle.emission.specs.declared.Literals.{Literals}
 use Rattle.emission.specs.Emission.{AllInside, literalsOf, matrixOf, Operand}
-
--- an atom for each variable
-abbrev pub environment : List ℕ → Environment
-environment env x = getD env x 0
 
 -- a matrix is that of a leaf
 pub record LeafIs (sheet : Sheet) (given : List ℤ) (l : Leaf) (a : ℕ) (env : Environment) (m : Literals) : Type 0 where

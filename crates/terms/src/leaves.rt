@@ -14,11 +14,13 @@ ghost use Rattle.cells.specs.Private.{Scopes};
 ghost use Rattle.relational.specs.Meaning.{Environment};
 ghost use Rattle.encoding.specs.Translation.{constant};
 ghost use Rattle.emission.specs.Emission.{Operand};
-ghost use Rattle.terms.specs.Terms.{environment, Filled, cellFrom, LeafIs, SetIs, IdentityIs};
+ghost use Rattle.nodes.specs.Environments.{environment};
+ghost use Rattle.terms.specs.Terms.{Filled, cellFrom, LeafIs, SetIs, IdentityIs};
 use cells::first_cell;
 use cells::row_count;
 use cells::row_length;
 use emission::Literals;
+use nodes::environments::atom_at;
 use sheet::bytes::byte;
 
 // The literal of true or of false.
@@ -33,13 +35,6 @@ pub fn word_at(given: &[i32], i: usize) -> i32
     ensures { λ r. ⌜ r ≡ getD (now (given .entry)) i (negsuc 0) ⌝ }
 {
     if i < given.len() { given[i] } else { -1 }
-}
-
-// The atom that variable x stands for.
-fn atom_at(env: [usize; 4], x: usize) -> usize
-    ensures { λ r. ⌜ r ≡ getD env x 0 ⌝ }
-{
-    if x < 4 { env[x] } else { 0 }
 }
 
 // The words of size cells, from the first on.

@@ -1,17 +1,14 @@
 -- The walks of a binder's body, atom by atom.
-use mathlib.Core.Path.{_≡_, refl, sym, ap, _∙_, fun-ext}
-use mathlib.Core.Bool.{cond}
+use mathlib.Core.Path.{_≡_, refl, sym, ap, _∙_}
 use mathlib.Core.List.{List, [], _∷_, _++_, map, map-id}
 use Prim.Native.Nat.{ℕ, suc, _+_, _≤_, _<_}
 use native.Mathlib.Nat.{one-mul}
 use native.Mathlib.Numerals.{add-one}
 use native.Mathlib.Omega.{arith}
 use native.Mathlib.Decide.{ℕ-discrete}
-use lib.Dec.{eqb}
 use lib.IntN.{ℤ, pos, negsuc}
 use lib.ListN.{length, getD, set, take, replicate, length-set}
 use lib.Seq.{getD-set-same, getD-set-other, take-suc-set}
-use borrow.Author.Tests.{eq-eqb, ne-eqb}
 use Rattle.literal.specs.Literals.{Literal, literalOf}
 use Rattle.sheet.specs.Blocks.{Sheet, scope, sortOf}
 use Rattle.relational.specs.Trees.{Formula, formula}
@@ -25,19 +22,11 @@ use Rattle.emission.specs.declared.Tape.{Tape}
 use Rattle.emission.specs.Emission.{Inside, literalsOf, Cells, cellsOf, Emits, EmitsMatrix}
 use Rattle.emission.proofs.Steps.{emits-return, emits-map, emits-as, emits-more}
 use Rattle.emission.proofs.Ranges.{inside-grows, literal-at}
-use Rattle.terms.specs.Nodes.{treeAt}
-use Rattle.terms.specs.Terms.{environment}
+use Rattle.nodes.specs.Nodes.{treeAt, IsFormula}
+use Rattle.nodes.specs.Environments.{environment}
 use Rattle.terms.proofs.Lists.{filled-none, filled-fine}
-use Rattle.translation.specs.Walks.{Ready, IsFormula, bodyWalks, WalksFormula, WalksBodies}
+use Rattle.translation.specs.Walks.{Ready, bodyWalks, WalksFormula, WalksBodies}
 use Rattle.translation.proofs.Regulars.{regular-formula}
-
--- a store in the array of atoms binds a variable
-pub env-bind : (env : List ℕ) (x i : ℕ) → x < length env → environment (set env x i) ≡ bind (environment env) x i
-env-bind env x i h = fun-ext λ y. at y (ℕ-discrete y x)
-  where
-    at : (y : ℕ) → Dec (y ≡ x) → getD (set env x i) y 0 ≡ cond (eqb y x) i (getD env y 0)
-    at y (yes e) = rw (eq-eqb y x e, e) (getD-set-same env x i 0 h)
-    at y (no n) = rw (ne-eqb y x n) (getD-set-other env x y i 0 n)
 
 -- ---- one more cell
 pub cells-next : (words : List ℤ) (k : ℕ) (w : ℤ) → k < length words
@@ -69,7 +58,7 @@ module _ (sheet : Sheet) (given : List ℤ) (env : List ℕ) (v : ℕ) (old : Li
     pub walks : (f : Formula) → treeAt sheet v ≡ formula f
         → Emits (builder.each (bodyAt f) (map (λ i. i) (upto k)) (before .next)) old before (cellsOf k words) new after (λ n. Cells k n words)
 
-  pub done-none : Ready sheet given before v → Done 0 (replicate 64 (negsuc 0)) old before
+  pub done-none : Ready sheet given before → Done 0 (replicate 64 (negsuc 0)) old before
   unfolding builder.each
   done-none r =
       record {
@@ -79,17 +68,17 @@ module _ (sheet : Sheet) (given : List ℤ) (env : List ℕ) (v : ℕ) (old : Li
       }
 
   module _ {k : ℕ} {words mid : List ℤ} {middle : Tape} (d : Done k words mid middle) where
-    pub done-ready : Ready sheet given before v → IsFormula sheet v → Ready sheet given middle v
+    pub done-ready : Ready sheet given before → IsFormula sheet v → Ready sheet given middle
     done-ready r i =
         let e = d .walks (i .it) (i .is) in
-        record { facts = r .facts; there = r .there; bounded = e .bounded; inside = λ j. inside-grows (e .grows) (r .inside j) }
+        record { facts = r .facts; bounded = e .bounded; inside = λ j. inside-grows (e .grows) (r .inside j) }
 
     pub done-kept : IsFormula sheet v → length mid ≡ length old
     done-kept i = d .walks (i .it) (i .is) .kept
 
     pub done-more : {inner : List ℕ} {l w : ℤ} {new : List ℤ} {after : Tape} → WalksFormula sheet given inner v mid middle l new after
-        → inner ≡ set env x k → x < length env → k < 64 → w ≡ l → Done (k + 1) (set words k w) new after
-    done-more {inner} {l} {w} {new} {after} u e h small q =
+        → environment inner ≡ bind (environment env) x k → k < 64 → w ≡ l → Done (k + 1) (set words k w) new after
+    done-more {inner} {l} {w} {new} {after} u b small q =
         record { walks = λ f t. rw (add-one k) (go f t) }
       where
         go : (f : Formula) → treeAt sheet v ≡ formula f
@@ -98,7 +87,6 @@ module _ (sheet : Sheet) (given : List ℤ) (env : List ℕ) (v : ℕ) (old : Li
         go f t =
             let p = d .walks f t in
             let s = u .walks f t in
-            let b : environment inner ≡ bind (environment env) x k = ap environment e ∙ env-bind env x k h in
             let r : Emits (bodyAt f k (middle .next)) mid middle (literalOf w) new after (λ n. Inside n (literalOf l)) =
             emits-as (ap (λ (z : Environment). translateFormula sheet (literalsOf given) f z (middle .next)) b) (ap literalOf (sym q)) s in
             let c : Cells (suc k) (after .next) (set words k w) =

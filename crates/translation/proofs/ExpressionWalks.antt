@@ -12,57 +12,50 @@ use Rattle.emission.specs.declared.Tape.{Tape}
 use Rattle.emission.specs.declared.Literals.{Literals}
 use Rattle.emission.specs.Emission.{literalsOf, Operand, Bounded, EmitsMatrix, EmitsBinary, EmitsUnary}
 use Rattle.emission.proofs.Steps.{emits-return, emits-bind, emits-as}
-use Rattle.terms.specs.declared.nodes.Node.{Node}
-use Rattle.terms.specs.declared.nodes.ExpressionForm.the-variants as form
-use Rattle.terms.specs.Nodes.{treeAt}
-use Rattle.terms.specs.Terms.{environment, LeafIs}
-use Rattle.terms.proofs.ExpressionViews.{LeafAt, BinaryAt, UnaryAt, ComprehensionAt, at-leaf, at-binary, at-unary, at-comprehension}
-use Rattle.terms.proofs.Numbers as numbers
-use Rattle.translation.specs.Walks.{IsExpression, IsFormula, WalksExpression, WalksBodies}
+use Rattle.nodes.specs.declared.forms.Node.{Node}
+use Rattle.nodes.specs.declared.forms.ExpressionForm.the-variants as form
+use Rattle.nodes.specs.Nodes.{treeAt, IsExpression, IsFormula}
+use Rattle.nodes.specs.Environments.{environment}
+use Rattle.terms.specs.Terms.{LeafIs}
+use Rattle.nodes.proofs.Views as views
+use Rattle.nodes.proofs.ExpressionViews.{LeafAt, BinaryAt, UnaryAt, ComprehensionAt, at-leaf, at-binary, at-unary, at-comprehension}
+use Rattle.translation.specs.Walks.{WalksExpression, WalksBodies}
 use Rattle.translation.proofs.Regulars.{regular-binary, regular-unary, regular-expression}
-use Rattle.translation.proofs.Walking.{Reached, Below, operand-grows, ready-at, ready-after, emits-two}
+use Rattle.translation.proofs.Walking.{Reached, Below, operand-grows, ready-after, emits-two}
 
 two-columns : (k : ℕ) → (k ≡ 1) ⊎ (k ≡ 2) → (1 ≤ k) × (k ≤ 2)
 two-columns k (inl e) = (omega (arith, e), omega (arith, e))
 two-columns k (inr e) = (omega (arith, e), omega (arith, e))
 
 module _ {sheet : Sheet} {given : List ℤ} {before : Tape} {v : ℕ} {node : Node} (h : Reached sheet given before v node IsExpression) where
-  -- ---- the node by its form
-  leaf-at : (e : Expression) → treeAt sheet v ≡ expression e → node .expression ≡ form.Leaf → LeafAt sheet v node e
-  leaf-at e t p = at-leaf sheet (h .ready .facts) v (h .ready .there) e t (h .read) p
+  -- the node, whatever its tree is called
+  abbrev with-tree : (e : Expression) → treeAt sheet v ≡ expression e → views.Reached sheet v node IsExpression
+  with-tree e t = record { facts = h .ready .facts; read = h .read; tree = record { it = e; is = t } }
 
-  binary-at : (e : Expression) → treeAt sheet v ≡ expression e → node .expression ≡ form.Binary → BinaryAt sheet v node e
-  binary-at e t p = at-binary sheet (h .ready .facts) v (h .ready .there) e t (h .read) p
-
-  unary-at : (e : Expression) → treeAt sheet v ≡ expression e → node .expression ≡ form.Unary → UnaryAt sheet v node e
-  unary-at e t p = at-unary sheet (h .ready .facts) v (h .ready .there) e t (h .read) p
-
-  comprehension-at : (e : Expression) → treeAt sheet v ≡ expression e → node .expression ≡ form.Comprehension
-      → ComprehensionAt sheet v node e
-  comprehension-at e t p = at-comprehension sheet (h .ready .facts) v (h .ready .there) e t (h .read) p
+  here : views.Reached sheet v node IsExpression
+  here = with-tree (h .tree .it) (h .tree .is)
 
   -- ---- the first operand
   pub leaf-arity : node .expression ≡ form.Leaf → node .kind ≡ 1 → (1 ≤ columns sheet (node .a)) × (columns sheet (node .a) ≤ 2)
   leaf-arity p k =
-      let l = leaf-at (h .tree .it) (h .tree .is) p in
-      let there = l .relation (numbers.at-relation (node .kind) k (l .it) (l .symbol)) in
-      two-columns (columns sheet (node .a)) (h .ready .facts .columns-two (node .a) there)
+      let l = at-leaf here p in
+      two-columns (columns sheet (node .a)) (h .ready .facts .columns-two (node .a) (l .names k))
 
   pub binary-left : node .expression ≡ form.Binary → Below sheet given before v (node .a) IsExpression
   binary-left p =
-      let b = binary-at (h .tree .it) (h .tree .is) p in
-      record { lower = b .lower-a; ready = ready-at (h .ready) (b .lower-a); tree = record { it = b .p; is = b .left } }
+      let b = at-binary here p in
+      record { lower = b .lower-a; ready = h .ready; tree = b .left }
 
   pub unary-left : node .expression ≡ form.Unary → Below sheet given before v (node .a) IsExpression
   unary-left p =
-      let b = unary-at (h .tree .it) (h .tree .is) p in
-      record { lower = b .lower-a; ready = ready-at (h .ready) (b .lower-a); tree = record { it = b .p; is = b .left } }
+      let b = at-unary here p in
+      record { lower = b .lower-a; ready = h .ready; tree = b .left }
 
   pub comprehension-body : node .expression ≡ form.Comprehension → Below sheet given before v (node .b) IsFormula × (node .a < 4)
   comprehension-body p =
-      let b = comprehension-at (h .tree .it) (h .tree .is) p in (
-        record { lower = b .lower-b; ready = ready-at (h .ready) (b .lower-b); tree = record { it = b .f; is = b .body } },
-        omega (arith, b .names, h .ready .facts .counts .few-variables),
+      let b = at-comprehension here p in (
+        record { lower = b .lower-b; ready = h .ready; tree = b .body },
+        b .names,
       )
 
   module _ {env : List ℕ} {old : List ℤ} where
@@ -71,7 +64,7 @@ module _ {sheet : Sheet} {given : List ℤ} {before : Tape} {v : ℕ} {node : No
         → ((l : Leaf) → symbolOf (node .kind) ≡ leaf-symbol l → LeafIs sheet given l (node .a) (environment env) m)
         → WalksExpression sheet given env v old before m old before
     unfolding translate
-    leaf-walks {m} p w = record { walks = λ e t. go e (leaf-at e t p) }
+    leaf-walks {m} p w = record { walks = λ e t. go e (at-leaf (with-tree e t) p) }
       where
         go : (e : Expression) → LeafAt sheet v node e
             → EmitsMatrix (translate sheet (literalsOf given) e (environment env) (before .next)) old before m old before
@@ -84,64 +77,64 @@ module _ {sheet : Sheet} {given : List ℤ} {before : Tape} {v : ℕ} {node : No
     module _ {mid : List ℤ} {middle : Tape} {m : Literals} (w : WalksExpression sheet given env (node .a) old before m mid middle) where
       pub binary-right : node .expression ≡ form.Binary → Below sheet given middle v (node .b) IsExpression
       binary-right p =
-          let b = binary-at (h .tree .it) (h .tree .is) p in
-          let i = w .walks (b .p) (b .left) in
-          let ready = ready-after (h .ready) (b .lower-b) (i .bounded) (i .grows) in
-          record { lower = b .lower-b; ready = ready; tree = record { it = b .q; is = b .right } }
+          let b = at-binary here p in
+          let i = w .walks (b .left .it) (b .left .is) in
+          let ready = ready-after (h .ready) (i .bounded) (i .grows) in
+          record { lower = b .lower-b; ready = ready; tree = b .right }
 
       module _ {new : List ℤ} {after : Tape} {q : Literals} (u : WalksExpression sheet given env (node .b) mid middle q new after) where
         pub binary-operands : node .expression ≡ form.Binary → Bounded after × (Operand (after .next) m × Operand (after .next) q)
         binary-operands p =
-            let b = binary-at (h .tree .it) (h .tree .is) p in
-            let i = w .walks (b .p) (b .left) in
-            let j = u .walks (b .q) (b .right) in
+            let b = at-binary here p in
+            let i = w .walks (b .left .it) (b .left .is) in
+            let j = u .walks (b .right .it) (b .right .is) in
             (j .bounded, (operand-grows (j .grows) (i .fine), j .fine))
 
         pub binary-walks : {out : List ℤ} {end : Tape} {z : Literals} → node .expression ≡ form.Binary
             → ((o : Binary) → symbolOf (node .kind) ≡ binary-symbol o → EmitsBinary (translateBinary o) m q new after z out end)
             → WalksExpression sheet given env v old before z out end
         unfolding translate
-        binary-walks {out} {end} {z} p c = record { walks = λ e t. go e (binary-at e t p) }
+        binary-walks {out} {end} {z} p c = record { walks = λ e t. go e (at-binary (with-tree e t) p) }
           where
             go : (e : Expression) → BinaryAt sheet v node e
                 → EmitsMatrix (translate sheet (literalsOf given) e (environment env) (before .next)) old before z out end
             go e b =
-                let s = translate sheet (literalsOf given) (b .p) (environment env) in
-                let t = translate sheet (literalsOf given) (b .q) (environment env) in
-                let rs = regular-expression sheet (literalsOf given) (b .p) (environment env) in
-                let rt = regular-expression sheet (literalsOf given) (b .q) (environment env) in
+                let s = translate sheet (literalsOf given) (b .left .it) (environment env) in
+                let t = translate sheet (literalsOf given) (b .right .it) (environment env) in
+                let rs = regular-expression sheet (literalsOf given) (b .left .it) (environment env) in
+                let rt = regular-expression sheet (literalsOf given) (b .right .it) (environment env) in
                 rw (b .is)
-                (emits-two s t (translateBinary (b .it)) rs rt (regular-binary (b .it)) (w .walks (b .p) (b .left))
-                (u .walks (b .q) (b .right)) (c (b .it) (b .symbol)))
+                (emits-two s t (translateBinary (b .it)) rs rt (regular-binary (b .it)) (w .walks (b .left .it) (b .left .is))
+                (u .walks (b .right .it) (b .right .is)) (c (b .it) (b .symbol)))
 
     -- ---- one operand
     module _ {new : List ℤ} {after : Tape} {m : Literals} (w : WalksExpression sheet given env (node .a) old before m new after) where
       pub unary-operand : node .expression ≡ form.Unary → Bounded after × Operand (after .next) m
       unary-operand p =
-          let b = unary-at (h .tree .it) (h .tree .is) p in
-          let i = w .walks (b .p) (b .left) in
+          let b = at-unary here p in
+          let i = w .walks (b .left .it) (b .left .is) in
           (i .bounded, i .fine)
 
       pub unary-walks : {out : List ℤ} {end : Tape} {z : Literals} → node .expression ≡ form.Unary
           → ((o : Unary) → symbolOf (node .kind) ≡ unary-symbol o → EmitsUnary (translateUnary o) m new after z out end)
           → WalksExpression sheet given env v old before z out end
       unfolding translate
-      unary-walks {out} {end} {z} p c = record { walks = λ e t. go e (unary-at e t p) }
+      unary-walks {out} {end} {z} p c = record { walks = λ e t. go e (at-unary (with-tree e t) p) }
         where
           go : (e : Expression) → UnaryAt sheet v node e
               → EmitsMatrix (translate sheet (literalsOf given) e (environment env) (before .next)) old before z out end
           go e b =
-              let s = translate sheet (literalsOf given) (b .p) (environment env) in
-              let rs = regular-expression sheet (literalsOf given) (b .p) (environment env) in
+              let s = translate sheet (literalsOf given) (b .left .it) (environment env) in
+              let rs = regular-expression sheet (literalsOf given) (b .left .it) (environment env) in
               rw (b .is)
-              (emits-bind s (translateUnary (b .it)) rs (regular-unary (b .it)) (w .walks (b .p) (b .left)) (c (b .it) (b .symbol)))
+              (emits-bind s (translateUnary (b .it)) rs (regular-unary (b .it)) (w .walks (b .left .it) (b .left .is)) (c (b .it) (b .symbol)))
 
     -- ---- a body, walked once for each atom
     pub comprehension-walks : {new : List ℤ} {after : Tape} {m : Literals} → node .expression ≡ form.Comprehension
         → WalksBodies sheet given env (node .b) old before (node .a) m new after → WalksExpression sheet given env v old before m new after
     unfolding translate
-    comprehension-walks {new} {after} {m} p w = record { walks = λ e t. go e (comprehension-at e t p) }
+    comprehension-walks {new} {after} {m} p w = record { walks = λ e t. go e (at-comprehension (with-tree e t) p) }
       where
         go : (e : Expression) → ComprehensionAt sheet v node e
             → EmitsMatrix (translate sheet (literalsOf given) e (environment env) (before .next)) old before m new after
-        go e b = rw (b .is) (w .walks (b .f) (b .body))
+        go e b = rw (b .is) (w .walks (b .body .it) (b .body .is))

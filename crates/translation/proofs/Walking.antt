@@ -2,11 +2,9 @@
 use mathlib.Core.Path.{_≡_}
 use mathlib.Core.List.{List}
 use Prim.Native.Nat.{ℕ, _≤_, _<_}
-use native.Mathlib.Omega.{arith}
 use lib.IntN.{ℤ, negsuc}
 use lib.ListN.{length}
 use Rattle.sheet.specs.Blocks.{Sheet}
-use Rattle.sheet.specs.Facts.{Facts}
 use Rattle.encoding.specs.Builder.{Builder, _>>=_}
 use Rattle.encoding.specs.Translation.{translate, translateFormula}
 use Rattle.emission.specs.declared.Tape.{Tape}
@@ -14,28 +12,23 @@ use Rattle.emission.specs.declared.Literals.{Literals}
 use Rattle.emission.specs.Emission.{literalsOf, Operand, Bounded, Over, Emits}
 use Rattle.emission.proofs.Steps.{Regular, regular-bind, emits-bind, given-up}
 use Rattle.emission.proofs.Ranges.{all-grows, inside-absent}
-use Rattle.cells.specs.Private.{Scopes}
-use Rattle.terms.specs.declared.nodes.Node.{Node}
-use Rattle.terms.specs.Nodes.{nodeAt}
-use Rattle.terms.specs.Terms.{environment}
-use Rattle.translation.specs.Walks.{Ready, IsExpression, IsFormula, WalksExpression, WalksFormula}
+use Rattle.nodes.specs.declared.forms.Node.{Node}
+use Rattle.nodes.specs.Nodes.{nodeAt, IsExpression, IsFormula}
+use Rattle.nodes.specs.Environments.{environment}
+use Rattle.translation.specs.Walks.{Ready, WalksExpression, WalksFormula}
 use Rattle.translation.proofs.Regulars.{regular-expression, regular-formula}
 
 -- the walk is at node v, and has read it
 pub record Reached (sheet : Sheet) (given : List ℤ) (tape : Tape) (v : ℕ) (node : Node) (Tree : Sheet → ℕ → Type 0) : Type 0 where
-  pub ready : Ready sheet given tape v
+  pub ready : Ready sheet given tape
   pub read : node ≡ nodeAt (sheet .nodes) v
   pub tree : Tree sheet v
 
 -- node a is an operand of node v, and can be walked
 pub record Below (sheet : Sheet) (given : List ℤ) (tape : Tape) (v a : ℕ) (Tree : Sheet → ℕ → Type 0) : Type 0 where
   pub lower : a < v
-  pub ready : Ready sheet given tape a
+  pub ready : Ready sheet given tape
   pub tree : Tree sheet a
-
--- ---- what acceptance gives
-pub sound-scopes : {sheet : Sheet} → Facts sheet → Scopes (sheet .sorts)
-sound-scopes s = record { most = s .scope-few }
 
 pub operand-grows : {n m : ℕ} {p : Literals} → n ≤ m → Operand n p → Operand m p
 operand-grows {n} {m} {p} h o =
@@ -54,17 +47,10 @@ operand-grows {n} {m} {p} h o =
           };
     }
 
--- ---- the operands of a node are there, and the tape that the first leaves serves the second
-module _ {sheet : Sheet} {given : List ℤ} {tape : Tape} {v : ℕ} (r : Ready sheet given tape v) where
-  pub ready-low : v ≤ 200
-  ready-low = omega (arith, r .facts .counts .few-nodes, r .there)
-
-  pub ready-at : {a : ℕ} → a < v → Ready sheet given tape a
-  ready-at h = record { facts = r .facts; there = omega (arith, r .there); bounded = r .bounded; inside = r .inside }
-
-  pub ready-after : {after : Tape} {a : ℕ} → a < v → Bounded after → tape .next ≤ after .next → Ready sheet given after a
-  ready-after h b g =
-      record { facts = r .facts; there = omega (arith, r .there); bounded = b; inside = all-grows (literalsOf given) g (r .inside) }
+-- ---- the tape that the first operand leaves serves the second
+pub ready-after : {sheet : Sheet} {given : List ℤ} {tape after : Tape} → Ready sheet given tape → Bounded after → tape .next ≤ after .next
+    → Ready sheet given after
+ready-after {given = given} r b g = record { facts = r .facts; bounded = b; inside = all-grows (literalsOf given) g (r .inside) }
 
 -- ---- two operands, then a step over both
 pub emits-two : {A B C : Type 0} (s : Builder A) (t : Builder B) (step : A → B → Builder C) → Regular s → Regular t
@@ -86,7 +72,7 @@ module _ {sheet : Sheet} {given : List ℤ} {env : List ℕ} {v : ℕ} {old new 
   kept-formula x w = w .walks (x .it) (x .is) .kept
 
 -- ---- given up
-module _ {sheet : Sheet} {given : List ℤ} {before : Tape} {v : ℕ} (r : Ready sheet given before v) {env : List ℕ} {old : List ℤ} where
+module _ {sheet : Sheet} {given : List ℤ} {before : Tape} {v : ℕ} (r : Ready sheet given before) {env : List ℕ} {old : List ℤ} where
   pub expression-over : {m : Literals} → Over (before .next) → ((n : ℕ) → 2 ≤ n → Operand n m)
       → WalksExpression sheet given env v old before m old before
   expression-over o f =

@@ -2,9 +2,9 @@
 -- Cited by contracts of functions that only this project's crates call: nothing here needs belief.
 use mathlib.Core.Path.{_≡_}
 use mathlib.Core.List.{List}
-use Prim.Native.Nat.{ℕ, _<_}
+use Prim.Native.Nat.{ℕ}
 use lib.IntN.{ℤ}
-use Rattle.sheet.specs.Blocks.{Sheet, scope, sortOf, nodeCount}
+use Rattle.sheet.specs.Blocks.{Sheet, scope, sortOf}
 use Rattle.sheet.specs.Facts.{Facts}
 use Rattle.relational.specs.Trees.{Expression, Formula, expression, formula}
 use Rattle.relational.specs.Meaning.{Environment, bind}
@@ -15,23 +15,14 @@ use Rattle.encoding.specs.Translation.{translate, translateFormula}
 use Rattle.emission.specs.declared.Tape.{Tape}
 use Rattle.emission.specs.declared.Literals.{Literals}
 use Rattle.emission.specs.Emission.{AllInside, literalsOf, Bounded, EmitsLiteral, EmitsMatrix}
-use Rattle.terms.specs.Nodes.{treeAt}
-use Rattle.terms.specs.Terms.{environment}
+use Rattle.nodes.specs.Environments.{environment}
+use Rattle.nodes.specs.Nodes.{treeAt}
 
--- the walk can start at node v
-pub record Ready (sheet : Sheet) (given : List ℤ) (tape : Tape) (v : ℕ) : Type 0 where
+-- the walk can start
+pub record Ready (sheet : Sheet) (given : List ℤ) (tape : Tape) : Type 0 where
   pub facts : Facts sheet
-  pub there : v < nodeCount sheet
   pub bounded : Bounded tape
   pub inside : AllInside (tape .next) (literalsOf given)
-
-pub record IsExpression (sheet : Sheet) (v : ℕ) : Type 0 where
-  pub it : Expression
-  pub is : treeAt sheet v ≡ expression it
-
-pub record IsFormula (sheet : Sheet) (v : ℕ) : Type 0 where
-  pub it : Formula
-  pub is : treeAt sheet v ≡ formula it
 
 -- the walks of a binder's body, by atom
 abbrev pub bodyWalks : Sheet → List Literal → Formula → Environment → ℕ → Builder (List Literal)

@@ -1,14 +1,17 @@
 // The walk (document 01, "Clauses"): a node's operands in order, then the node's own cells. Expressions and formulas call each other with
 // a falling node number. Past the limit of variables nothing is walked any more.
-ghost use mathlib.Core.Path.{_≡_};
 ghost use Prim.Native.Nat.{_<_};
-ghost use lib.ListN.{length, set};
 ghost use Rattle.sheet.specs.Blocks.{fourBlocks};
-ghost use Rattle.translation.specs.Walks.{Ready, IsExpression, IsFormula, WalksExpression, WalksFormula, WalksBodies};
+ghost use Rattle.nodes.specs.Nodes.{IsExpression, IsFormula};
+ghost use Rattle.translation.specs.Walks.{Ready, WalksExpression, WalksFormula, WalksBodies};
 use emission::Literals;
 use emission::Made;
 use emission::MadeMatrix;
 use emission::Tape;
+use nodes::environments::bind;
+use nodes::forms::ExpressionForm;
+use nodes::forms::FormulaForm;
+use nodes::forms::read_node;
 use sheet::bytes::byte;
 use terms::apply::combine;
 use terms::apply::connect;
@@ -19,22 +22,9 @@ use terms::apply::negate;
 use terms::apply::quantify;
 use terms::leaves::leaf;
 use terms::leaves::nothing;
-use terms::nodes::ExpressionForm;
-use terms::nodes::FormulaForm;
-use terms::nodes::read_node;
 
 // The last next variable with which the walk goes on: 16,000 variables are used then.
 const LIMIT: usize = 16001;
-
-// The atoms of the variables, where x now stands for atom i.
-fn bind(env: [usize; 4], x: usize, i: usize) -> [usize; 4]
-    requires { ⌜ x < 4 ⌝ }
-    ensures { λ r. ⌜ (r ≡ set env x i) × (x < length env) ⌝ }
-{
-    let mut inner = env;
-    inner[x] = i;
-    inner
-}
 
 // Node v as an expression: its matrix.
 fn expression(
@@ -48,7 +38,7 @@ fn expression(
     list: &mut [i32],
     tape: Tape,
 ) -> MadeMatrix
-    requires { ⌜ Ready (fourBlocks (now sorts) (now variables) (now relations) (now nodes)) (now given) tape v ⌝ }
+    requires { ⌜ Ready (fourBlocks (now sorts) (now variables) (now relations) (now nodes)) (now given) tape ⌝ }
     requires { ⌜ IsExpression (fourBlocks (now sorts) (now variables) (now relations) (now nodes)) v ⌝ }
     ensures { λ r. ⌜ WalksExpression
         (fourBlocks (now (sorts .entry)) (now (variables .entry)) (now (relations .entry)) (now (nodes .entry)))
@@ -141,7 +131,7 @@ pub fn formula(
     list: &mut [i32],
     tape: Tape,
 ) -> Made
-    requires { ⌜ Ready (fourBlocks (now sorts) (now variables) (now relations) (now nodes)) (now given) tape v ⌝ }
+    requires { ⌜ Ready (fourBlocks (now sorts) (now variables) (now relations) (now nodes)) (now given) tape ⌝ }
     requires { ⌜ IsFormula (fourBlocks (now sorts) (now variables) (now relations) (now nodes)) v ⌝ }
     ensures { λ r. ⌜ WalksFormula
         (fourBlocks (now (sorts .entry)) (now (variables .entry)) (now (relations .entry)) (now (nodes .entry)))
@@ -270,7 +260,7 @@ fn bodies(
     tape: Tape,
     x: usize,
 ) -> MadeMatrix
-    requires { ⌜ Ready (fourBlocks (now sorts) (now variables) (now relations) (now nodes)) (now given) tape v ⌝ }
+    requires { ⌜ Ready (fourBlocks (now sorts) (now variables) (now relations) (now nodes)) (now given) tape ⌝ }
     requires { ⌜ IsFormula (fourBlocks (now sorts) (now variables) (now relations) (now nodes)) v ⌝ }
     requires { ⌜ x < 4 ⌝ }
     ensures { λ r. ⌜ WalksBodies

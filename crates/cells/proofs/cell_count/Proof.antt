@@ -1,12 +1,11 @@
 -- `cell_count` meets its contract: the blocks stand where the layout says.
 use mathlib.Core.Path.{_≡_, sym, ap, _∙_}
-use Prim.Native.Nat.{_*_, _≤_, _<_}
+use Prim.Native.Nat.{_≤_}
 use native.Mathlib.Omega.{arith}
 use borrow.Author.Needs.{needs}
 use Rattle.sheet.specs.Blocks.{sheetOf, relationCount}
 use Rattle.sheet.proofs.Acceptance.{accepted-facts, accepted-layout}
-use Rattle.relational.specs.Cells.{firstCell, cellCount}
-use Rattle.cells.specs.Private.{Scopes}
+use Rattle.relational.specs.Cells.{firstCell}
 use Rattle.cells.proofs.Blocks.{Placed, placed, part-is}
 use Rattle.cells.proofs.cell_count.Statement.{statement}
 use Rattle.cells.proofs.cell_count.Tie as tie

@@ -1,5 +1,5 @@
 -- `row_count` meets its contract.
-use Rattle.cells.proofs.Layouts.{set-rows, relation-rows, set-length, relation-length}
+use Rattle.cells.proofs.Layouts.{set-rows, relation-rows}
 use borrow.Author.Needs.{needs}
 use Rattle.cells.proofs.row_count.Statement.{statement}
 use Rattle.cells.proofs.row_count.Tie as tie

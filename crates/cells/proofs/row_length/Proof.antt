@@ -1,5 +1,5 @@
 -- `row_length` meets its contract.
-use Rattle.cells.proofs.Layouts.{set-rows, relation-rows, set-length, relation-length}
+use Rattle.cells.proofs.Layouts.{set-length, relation-length}
 use borrow.Author.Needs.{needs}
 use Rattle.cells.proofs.row_length.Statement.{statement}
 use Rattle.cells.proofs.row_length.Tie as tie

@@ -1,10 +1,11 @@
 -- The marks, and the root from any atoms.
-use mathlib.Core.Path.{refl, _∙_}
+use mathlib.Core.Path.{_∙_}
 use native.Mathlib.Omega.{arith}
 use Rattle.sheet.specs.Blocks.{fourBlocks}
 use Rattle.relational.specs.Trees.{rootTree}
 use Rattle.relational.specs.Evaluation.{holds}
-use Rattle.evaluate.proofs.Roots.{root-formula, truth-of-root}
+use Rattle.nodes.proofs.Roots.{root-formula}
+use Rattle.evaluate.proofs.Steps.{root-truth}
 use borrow.Author.Needs.{needs}
 use Rattle.evaluate.proofs.holds.Statement.{statement}
 use Rattle.evaluate.proofs.holds.Tie as tie
@@ -19,7 +20,7 @@ formula-requires : tie.Need-formula-requires
 formula-requires c κs =
     let s = c .before .before .before .before .before .before .before in
     let sheet = fourBlocks (s .args .sorts .now) (s .args .variables .now) (s .args .relations .now) (s .args .nodes .now) in
-    (s .pre, (refl, root-formula sheet (s .pre .facts)))
+    (s .pre, root-formula sheet (s .pre .facts))
 
 both-requires : tie.Need-both-requires
 both-requires c κs = search needs
@@ -29,7 +30,7 @@ unfolding holds
 returns c =
     let s = c .before .before .before .before .before .before .before .before .before in
     let sheet = fourBlocks (s .args .sorts .now) (s .args .variables .now) (s .args .relations .now) (s .args .nodes .now) in
-    let truth = c .before .formula .ensures ∙ truth-of-root sheet (s .args .instance .now) (rootTree sheet) in
+    let truth = c .before .formula .ensures ∙ root-truth sheet (s .args .instance .now) (rootTree sheet) in
     rw (← c .before .before .marks-hold .ensures, ← truth) (c .both .ensures)
 
 pub holds-spec : {M : Type 1} → statement M

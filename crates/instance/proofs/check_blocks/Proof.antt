@@ -17,7 +17,7 @@ returns c =
     let s = c .before .before .before .before .before .before .before .before in
     let sheet = fourBlocks (s .args .sorts .now) (s .args .variables .now) (s .args .relations .now) (s .args .nodes .now) in
     other-length sheet (s .args .instance .now) (c .before .before .first-cells .result .count)
-    (c .before .before .first-cells .ensures .1 sheet refl refl .0) (c .if1 .taken)
+    (c .before .before .first-cells .ensures sheet refl refl .0) (c .if1 .taken)
 
 flags-only-requires : tie.Need-flags-only-requires
 flags-only-requires c κs = search needs
@@ -27,7 +27,7 @@ returns-2 c =
     let s = c .before .before .before .before .before .before .before .before .before .before in
     let sheet = fourBlocks (s .args .sorts .now) (s .args .variables .now) (s .args .relations .now) (s .args .nodes .now) in
     other-cells sheet (s .args .instance .now) (c .before .before .before .before .first-cells .result .count)
-    (c .before .before .before .before .first-cells .ensures .1 sheet refl refl .0) (c .before .flags-only .result) (c .before .before .if1 .left)
+    (c .before .before .before .before .first-cells .ensures sheet refl refl .0) (c .before .flags-only .result) (c .before .before .if1 .left)
     (c .before .flags-only .ensures) (not-true _ (c .if2 .taken))
 
 slice-aggregate-holds : tie.Need-slice-aggregate-holds
@@ -37,7 +37,7 @@ holds-requires : tie.Need-holds-requires
 holds-requires c κs =
     let s = c .before .before .before .before .before .before .before .before .before .before .before in
     let sheet = fourBlocks (s .args .sorts .now) (s .args .variables .now) (s .args .relations .now) (s .args .nodes .now) in
-    record { facts = s .pre; cells = c .before .before .before .before .before .first-cells .ensures .1 sheet refl refl .1 }
+    record { facts = s .pre; cells = c .before .before .before .before .before .first-cells .ensures sheet refl refl .1 }
 
 returns-3 : tie.Need-returns-3
 returns-3 c =
@@ -45,7 +45,7 @@ returns-3 c =
     let sheet = fourBlocks (s .args .sorts .now) (s .args .variables .now) (s .args .relations .now) (s .args .nodes .now) in
     ap (λ b. cond b yes no) (sym (c .if3 .taken))
     ∙ evaluated sheet (s .args .instance .now) (c .before .before .before .before .before .before .before .first-cells .result .count)
-    (c .before .before .before .before .before .before .before .first-cells .ensures .1 sheet refl refl .0)
+    (c .before .before .before .before .before .before .before .first-cells .ensures sheet refl refl .0)
     (c .before .before .before .before .flags-only .result) (c .before .holds .result) (c .before .before .before .before .before .if1 .left)
     (c .before .before .before .before .flags-only .ensures)
     (not-false _ (c .before .before .before .if2 .left)) (c .before .holds .ensures)
@@ -56,7 +56,7 @@ returns-4 c =
     let sheet = fourBlocks (s .args .sorts .now) (s .args .variables .now) (s .args .relations .now) (s .args .nodes .now) in
     ap (λ b. cond b yes no) (sym (c .if3 .left))
     ∙ evaluated sheet (s .args .instance .now) (c .before .before .before .before .before .before .before .first-cells .result .count)
-    (c .before .before .before .before .before .before .before .first-cells .ensures .1 sheet refl refl .0)
+    (c .before .before .before .before .before .before .before .first-cells .ensures sheet refl refl .0)
     (c .before .before .before .before .flags-only .result) (c .before .holds .result) (c .before .before .before .before .before .if1 .left)
     (c .before .before .before .before .flags-only .ensures)
     (not-false _ (c .before .before .before .if2 .left)) (c .before .holds .ensures)

@@ -1,13 +1,13 @@
 -- Kind by kind as the definition.
-use native.Mathlib.Omega.{arith}
 use borrow.Author.Tests.{ne-eqb}
-use Rattle.evaluate.specs.Walking.{leafBy, environmentOf}
+use Rattle.nodes.specs.Environments.{environment}
+use Rattle.evaluate.specs.Walking.{leafBy}
 use borrow.Author.Needs.{needs}
 use Rattle.evaluate.proofs.leaves.leaf.Statement.{statement}
 use Rattle.evaluate.proofs.leaves.leaf.Tie as tie
 
 relation-requires : tie.Need-relation-requires
-relation-requires c κs = let a = c .before .before .before .before .before .before .before in (a .pre .0, a .pre .1 .0 .relation (c .match .keys1))
+relation-requires c κs = let a = c .before .before .before .before .before .before .before in (a .pre .0, a .pre .1 (c .match .keys1))
 
 byte-requires : tie.Need-byte-requires
 byte-requires c κs = search needs
@@ -15,17 +15,12 @@ byte-requires c κs = search needs
 byte-requires-2 : tie.Need-byte-requires-2
 byte-requires-2 c κs = search needs
 
-mul-single : tie.Need-mul-single
-mul-single c = let a = c .before .before .before .before .before .before .before .before .before in omega
-    (arith, a .pre .1 .0 .variable (c .before .before .match .keys2))
-
-array-read-single : tie.Need-array-read-single
-array-read-single c = let a = c .before .before .before .before .before .before .before .before .before in omega
-    (arith, a .pre .1 .0 .variable (c .before .before .match .keys2))
+atom-at-requires : tie.Need-atom-at-requires
+atom-at-requires c κs = search needs
 
 single-requires : tie.Need-single-requires
-single-requires c κs = rw (c .byte2 .ensures .0)
-    (c .before .before .before .before .before .before .before .before .before .pre .0 .facts .scope-few (c .before .byte .result))
+single-requires c κs = rw (c .before .byte2 .ensures .0)
+    (c .before .before .before .before .before .before .before .before .before .before .pre .0 .facts .scope-few (c .before .before .byte .result))
 
 byte-requires-3 : tie.Need-byte-requires-3
 byte-requires-3 c κs = search needs
@@ -46,12 +41,14 @@ identity-requires c κs = rw (c .byte4 .ensures .0)
 returns : tie.Need-returns
 unfolding leafBy
 returns c = rw (c .before .match .keys1) (c .relation .ensures
-    (environmentOf (c .before .before .before .before .before .before .before .before .args .t7)))
+    (environment (c .before .before .before .before .before .before .before .before .args .env)))
 
 returns-2 : tie.Need-returns-2
 unfolding leafBy
 returns-2 c =
-    rw (c .before .before .before .match .keys2, ← c .before .before .byte .ensures .0, ← c .before .byte2 .ensures .0) (c .single .ensures)
+    let a = c .before in
+    rw (a .before .before .before .match .keys2, ← a .atom-at .ensures, ← a .before .before .byte .ensures .0, ← a .before .byte2 .ensures .0)
+    (c .single .ensures)
 
 returns-3 : tie.Need-returns-3
 unfolding leafBy
@@ -71,8 +68,7 @@ leaf-spec =
     relation-requires
     byte-requires
     byte-requires-2
-    mul-single
-    array-read-single
+    atom-at-requires
     single-requires
     byte-requires-3
     full-requires

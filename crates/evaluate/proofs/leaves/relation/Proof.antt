@@ -3,7 +3,8 @@ use mathlib.Core.Path.{refl}
 use native.Mathlib.Omega.{arith}
 use Rattle.sheet.specs.Blocks.{fourBlocks}
 use Rattle.matrix.proofs.Results.{gives-as}
-use Rattle.evaluate.proofs.Layouts.{first-few, set-or-relation, relation-leaf}
+use Rattle.cells.proofs.Layouts.{scopes-of, first-most, count-most, width-most}
+use Rattle.evaluate.proofs.Layouts.{set-or-relation, relation-leaf}
 use borrow.Author.Needs.{needs}
 use Rattle.evaluate.proofs.leaves.relation.Statement.{statement}
 use Rattle.evaluate.proofs.leaves.relation.Tie as tie
@@ -25,29 +26,30 @@ byte-requires c κs = search needs
 row-count-requires : tie.Need-row-count-requires
 row-count-requires c κs =
     let p = c .before .before .before .before .before .before .before .before .pre in
-    (omega (arith, p .0 .facts .counts .few-relations), p .0 .facts .scope-few)
+    omega (arith, p .0 .facts .counts .few-relations)
 
 row-length-requires : tie.Need-row-length-requires
 row-length-requires c κs =
     let p = c .before .before .before .before .before .before .before .before .before .pre in
-    (omega (arith, p .0 .facts .counts .few-relations), p .0 .facts .scope-few)
+    omega (arith, p .0 .facts .counts .few-relations)
 
 given-requires : tie.Need-given-requires
 given-requires c κs =
     let a = c .before .before .before .before .before .before .before .before .before .before in
     let sheet = fourBlocks (a .args .sorts .now) (a .args .variables .now) (a .args .relations .now) (a .args .nodes .now) in
     let r = a .args .r in
+    let scopes = scopes-of (a .pre .0 .facts) in
     let rows = c .before .row-count in (
       (
         omega (
           arith,
           a .pre .0 .cells .first r (a .pre .1),
-          first-few sheet (a .pre .0 .facts .scope-few) r,
+          first-most sheet (a .pre .0 .facts) r,
           a .pre .0 .facts .counts .few-relations,
         ),
-        (rows .ensures .0, c .row-length .ensures .0),
+        (count-most scopes r (rows .ensures) (c .row-length .ensures), width-most scopes r (rows .ensures) (c .row-length .ensures)),
       ),
-      rw (c .before .before .byte .ensures .0, rows .ensures .1 sheet refl refl)
+      rw (c .before .before .byte .ensures .0, rows .ensures sheet refl refl)
           (set-or-relation sheet r (a .pre .0 .facts .columns-two r (a .pre .1))),
     )
 
@@ -57,8 +59,8 @@ returns c env =
     let sheet = fourBlocks (a .args .sorts .now) (a .args .variables .now) (a .args .relations .now) (a .args .nodes .now) in
     gives-as (c .given .result) _ _
     (relation-leaf sheet (a .args .instance .now) (a .args .r) _ _ _ _ env (a .pre .0 .cells .first (a .args .r) (a .pre .1))
-    (c .before .before .before .byte .ensures .0) (c .before .before .row-count .ensures .1 sheet refl refl)
-    (c .before .row-length .ensures .1 sheet refl refl))
+    (c .before .before .before .byte .ensures .0) (c .before .before .row-count .ensures sheet refl refl)
+    (c .before .row-length .ensures sheet refl refl))
     (c .given .ensures)
 
 pub relation-spec : {M : Type 1} → statement M

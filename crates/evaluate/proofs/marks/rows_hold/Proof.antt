@@ -8,7 +8,8 @@ use native.Mathlib.Nat.{mul-le-mul}
 use Rattle.prelude.specs.Tests.{each}
 use Rattle.sheet.specs.Blocks.{fourBlocks, multiplicity}
 use Rattle.relational.specs.Evaluation.{rowHolds, rowCells}
-use Rattle.evaluate.proofs.Layouts.{first-few, row-law}
+use Rattle.cells.proofs.Layouts.{scopes-of, first-most, count-most, width-most}
+use Rattle.evaluate.proofs.Layouts.{row-law}
 use Rattle.evaluate.proofs.Loops.{each-none, each-more}
 use Rattle.evaluate.proofs.marks.rows_hold.Statement.{statement}
 use Rattle.evaluate.proofs.marks.rows_hold.Tie as tie
@@ -50,38 +51,41 @@ shared-slice-read-first c =
 row-count-requires : tie.Need-row-count-requires Inv-loop μ-loop
 row-count-requires c κs =
     let s = c .before .before .before .before .before .before .before .before in
-    (omega (arith, s .pre .0 .facts .counts .few-relations), s .pre .0 .facts .scope-few)
+    omega (arith, s .pre .0 .facts .counts .few-relations)
 
 row-length-requires : tie.Need-row-length-requires Inv-loop μ-loop
 row-length-requires c κs =
     let s = c .before .before .before .before .before .before .before .before .before in
-    (omega (arith, s .pre .0 .facts .counts .few-relations), s .pre .0 .facts .scope-few)
+    omega (arith, s .pre .0 .facts .counts .few-relations)
 
 loop-holds : tie.Need-loop-holds Inv-loop μ-loop
 loop-holds c = (omega arith, each-none _)
 
+-- at most 8 rows of at most 8 cells
+few : (b : tie.After-row-length Inv-loop μ-loop) → (b .before .row-count .result ≤ 8) × (b .row-length .result ≤ 8)
+few b =
+    let s = b .before .before .before .before .before .before .before .before .before .before in
+    let scopes = scopes-of (s .pre .0 .facts) in (
+      count-most scopes (s .args .r) (b .before .row-count .ensures) (b .row-length .ensures),
+      width-most scopes (s .args .r) (b .before .row-count .ensures) (b .row-length .ensures),
+    )
+
 mul-row-holds : tie.Need-mul-row-holds Inv-loop μ-loop
 mul-row-holds c =
-    let s = c .before .before .before .before .before .before .before .before .before .before .before .before in
-    let sheet = fourBlocks (s .args .sorts .now) (s .args .variables .now) (s .args .relations .now) (s .args .nodes .now) in
-    let l = c .before .loop in
-    let rows = c .before .before .before .row-count in
-    let columns = c .before .before .row-length in
-    let few : l .i * columns .result ≤ 64 = mul-le-mul {n₂ = 8} {m₂ = 8} (omega (arith, rows .ensures .0)) (columns .ensures .0) in
+    let f = few (c .before .before) in
+    let most : c .before .loop .i * c .before .before .row-length .result ≤ 64 = mul-le-mul {n₂ = 8} {m₂ = 8} (omega (arith, f .0)) (f .1) in
     omega arith
 
 add-row-holds : tie.Need-add-row-holds Inv-loop μ-loop
 add-row-holds c =
     let s = c .before .before .before .before .before .before .before .before .before .before .before .before in
     let sheet = fourBlocks (s .args .sorts .now) (s .args .variables .now) (s .args .relations .now) (s .args .nodes .now) in
-    let l = c .before .loop in
-    let rows = c .before .before .before .row-count in
-    let columns = c .before .before .row-length in
-    let few : l .i * columns .result ≤ 64 = mul-le-mul {n₂ = 8} {m₂ = 8} (omega (arith, rows .ensures .0)) (columns .ensures .0) in
+    let f = few (c .before .before) in
+    let most : c .before .loop .i * c .before .before .row-length .result ≤ 64 = mul-le-mul {n₂ = 8} {m₂ = 8} (omega (arith, f .0)) (f .1) in
     omega (
       arith,
       s .pre .0 .cells .first (s .args .r) (s .pre .1),
-      first-few sheet (s .pre .0 .facts .scope-few) (s .args .r),
+      first-most sheet (s .pre .0 .facts) (s .args .r),
       s .pre .0 .facts .counts .few-relations,
     )
 
@@ -89,18 +93,15 @@ row-holds-requires : tie.Need-row-holds-requires Inv-loop μ-loop
 row-holds-requires c κs =
     let s = c .before .before .before .before .before .before .before .before .before .before .before .before in
     let sheet = fourBlocks (s .args .sorts .now) (s .args .variables .now) (s .args .relations .now) (s .args .nodes .now) in
-    let l = c .before .loop in
-    let rows = c .before .before .before .row-count in
-    let columns = c .before .before .row-length in
-    let few : l .i * columns .result ≤ 64 = mul-le-mul {n₂ = 8} {m₂ = 8} (omega (arith, rows .ensures .0)) (columns .ensures .0) in
-    let least : l .i * columns .result ≤ 56 = mul-le-mul {n₂ = 7} {m₂ = 8} (omega (arith, rows .ensures .0)) (columns .ensures .0) in (
+    let f = few (c .before .before) in
+    let most : c .before .loop .i * c .before .before .row-length .result ≤ 56 = mul-le-mul {n₂ = 7} {m₂ = 8} (omega (arith, f .0)) (f .1) in (
       omega (
         arith,
         s .pre .0 .cells .first (s .args .r) (s .pre .1),
-        first-few sheet (s .pre .0 .facts .scope-few) (s .args .r),
+        first-most sheet (s .pre .0 .facts) (s .args .r),
         s .pre .0 .facts .counts .few-relations,
       ),
-      columns .ensures .0,
+      f .1,
     )
 
 both-requires : tie.Need-both-requires Inv-loop μ-loop
@@ -123,7 +124,7 @@ loop-again c =
     = c .before .row-holds .ensures
     ∙ row-law sheet (s .args .instance .now) (s .args .r) (l .i) _ _ _
     (c .before .before .before .before .before .before .before .byte .ensures .0) (s .pre .0 .cells .first (s .args .r) (s .pre .1))
-    (c .before .before .before .before .row-length .ensures .1 sheet refl refl) in
+    (c .before .before .before .before .row-length .ensures sheet refl refl) in
     (omega arith, each-more test (l .i) (l .fine) (c .both .result) (l .inv .1) (rw (← e) (c .both .ensures)))
 
 returns : tie.Need-returns Inv-loop μ-loop
@@ -134,7 +135,7 @@ returns c =
     let test : ℕ → Bool = λ i. rowHolds sheet (s .args .instance .now) (multiplicity sheet (s .args .r))
     (rowCells sheet (s .args .instance .now) (s .args .r) i) in
     let k : l .i ≡ c .before .before .before .row-count .result = omega arith in
-    l .inv .1 ∙ ap (λ (n : ℕ). each n test) (k ∙ c .before .before .before .row-count .ensures .1 sheet refl refl)
+    l .inv .1 ∙ ap (λ (n : ℕ). each n test) (k ∙ c .before .before .before .row-count .ensures sheet refl refl)
 
 pub rows-hold-spec : {M : Type 1} → statement M
 rows-hold-spec =

@@ -1,6 +1,7 @@
 -- The walk, form by form: what the operands give, and the step of the form (proofs/Steps). The measure is twice the node, and one more in a binder.
+-- Places in the needs: s is the start, n where the node is read, k where its form is told, x and y where its operands are walked.
 use borrow.Author.Needs.{needs}
-use mathlib.Core.Path.{_≡_, sym, ap, _∙_}
+use mathlib.Core.Path.{_≡_, ap, _∙_}
 use mathlib.Core.Bool.{Bool, not}
 use mathlib.Core.List.{map}
 use Prim.Native.Nat.{ℕ, _+_, _*_, _-_, _≤_, _<_}
@@ -8,13 +9,17 @@ use native.Mathlib.Omega.{arith}
 use Rattle.sheet.specs.Blocks.{byte, fourBlocks}
 use Rattle.relational.specs.Matrices.{setOf, upto}
 use Rattle.relational.specs.Meaning.{bind}
-use Rattle.matrix.specs.Values.{matrixOf}
 use Rattle.matrix.proofs.Filling.{Filled, filled-none, filled-more}
 use Rattle.matrix.proofs.Results.{gives-as, upto-law}
-use Rattle.evaluate.specs.Walking.{environmentOf, treeAt, truthInTree, quantifierBy}
+use Rattle.nodes.specs.Environments.{environment}
+use Rattle.nodes.specs.Nodes.{treeAt, IsExpression, IsFormula}
+use Rattle.nodes.proofs.Views.{expression-low, formula-low, Reached}
+use Rattle.nodes.proofs.ExpressionViews.{at-leaf, at-binary, at-unary, at-comprehension}
+use Rattle.nodes.proofs.FormulaViews.{at-comparison, at-test, at-negation, at-connective, at-quantifier}
+use Rattle.evaluate.specs.Walking.{truthInTree, quantifierBy}
 use Rattle.evaluate.proofs.Loops.{quantifier-none, quantifier-more}
-use Rattle.evaluate.proofs.Steps.{leaf-step, binary-step, unary-step, comprehension-step, no-expression, comparison-step, test-step}
-use Rattle.evaluate.proofs.Steps.{negation-step, connective-step, quantifier-step, no-formula}
+use Rattle.evaluate.proofs.Steps.{leaf-value, binary-value, unary-value, comprehension-value, comparison-truth, test-truth}
+use Rattle.evaluate.proofs.Steps.{negation-truth, connective-truth, quantifier-truth}
 use borrow.Fn.Kinds.{In}
 use borrow.Fn.PlainCycle.{Measures, is, falls, and}
 use Rattle.evaluate.proofs.walk.comprehension.Reads as comprehension
@@ -29,18 +34,15 @@ use Rattle.evaluate.proofs.walk.+comprehension+expression+formula+quant
 use Rattle.evaluate.proofs.walk.quantified.Reads as quantified
 use Rattle.evaluate.proofs.walk.quantified.Kinds as quantified-kinds
 use Rattle.evaluate.proofs.walk.+comprehension+expression+formula+quantified.Lts-quantified as quantified-lts
-use Rattle.evaluate.proofs.leaves.bind.Reads as bind-reads
 use Rattle.evaluate.proofs.leaves.leaf.Reads as leaf-reads
 use Rattle.evaluate.proofs.leaves.quantify.Reads as quantify-reads
-use Rattle.evaluate.proofs.nodes.expression_form.Reads as expression-form-reads
-use Rattle.evaluate.proofs.nodes.formula_form.Reads as formula-form-reads
-use Rattle.evaluate.proofs.nodes.node_at.Reads as node-at-reads
 use Rattle.matrix.proofs.flags.connect.Reads as connect-reads
-use Rattle.matrix.proofs.leaves.full.Reads as full-reads
 use Rattle.matrix.proofs.operators.binary.Reads as binary-reads
 use Rattle.matrix.proofs.operators.unary.Reads as unary-reads
 use Rattle.matrix.proofs.truths.compare.Reads as compare-reads
 use Rattle.matrix.proofs.truths.test.Reads as test-reads
+use Rattle.nodes.proofs.environments.bind.Reads as bind-reads
+use Rattle.nodes.proofs.forms.read_node.Reads as read-node-reads
 use Rattle.sheet.proofs.bytes.byte.Reads as byte-reads
 use Rattle.evaluate.proofs.walk.+comprehension+expression+formula+quantified.{statement}
 use Rattle.evaluate.proofs.walk.+comprehension+expression+formula+quantified.Tie.{close}
@@ -96,10 +98,8 @@ comprehension-calls t = (byte-reads.Asked, byte-reads.Learnt, bind-reads.Asked, 
 
 abbrev expression-calls : ℕ → expression-lts.Claims
 expression-calls t = (
-  node-at-reads.Asked,
-  node-at-reads.Learnt,
-  expression-form-reads.Asked,
-  expression-form-reads.Learnt,
+  read-node-reads.Asked,
+  read-node-reads.Learnt,
   leaf-reads.Asked,
   leaf-reads.Learnt,
   expression-below t,
@@ -110,16 +110,12 @@ expression-calls t = (
   unary-reads.Learnt,
   comprehension-below t,
   comprehension.Post,
-  full-reads.Asked,
-  full-reads.Learnt,
 )
 
 abbrev formula-calls : ℕ → formula-lts.Claims
 formula-calls t = (
-  node-at-reads.Asked,
-  node-at-reads.Learnt,
-  formula-form-reads.Asked,
-  formula-form-reads.Learnt,
+  read-node-reads.Asked,
+  read-node-reads.Learnt,
   expression-below t,
   expression.Post,
   compare-reads.Asked,
@@ -148,7 +144,7 @@ quantified-calls t = (
 
 abbrev comprehension-Inv-loop : comprehension-lts.InvT-loop
 comprehension-Inv-loop sorts variables relations nodes instance starts env body x n cells₀ k₀ cells k =
-    (k ≤ n) × Filled cells (λ (j : ℕ). truthInTree (fourBlocks sorts variables relations nodes) instance (bind (environmentOf env) x j)
+    (k ≤ n) × Filled cells (λ (j : ℕ). truthInTree (fourBlocks sorts variables relations nodes) instance (bind (environment env) x j)
     (treeAt (fourBlocks sorts variables relations nodes) body)) k
 
 abbrev comprehension-μ-loop : comprehension-lts.MeasureT-loop
@@ -170,13 +166,13 @@ comprehension-bind-requires : (t : ℕ) → comprehension-lts.Need-bind-requires
     comprehension-Inv-loop comprehension-μ-loop
 comprehension-bind-requires t c κs =
     let s = c .before .before .before .before .before .before .before .before .before .before in
-    (s .pre .1 .1 .1 .1, s .pre .1 .1 .0)
+    s .pre .1 .1 .1
 
 comprehension-formula-requires : (t : ℕ) → comprehension-lts.Need-formula-requires (comprehension-calls t) (comprehension-at t) comprehension.Post
     comprehension-Inv-loop comprehension-μ-loop
 comprehension-formula-requires t c κs =
     let s = c .before .before .before .before .before .before .before .before .before .before .before in
-    (omega (arith, s .pre .0), (s .pre .1 .0, (search needs, s .pre .1 .1 .1 .0)))
+    (omega (arith, s .pre .0), (s .pre .1 .0, s .pre .1 .1 .0))
 
 comprehension-array-write-cells : (t : ℕ) → comprehension-lts.Need-array-write-cells (comprehension-calls t) (comprehension-at t)
     comprehension.Post comprehension-Inv-loop comprehension-μ-loop
@@ -208,7 +204,7 @@ comprehension-loop-again t c =
     let l = c .before .before .before .loop in (
       omega arith,
       filled-more (l .cells) _ (l .k) (c .formula .result) (l .inv .1) (omega arith)
-          (c .formula .ensures ∙ ap (λ e. truthInTree sheet (s .args .instance .now) e (treeAt sheet (s .args .body))) (c .before .bind .ensures .1)),
+          (c .formula .ensures ∙ ap (λ e. truthInTree sheet (s .args .instance .now) e (treeAt sheet (s .args .body))) (c .before .bind .ensures)),
     )
 
 comprehension-returns : (t : ℕ) → comprehension-lts.Need-returns (comprehension-calls t) (comprehension-at t) comprehension.Post
@@ -219,54 +215,53 @@ comprehension-returns t c =
     let few : c .before .before .byte2 .result ≤ 8 = rw (c .before .before .byte2 .ensures .0)
     (s .pre .1 .0 .facts .scope-few (c .before .before .before .byte .result)) in
     let f : ℕ → Bool
-    = λ j. truthInTree sheet (s .args .instance .now) (bind (environmentOf (s .args .env)) (s .args .x) j) (treeAt sheet (s .args .body)) in
+    = λ j. truthInTree sheet (s .args .instance .now) (bind (environment (s .args .env)) (s .args .x) j) (treeAt sheet (s .args .body)) in
     let l = c .before .loop in
     gives-as _ _ _ (ap (λ (m : ℕ). setOf m (map f (upto m)))
     (c .before .before .byte2 .ensures .0 ∙ ap (byte (s .args .sorts .now)) (c .before .before .before .byte .ensures .0)))
     (upto-law (c .before .before .byte2 .result) f (l .cells) (l .k) (omega arith) few (l .inv .1))
 
-expression-node-at-requires : (t : ℕ) → expression-lts.Need-node-at-requires (expression-calls t) (expression-at t) expression.Post
-expression-node-at-requires t c κs =
-    let s = c .before .before .before .before .before .before in
-    omega (arith, s .pre .1 .1 .1 .node, s .pre .1 .0 .facts .counts .few-nodes)
+-- where the walk started, and the node that it has read
+abbrev expression-start : (t : ℕ) → expression-lts.After-read-node (expression-calls t) (expression-at t) expression.Post
+    → expression-lts.Start (expression-calls t) (expression-at t) expression.Post
+expression-start t n = n .before .before .before .before .before .before .before
 
-expression-expression-form-requires : (t : ℕ) → expression-lts.Need-expression-form-requires (expression-calls t) (expression-at t) expression.Post
-expression-expression-form-requires t c κs = search needs
+expression-node : (t : ℕ) (n : expression-lts.After-read-node (expression-calls t) (expression-at t) expression.Post)
+    → Reached
+    (fourBlocks (expression-start t n .args .sorts .now) (expression-start t n .args .variables .now)
+    (expression-start t n .args .relations .now) (expression-start t n .args .nodes .now))
+    (expression-start t n .args .at) (n .read-node .result) IsExpression
+expression-node t n =
+    let h = expression-start t n .pre .1 in
+    record { facts = h .0 .facts; read = n .read-node .ensures .0; tree = h .1 }
+
+expression-read-node-requires : (t : ℕ) → expression-lts.Need-read-node-requires (expression-calls t) (expression-at t) expression.Post
+expression-read-node-requires t c κs =
+    let h = c .before .before .before .before .before .before .pre .1 in
+    expression-low (h .0 .facts) (h .1)
 
 expression-enum-told : (t : ℕ) → expression-lts.Need-enum-told (expression-calls t) (expression-at t) expression.Post
 expression-enum-told t c = search needs
 
 expression-leaf-requires : (t : ℕ) → expression-lts.Need-leaf-requires (expression-calls t) (expression-at t) expression.Post
 expression-leaf-requires t c κs =
-    let s = c .before .before .before .before .before .before .before .before .before .before in
-    let sheet = fourBlocks (s .args .sorts .now) (s .args .variables .now) (s .args .relations .now) (s .args .nodes .now) in
-    let n = c .before .before .before .node-at in
-    let form = sym (c .before .before .expression-form .ensures) ∙ c .enum-told .given .1 in
-    let step = leaf-step sheet (s .args .instance .now) (s .pre .1 .0 .facts) (s .args .at) (s .pre .1 .1 .1 .node) (n .result) (n .ensures) form in
-    (s .pre .1 .0, (step .0, s .pre .1 .1 .0))
+    let n = c .before .before in
+    (expression-start t n .pre .1 .0, at-leaf (expression-node t n) (c .enum-told .given .1) .names)
 
 expression-enum-told-2 : (t : ℕ) → expression-lts.Need-enum-told-2 (expression-calls t) (expression-at t) expression.Post
 expression-enum-told-2 t c = search needs
 
 expression-expression-requires : (t : ℕ) → expression-lts.Need-expression-requires (expression-calls t) (expression-at t) expression.Post
 expression-expression-requires t c κs =
-    let s = c .before .before .before .before .before .before .before .before .before .before in
-    let sheet = fourBlocks (s .args .sorts .now) (s .args .variables .now) (s .args .relations .now) (s .args .nodes .now) in
-    let n = c .before .before .before .node-at in
-    let form = sym (c .before .before .expression-form .ensures) ∙ c .enum-told2 .given .1 in
-    let step = binary-step sheet (s .args .instance .now) (s .pre .1 .0 .facts) (s .args .at) (s .pre .1 .1 .1 .node) (n .result) (n .ensures)
-    (s .pre .1 .1 .1) form in
-    (omega (arith, step .1, s .pre .0), (s .pre .1 .0, (s .pre .1 .1 .0, step .0)))
+    let n = c .before .before in
+    let b = at-binary (expression-node t n) (c .enum-told2 .given .1) in
+    (omega (arith, b .lower-a, expression-start t n .pre .0), (expression-start t n .pre .1 .0, b .left))
 
 expression-expression-requires-2 : (t : ℕ) → expression-lts.Need-expression-requires-2 (expression-calls t) (expression-at t) expression.Post
 expression-expression-requires-2 t c κs =
-    let s = c .before .before .before .before .before .before .before .before .before .before .before in
-    let sheet = fourBlocks (s .args .sorts .now) (s .args .variables .now) (s .args .relations .now) (s .args .nodes .now) in
-    let n = c .before .before .before .before .node-at in
-    let form = sym (c .before .before .before .expression-form .ensures) ∙ c .before .enum-told2 .given .1 in
-    let step = binary-step sheet (s .args .instance .now) (s .pre .1 .0 .facts) (s .args .at) (s .pre .1 .1 .1 .node) (n .result) (n .ensures)
-    (s .pre .1 .1 .1) form in
-    (omega (arith, step .3, s .pre .0), (s .pre .1 .0, (s .pre .1 .1 .0, step .2)))
+    let n = c .before .before .before in
+    let b = at-binary (expression-node t n) (c .before .enum-told2 .given .1) in
+    (omega (arith, b .lower-b, expression-start t n .pre .0), (expression-start t n .pre .1 .0, b .right))
 
 expression-binary-requires : (t : ℕ) → expression-lts.Need-binary-requires (expression-calls t) (expression-at t) expression.Post
 expression-binary-requires t c κs = (c .before .expression .ensures .fine, c .expression2 .ensures .fine)
@@ -276,13 +271,9 @@ expression-enum-told-3 t c = search needs
 
 expression-expression-requires-3 : (t : ℕ) → expression-lts.Need-expression-requires-3 (expression-calls t) (expression-at t) expression.Post
 expression-expression-requires-3 t c κs =
-    let s = c .before .before .before .before .before .before .before .before .before .before in
-    let sheet = fourBlocks (s .args .sorts .now) (s .args .variables .now) (s .args .relations .now) (s .args .nodes .now) in
-    let n = c .before .before .before .node-at in
-    let form = sym (c .before .before .expression-form .ensures) ∙ c .enum-told3 .given .1 in
-    let step = unary-step sheet (s .args .instance .now) (s .pre .1 .0 .facts) (s .args .at) (s .pre .1 .1 .1 .node) (n .result) (n .ensures)
-    (s .pre .1 .1 .1) form in
-    (omega (arith, step .1, s .pre .0), (s .pre .1 .0, (s .pre .1 .1 .0, step .0)))
+    let n = c .before .before in
+    let b = at-unary (expression-node t n) (c .enum-told3 .given .1) in
+    (omega (arith, b .lower-a, expression-start t n .pre .0), (expression-start t n .pre .1 .0, b .left))
 
 expression-unary-requires : (t : ℕ) → expression-lts.Need-unary-requires (expression-calls t) (expression-at t) expression.Post
 expression-unary-requires t c κs = c .expression3 .ensures .fine
@@ -292,103 +283,70 @@ expression-enum-told-4 t c = search needs
 
 expression-comprehension-requires : (t : ℕ) → expression-lts.Need-comprehension-requires (expression-calls t) (expression-at t) expression.Post
 expression-comprehension-requires t c κs =
-    let s = c .before .before .before .before .before .before .before .before .before .before in
-    let sheet = fourBlocks (s .args .sorts .now) (s .args .variables .now) (s .args .relations .now) (s .args .nodes .now) in
-    let n = c .before .before .before .node-at in
-    let form = sym (c .before .before .expression-form .ensures) ∙ c .enum-told4 .given .1 in
-    let step = comprehension-step sheet (s .args .instance .now) (s .pre .1 .0 .facts) (s .args .at) (s .pre .1 .1 .1 .node) (n .result)
-    (n .ensures) (s .pre .1 .1 .1) form in
-    (omega (arith, step .1, s .pre .0), (s .pre .1 .0, (s .pre .1 .1 .0, (step .0, step .2))))
-
-expression-enum-told-5 : (t : ℕ) → expression-lts.Need-enum-told-5 (expression-calls t) (expression-at t) expression.Post
-expression-enum-told-5 t c = search needs
-
-expression-full-requires : (t : ℕ) → expression-lts.Need-full-requires (expression-calls t) (expression-at t) expression.Post
-expression-full-requires t c κs = omega arith
+    let n = c .before .before in
+    let b = at-comprehension (expression-node t n) (c .enum-told4 .given .1) in
+    (omega (arith, b .lower-b, expression-start t n .pre .0), (expression-start t n .pre .1 .0, (b .body, b .names)))
 
 expression-returns : (t : ℕ) → expression-lts.Need-returns (expression-calls t) (expression-at t) expression.Post
 expression-returns t c =
-    let s = c .before .before .before .before .before .before .before .before .before .before .before in
-    let sheet = fourBlocks (s .args .sorts .now) (s .args .variables .now) (s .args .relations .now) (s .args .nodes .now) in
-    let n = c .before .before .before .before .node-at in
-    let form = sym (c .before .before .before .expression-form .ensures) ∙ c .before .enum-told .given .1 in
-    let step = leaf-step sheet (s .args .instance .now) (s .pre .1 .0 .facts) (s .args .at) (s .pre .1 .1 .1 .node) (n .result) (n .ensures) form in
-    gives-as (c .leaf .result) _ _ (step .1 (environmentOf (s .args .env))) (c .leaf .ensures)
+    let k = c .before in
+    let h = expression-node t (k .before .before) in
+    gives-as (c .leaf .result) _ _ (leaf-value h _ _ (k .enum-told .given .1)) (c .leaf .ensures)
 
 expression-returns-2 : (t : ℕ) → expression-lts.Need-returns-2 (expression-calls t) (expression-at t) expression.Post
 expression-returns-2 t c =
-    let s = c .before .before .before .before .before .before .before .before .before .before .before .before .before in
-    let sheet = fourBlocks (s .args .sorts .now) (s .args .variables .now) (s .args .relations .now) (s .args .nodes .now) in
-    let n = c .before .before .before .before .before .before .node-at in
-    let form = sym (c .before .before .before .before .before .expression-form .ensures) ∙ c .before .before .before .enum-told2 .given .1 in
-    let step = binary-step sheet (s .args .instance .now) (s .pre .1 .0 .facts) (s .args .at) (s .pre .1 .1 .1 .node) (n .result) (n .ensures)
-    (s .pre .1 .1 .1) form in
+    let k = c .before .before .before in
+    let h = expression-node t (k .before .before) in
     let x = c .before .before .expression in
     let y = c .before .expression2 in
-    gives-as (c .binary .result) _ _ (step .4 (environmentOf (s .args .env)) (matrixOf (x .result)) (matrixOf (y .result)) (x .ensures .is)
-    (y .ensures .is)) (c .binary .ensures)
+    gives-as (c .binary .result) _ _ (binary-value h _ _ (k .enum-told2 .given .1) (x .ensures .is) (y .ensures .is)) (c .binary .ensures)
 
 expression-returns-3 : (t : ℕ) → expression-lts.Need-returns-3 (expression-calls t) (expression-at t) expression.Post
 expression-returns-3 t c =
-    let s = c .before .before .before .before .before .before .before .before .before .before .before .before in
-    let sheet = fourBlocks (s .args .sorts .now) (s .args .variables .now) (s .args .relations .now) (s .args .nodes .now) in
-    let n = c .before .before .before .before .before .node-at in
-    let form = sym (c .before .before .before .before .expression-form .ensures) ∙ c .before .before .enum-told3 .given .1 in
-    let step = unary-step sheet (s .args .instance .now) (s .pre .1 .0 .facts) (s .args .at) (s .pre .1 .1 .1 .node) (n .result) (n .ensures)
-    (s .pre .1 .1 .1) form in
+    let k = c .before .before in
+    let h = expression-node t (k .before .before) in
     let x = c .before .expression3 in
-    gives-as (c .unary .result) _ _ (step .2 (environmentOf (s .args .env)) (matrixOf (x .result)) (x .ensures .is)) (c .unary .ensures)
+    gives-as (c .unary .result) _ _ (unary-value h _ _ (k .enum-told3 .given .1) (x .ensures .is)) (c .unary .ensures)
 
 expression-returns-4 : (t : ℕ) → expression-lts.Need-returns-4 (expression-calls t) (expression-at t) expression.Post
 expression-returns-4 t c =
-    let s = c .before .before .before .before .before .before .before .before .before .before .before in
-    let sheet = fourBlocks (s .args .sorts .now) (s .args .variables .now) (s .args .relations .now) (s .args .nodes .now) in
-    let n = c .before .before .before .before .node-at in
-    let form = sym (c .before .before .before .expression-form .ensures) ∙ c .before .enum-told4 .given .1 in
-    let step = comprehension-step sheet (s .args .instance .now) (s .pre .1 .0 .facts) (s .args .at) (s .pre .1 .1 .1 .node) (n .result)
-    (n .ensures) (s .pre .1 .1 .1) form in
-    gives-as (c .comprehension .result) _ _ (step .3 (environmentOf (s .args .env))) (c .comprehension .ensures)
+    let k = c .before in
+    let h = expression-node t (k .before .before) in
+    gives-as (c .comprehension .result) _ _ (comprehension-value h _ _ (k .enum-told4 .given .1)) (c .comprehension .ensures)
 
-expression-returns-5 : (t : ℕ) → expression-lts.Need-returns-5 (expression-calls t) (expression-at t) expression.Post
-expression-returns-5 t c =
-    let s = c .before .before .before .before .before .before .before .before .before .before .before in
-    let sheet = fourBlocks (s .args .sorts .now) (s .args .variables .now) (s .args .relations .now) (s .args .nodes .now) in
-    let n = c .before .before .before .before .node-at in
-    let form = sym (c .before .before .before .expression-form .ensures) ∙ c .before .enum-told5 .given .1 in
-    let step = no-expression sheet (s .args .instance .now) (s .pre .1 .0 .facts) (s .args .at) (s .pre .1 .1 .1 .node) (n .result) (n .ensures)
-    form in
-    gives-as (c .full .result) _ _ (step (environmentOf (s .args .env))) (c .full .ensures)
+-- where the walk started, and the node that it has read
+abbrev formula-start : (t : ℕ) → formula-lts.After-read-node (formula-calls t) (formula-at t) formula.Post
+    → formula-lts.Start (formula-calls t) (formula-at t) formula.Post
+formula-start t n = n .before .before .before .before .before .before .before
 
-formula-node-at-requires : (t : ℕ) → formula-lts.Need-node-at-requires (formula-calls t) (formula-at t) formula.Post
-formula-node-at-requires t c κs =
-    let s = c .before .before .before .before .before .before in
-    omega (arith, s .pre .1 .1 .1 .node, s .pre .1 .0 .facts .counts .few-nodes)
+formula-node : (t : ℕ) (n : formula-lts.After-read-node (formula-calls t) (formula-at t) formula.Post)
+    → Reached
+    (fourBlocks (formula-start t n .args .sorts .now) (formula-start t n .args .variables .now)
+    (formula-start t n .args .relations .now) (formula-start t n .args .nodes .now))
+    (formula-start t n .args .at) (n .read-node .result) IsFormula
+formula-node t n =
+    let h = formula-start t n .pre .1 in
+    record { facts = h .0 .facts; read = n .read-node .ensures .0; tree = h .1 }
 
-formula-formula-form-requires : (t : ℕ) → formula-lts.Need-formula-form-requires (formula-calls t) (formula-at t) formula.Post
-formula-formula-form-requires t c κs = search needs
+formula-read-node-requires : (t : ℕ) → formula-lts.Need-read-node-requires (formula-calls t) (formula-at t) formula.Post
+formula-read-node-requires t c κs =
+    let h = c .before .before .before .before .before .before .pre .1 in
+    formula-low (h .0 .facts) (h .1)
 
 formula-enum-told : (t : ℕ) → formula-lts.Need-enum-told (formula-calls t) (formula-at t) formula.Post
 formula-enum-told t c = search needs
 
 formula-expression-requires : (t : ℕ) → formula-lts.Need-expression-requires (formula-calls t) (formula-at t) formula.Post
 formula-expression-requires t c κs =
-    let s = c .before .before .before .before .before .before .before .before .before .before in
-    let sheet = fourBlocks (s .args .sorts .now) (s .args .variables .now) (s .args .relations .now) (s .args .nodes .now) in
-    let n = c .before .before .before .node-at in
-    let form = sym (c .before .before .formula-form .ensures) ∙ c .enum-told .given .1 in
-    let step = comparison-step sheet (s .args .instance .now) (s .pre .1 .0 .facts) (s .args .at) (s .pre .1 .1 .1 .node) (n .result) (n .ensures)
-    (s .pre .1 .1 .1) form in
-    (omega (arith, step .1, s .pre .0), (s .pre .1 .0, (s .pre .1 .1 .0, step .0)))
+    let n = c .before .before in
+    let b = at-comparison (formula-node t n) (c .enum-told .given .1) in
+    (omega (arith, b .lower-a, formula-start t n .pre .0), (formula-start t n .pre .1 .0, b .left))
 
 formula-expression-requires-2 : (t : ℕ) → formula-lts.Need-expression-requires-2 (formula-calls t) (formula-at t) formula.Post
 formula-expression-requires-2 t c κs =
-    let s = c .before .before .before .before .before .before .before .before .before .before .before in
-    let sheet = fourBlocks (s .args .sorts .now) (s .args .variables .now) (s .args .relations .now) (s .args .nodes .now) in
-    let n = c .before .before .before .before .node-at in
-    let form = sym (c .before .before .before .formula-form .ensures) ∙ c .before .enum-told .given .1 in
-    let step = comparison-step sheet (s .args .instance .now) (s .pre .1 .0 .facts) (s .args .at) (s .pre .1 .1 .1 .node) (n .result) (n .ensures)
-    (s .pre .1 .1 .1) form in
-    (omega (arith, step .3, s .pre .0), (s .pre .1 .0, (s .pre .1 .1 .0, step .2)))
+    let n = c .before .before .before in
+    let b = at-comparison (formula-node t n) (c .before .enum-told .given .1) in
+    (omega (arith, b .lower-b, formula-start t n .pre .0), (formula-start t n .pre .1 .0, b .right))
 
 formula-compare-requires : (t : ℕ) → formula-lts.Need-compare-requires (formula-calls t) (formula-at t) formula.Post
 formula-compare-requires t c κs = (c .before .expression .ensures .fine, c .expression2 .ensures .fine)
@@ -398,13 +356,9 @@ formula-enum-told-2 t c = search needs
 
 formula-expression-requires-3 : (t : ℕ) → formula-lts.Need-expression-requires-3 (formula-calls t) (formula-at t) formula.Post
 formula-expression-requires-3 t c κs =
-    let s = c .before .before .before .before .before .before .before .before .before .before in
-    let sheet = fourBlocks (s .args .sorts .now) (s .args .variables .now) (s .args .relations .now) (s .args .nodes .now) in
-    let n = c .before .before .before .node-at in
-    let form = sym (c .before .before .formula-form .ensures) ∙ c .enum-told2 .given .1 in
-    let step = test-step sheet (s .args .instance .now) (s .pre .1 .0 .facts) (s .args .at) (s .pre .1 .1 .1 .node) (n .result) (n .ensures)
-    (s .pre .1 .1 .1) form in
-    (omega (arith, step .1, s .pre .0), (s .pre .1 .0, (s .pre .1 .1 .0, step .0)))
+    let n = c .before .before in
+    let b = at-test (formula-node t n) (c .enum-told2 .given .1) in
+    (omega (arith, b .lower-a, formula-start t n .pre .0), (formula-start t n .pre .1 .0, b .left))
 
 formula-test-requires : (t : ℕ) → formula-lts.Need-test-requires (formula-calls t) (formula-at t) formula.Post
 formula-test-requires t c κs = c .expression3 .ensures .fine
@@ -414,36 +368,24 @@ formula-enum-told-3 t c = search needs
 
 formula-formula-requires : (t : ℕ) → formula-lts.Need-formula-requires (formula-calls t) (formula-at t) formula.Post
 formula-formula-requires t c κs =
-    let s = c .before .before .before .before .before .before .before .before .before .before in
-    let sheet = fourBlocks (s .args .sorts .now) (s .args .variables .now) (s .args .relations .now) (s .args .nodes .now) in
-    let n = c .before .before .before .node-at in
-    let form = sym (c .before .before .formula-form .ensures) ∙ c .enum-told3 .given .1 in
-    let step = negation-step sheet (s .args .instance .now) (s .pre .1 .0 .facts) (s .args .at) (s .pre .1 .1 .1 .node) (n .result) (n .ensures)
-    (s .pre .1 .1 .1) form in
-    (omega (arith, step .1, s .pre .0), (s .pre .1 .0, (s .pre .1 .1 .0, step .0)))
+    let n = c .before .before in
+    let b = at-negation (formula-node t n) (c .enum-told3 .given .1) in
+    (omega (arith, b .lower-a, formula-start t n .pre .0), (formula-start t n .pre .1 .0, b .left))
 
 formula-enum-told-4 : (t : ℕ) → formula-lts.Need-enum-told-4 (formula-calls t) (formula-at t) formula.Post
 formula-enum-told-4 t c = search needs
 
 formula-formula-requires-2 : (t : ℕ) → formula-lts.Need-formula-requires-2 (formula-calls t) (formula-at t) formula.Post
 formula-formula-requires-2 t c κs =
-    let s = c .before .before .before .before .before .before .before .before .before .before in
-    let sheet = fourBlocks (s .args .sorts .now) (s .args .variables .now) (s .args .relations .now) (s .args .nodes .now) in
-    let n = c .before .before .before .node-at in
-    let form = sym (c .before .before .formula-form .ensures) ∙ c .enum-told4 .given .1 in
-    let step = connective-step sheet (s .args .instance .now) (s .pre .1 .0 .facts) (s .args .at) (s .pre .1 .1 .1 .node) (n .result) (n .ensures)
-    (s .pre .1 .1 .1) form in
-    (omega (arith, step .1, s .pre .0), (s .pre .1 .0, (s .pre .1 .1 .0, step .0)))
+    let n = c .before .before in
+    let b = at-connective (formula-node t n) (c .enum-told4 .given .1) in
+    (omega (arith, b .lower-a, formula-start t n .pre .0), (formula-start t n .pre .1 .0, b .left))
 
 formula-formula-requires-3 : (t : ℕ) → formula-lts.Need-formula-requires-3 (formula-calls t) (formula-at t) formula.Post
 formula-formula-requires-3 t c κs =
-    let s = c .before .before .before .before .before .before .before .before .before .before .before in
-    let sheet = fourBlocks (s .args .sorts .now) (s .args .variables .now) (s .args .relations .now) (s .args .nodes .now) in
-    let n = c .before .before .before .before .node-at in
-    let form = sym (c .before .before .before .formula-form .ensures) ∙ c .before .enum-told4 .given .1 in
-    let step = connective-step sheet (s .args .instance .now) (s .pre .1 .0 .facts) (s .args .at) (s .pre .1 .1 .1 .node) (n .result) (n .ensures)
-    (s .pre .1 .1 .1) form in
-    (omega (arith, step .3, s .pre .0), (s .pre .1 .0, (s .pre .1 .1 .0, step .2)))
+    let n = c .before .before .before in
+    let b = at-connective (formula-node t n) (c .before .enum-told4 .given .1) in
+    (omega (arith, b .lower-b, formula-start t n .pre .0), (formula-start t n .pre .1 .0, b .right))
 
 formula-connect-requires : (t : ℕ) → formula-lts.Need-connect-requires (formula-calls t) (formula-at t) formula.Post
 formula-connect-requires t c κs = search needs
@@ -453,85 +395,49 @@ formula-enum-told-5 t c = search needs
 
 formula-quantified-requires : (t : ℕ) → formula-lts.Need-quantified-requires (formula-calls t) (formula-at t) formula.Post
 formula-quantified-requires t c κs =
-    let s = c .before .before .before .before .before .before .before .before .before .before in
-    let sheet = fourBlocks (s .args .sorts .now) (s .args .variables .now) (s .args .relations .now) (s .args .nodes .now) in
-    let n = c .before .before .before .node-at in
-    let form = sym (c .before .before .formula-form .ensures) ∙ c .enum-told5 .given .1 in
-    let step = quantifier-step sheet (s .args .instance .now) (s .pre .1 .0 .facts) (s .args .at) (s .pre .1 .1 .1 .node) (n .result) (n .ensures)
-    (s .pre .1 .1 .1) form in
-    (omega (arith, step .1, s .pre .0), (s .pre .1 .0, (s .pre .1 .1 .0, (step .0, step .2))))
-
-formula-enum-told-6 : (t : ℕ) → formula-lts.Need-enum-told-6 (formula-calls t) (formula-at t) formula.Post
-formula-enum-told-6 t c = search needs
+    let n = c .before .before in
+    let b = at-quantifier (formula-node t n) (c .enum-told5 .given .1) in
+    (omega (arith, b .lower-b, formula-start t n .pre .0), (formula-start t n .pre .1 .0, (b .body, b .names)))
 
 formula-returns : (t : ℕ) → formula-lts.Need-returns (formula-calls t) (formula-at t) formula.Post
 formula-returns t c =
-    let s = c .before .before .before .before .before .before .before .before .before .before .before .before .before in
-    let sheet = fourBlocks (s .args .sorts .now) (s .args .variables .now) (s .args .relations .now) (s .args .nodes .now) in
-    let n = c .before .before .before .before .before .before .node-at in
-    let form = sym (c .before .before .before .before .before .formula-form .ensures) ∙ c .before .before .before .enum-told .given .1 in
-    let step = comparison-step sheet (s .args .instance .now) (s .pre .1 .0 .facts) (s .args .at) (s .pre .1 .1 .1 .node) (n .result) (n .ensures)
-    (s .pre .1 .1 .1) form in
+    let k = c .before .before .before in
+    let h = formula-node t (k .before .before) in
     let x = c .before .before .expression in
     let y = c .before .expression2 in
-    c .compare .ensures ∙ step .4 (environmentOf (s .args .env)) (matrixOf (x .result)) (matrixOf (y .result)) (x .ensures .is) (y .ensures .is)
+    c .compare .ensures ∙ comparison-truth h _ _ (k .enum-told .given .1) (x .ensures .is) (y .ensures .is)
 
 formula-returns-2 : (t : ℕ) → formula-lts.Need-returns-2 (formula-calls t) (formula-at t) formula.Post
 formula-returns-2 t c =
-    let s = c .before .before .before .before .before .before .before .before .before .before .before .before in
-    let sheet = fourBlocks (s .args .sorts .now) (s .args .variables .now) (s .args .relations .now) (s .args .nodes .now) in
-    let n = c .before .before .before .before .before .node-at in
-    let form = sym (c .before .before .before .before .formula-form .ensures) ∙ c .before .before .enum-told2 .given .1 in
-    let step = test-step sheet (s .args .instance .now) (s .pre .1 .0 .facts) (s .args .at) (s .pre .1 .1 .1 .node) (n .result) (n .ensures)
-    (s .pre .1 .1 .1) form in
+    let k = c .before .before in
+    let h = formula-node t (k .before .before) in
     let x = c .before .expression3 in
-    c .test .ensures ∙ step .2 (environmentOf (s .args .env)) (matrixOf (x .result)) (x .ensures .is)
+    c .test .ensures ∙ test-truth h _ _ (k .enum-told2 .given .1) (x .ensures .is)
 
 formula-returns-3 : (t : ℕ) → formula-lts.Need-returns-3 (formula-calls t) (formula-at t) formula.Post
 formula-returns-3 t c =
-    let s = c .before .before .before .before .before .before .before .before .before .before .before in
-    let sheet = fourBlocks (s .args .sorts .now) (s .args .variables .now) (s .args .relations .now) (s .args .nodes .now) in
-    let n = c .before .before .before .before .node-at in
-    let form = sym (c .before .before .before .formula-form .ensures) ∙ c .before .enum-told3 .given .1 in
-    let step = negation-step sheet (s .args .instance .now) (s .pre .1 .0 .facts) (s .args .at) (s .pre .1 .1 .1 .node) (n .result) (n .ensures)
-    (s .pre .1 .1 .1) form in
-    ap not (c .formula .ensures) ∙ step .2 (environmentOf (s .args .env))
+    let k = c .before in
+    let h = formula-node t (k .before .before) in
+    ap not (c .formula .ensures) ∙ negation-truth h _ _ (k .enum-told3 .given .1)
 
 formula-returns-4 : (t : ℕ) → formula-lts.Need-returns-4 (formula-calls t) (formula-at t) formula.Post
 formula-returns-4 t c =
-    let s = c .before .before .before .before .before .before .before .before .before .before .before .before .before in
-    let sheet = fourBlocks (s .args .sorts .now) (s .args .variables .now) (s .args .relations .now) (s .args .nodes .now) in
-    let n = c .before .before .before .before .before .before .node-at in
-    let form = sym (c .before .before .before .before .before .formula-form .ensures) ∙ c .before .before .before .enum-told4 .given .1 in
-    let step = connective-step sheet (s .args .instance .now) (s .pre .1 .0 .facts) (s .args .at) (s .pre .1 .1 .1 .node) (n .result) (n .ensures)
-    (s .pre .1 .1 .1) form in
+    let k = c .before .before .before in
+    let h = formula-node t (k .before .before) in
     let x = c .before .before .formula2 in
     let y = c .before .formula3 in
-    c .connect .ensures ∙ step .4 (environmentOf (s .args .env)) (x .result) (y .result) (x .ensures) (y .ensures)
+    c .connect .ensures ∙ connective-truth h _ _ (k .enum-told4 .given .1) (x .ensures) (y .ensures)
 
 formula-returns-5 : (t : ℕ) → formula-lts.Need-returns-5 (formula-calls t) (formula-at t) formula.Post
 formula-returns-5 t c =
-    let s = c .before .before .before .before .before .before .before .before .before .before .before in
-    let sheet = fourBlocks (s .args .sorts .now) (s .args .variables .now) (s .args .relations .now) (s .args .nodes .now) in
-    let n = c .before .before .before .before .node-at in
-    let form = sym (c .before .before .before .formula-form .ensures) ∙ c .before .enum-told5 .given .1 in
-    let step = quantifier-step sheet (s .args .instance .now) (s .pre .1 .0 .facts) (s .args .at) (s .pre .1 .1 .1 .node) (n .result) (n .ensures)
-    (s .pre .1 .1 .1) form in
-    c .quantified .ensures ∙ step .3 (environmentOf (s .args .env))
-
-formula-returns-6 : (t : ℕ) → formula-lts.Need-returns-6 (formula-calls t) (formula-at t) formula.Post
-formula-returns-6 t c =
-    let s = c .before .before .before .before .before .before .before .before .before .before in
-    let sheet = fourBlocks (s .args .sorts .now) (s .args .variables .now) (s .args .relations .now) (s .args .nodes .now) in
-    let n = c .before .before .before .node-at in
-    let form = sym (c .before .before .formula-form .ensures) ∙ c .enum-told6 .given .1 in
-    let step = no-formula sheet (s .args .instance .now) (s .pre .1 .0 .facts) (s .args .at) (s .pre .1 .1 .1 .node) (n .result) (n .ensures) form in
-    step (environmentOf (s .args .env))
+    let k = c .before in
+    let h = formula-node t (k .before .before) in
+    c .quantified .ensures ∙ quantifier-truth h _ _ (k .enum-told5 .given .1)
 
 abbrev quantified-Inv-loop : quantified-lts.InvT-loop
 quantified-Inv-loop sorts variables relations nodes instance starts env body x kind n truth₀ k₀ truth k =
     (k ≤ n) × (truth ≡ quantifierBy kind (map
-    (λ (j : ℕ). truthInTree (fourBlocks sorts variables relations nodes) instance (bind (environmentOf env) x j)
+    (λ (j : ℕ). truthInTree (fourBlocks sorts variables relations nodes) instance (bind (environment env) x j)
     (treeAt (fourBlocks sorts variables relations nodes) body)) (upto k)))
 
 abbrev quantified-μ-loop : quantified-lts.MeasureT-loop
@@ -553,13 +459,13 @@ quantified-bind-requires : (t : ℕ) → quantified-lts.Need-bind-requires (quan
     quantified-μ-loop
 quantified-bind-requires t c κs =
     let s = c .before .before .before .before .before .before .before .before .before .before in
-    (s .pre .1 .1 .1 .1, s .pre .1 .1 .0)
+    s .pre .1 .1 .1
 
 quantified-formula-requires : (t : ℕ) → quantified-lts.Need-formula-requires (quantified-calls t) (quantified-at t) quantified.Post
     quantified-Inv-loop quantified-μ-loop
 quantified-formula-requires t c κs =
     let s = c .before .before .before .before .before .before .before .before .before .before .before in
-    (omega (arith, s .pre .0), (s .pre .1 .0, (search needs, s .pre .1 .1 .1 .0)))
+    (omega (arith, s .pre .0), (s .pre .1 .0, s .pre .1 .1 .0))
 
 quantified-quantify-requires : (t : ℕ) → quantified-lts.Need-quantify-requires (quantified-calls t) (quantified-at t) quantified.Post
     quantified-Inv-loop quantified-μ-loop
@@ -582,10 +488,10 @@ quantified-loop-again t c =
     let s = c .before .before .before .before .before .before .before .before .before .before .before .before .before in
     let sheet = fourBlocks (s .args .sorts .now) (s .args .variables .now) (s .args .relations .now) (s .args .nodes .now) in
     let f : ℕ → Bool
-    = λ j. truthInTree sheet (s .args .instance .now) (bind (environmentOf (s .args .env)) (s .args .x) j) (treeAt sheet (s .args .body)) in
+    = λ j. truthInTree sheet (s .args .instance .now) (bind (environment (s .args .env)) (s .args .x) j) (treeAt sheet (s .args .body)) in
     let l = c .before .before .before .before .loop in
     let e : c .before .formula .result ≡ f (l .k) = c .before .formula .ensures
-    ∙ ap (λ e. truthInTree sheet (s .args .instance .now) e (treeAt sheet (s .args .body))) (c .before .before .bind .ensures .1) in (
+    ∙ ap (λ e. truthInTree sheet (s .args .instance .now) e (treeAt sheet (s .args .body))) (c .before .before .bind .ensures) in (
       omega arith,
       quantifier-more (s .args .kind) f (l .k) (l .truth) (c .quantify .result) (l .inv .1) (rw (← e) (c .quantify .ensures)),
     )
@@ -596,7 +502,7 @@ quantified-returns t c =
     let s = c .before .before .before .before .before .before .before .before .before .before in
     let sheet = fourBlocks (s .args .sorts .now) (s .args .variables .now) (s .args .relations .now) (s .args .nodes .now) in
     let f : ℕ → Bool
-    = λ j. truthInTree sheet (s .args .instance .now) (bind (environmentOf (s .args .env)) (s .args .x) j) (treeAt sheet (s .args .body)) in
+    = λ j. truthInTree sheet (s .args .instance .now) (bind (environment (s .args .env)) (s .args .x) j) (treeAt sheet (s .args .body)) in
     let l = c .before .loop in
     let k : l .k ≡ c .before .before .byte2 .result = omega arith in
     l .inv .1 ∙ ap (λ (m : ℕ). quantifierBy (s .args .kind) (map f (upto m)))
@@ -622,8 +528,7 @@ pub +comprehension+expression+formula+quantified-spec : {M : Type 1} → stateme
     (λ t. expression-lts.spec (expression-calls t)
     (expression-at t)
     expression.Post
-    (expression-node-at-requires t)
-    (expression-expression-form-requires t)
+    (expression-read-node-requires t)
     (expression-enum-told t)
     (expression-leaf-requires t)
     (expression-enum-told-2 t)
@@ -635,18 +540,14 @@ pub +comprehension+expression+formula+quantified-spec : {M : Type 1} → stateme
     (expression-unary-requires t)
     (expression-enum-told-4 t)
     (expression-comprehension-requires t)
-    (expression-enum-told-5 t)
-    (expression-full-requires t)
     (expression-returns t)
     (expression-returns-2 t)
     (expression-returns-3 t)
-    (expression-returns-4 t)
-    (expression-returns-5 t))
+    (expression-returns-4 t))
     (λ t. formula-lts.spec (formula-calls t)
     (formula-at t)
     formula.Post
-    (formula-node-at-requires t)
-    (formula-formula-form-requires t)
+    (formula-read-node-requires t)
     (formula-enum-told t)
     (formula-expression-requires t)
     (formula-expression-requires-2 t)
@@ -662,13 +563,11 @@ pub +comprehension+expression+formula+quantified-spec : {M : Type 1} → stateme
     (formula-connect-requires t)
     (formula-enum-told-5 t)
     (formula-quantified-requires t)
-    (formula-enum-told-6 t)
     (formula-returns t)
     (formula-returns-2 t)
     (formula-returns-3 t)
     (formula-returns-4 t)
-    (formula-returns-5 t)
-    (formula-returns-6 t))
+    (formula-returns-5 t))
     λ t. quantified-lts.spec (quantified-calls t)
     (quantified-at t)
     quantified.Post

@@ -2,7 +2,7 @@
 use mathlib.Core.Path.{refl, ap, _∙_}
 use native.Mathlib.Omega.{arith}
 use Rattle.sheet.specs.Blocks.{byte, fourBlocks}
-use Rattle.terms.specs.Terms.{environment}
+use Rattle.nodes.specs.Environments.{environment}
 use Rattle.terms.proofs.Numbers.{at-relation, at-variable, at-atoms, at-identity}
 use Rattle.terms.proofs.LeafMatrices.{variable-is, sort-is, identity-is}
 use borrow.Author.Needs.{needs}

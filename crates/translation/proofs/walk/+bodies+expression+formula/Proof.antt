@@ -9,8 +9,10 @@ use mir.Val.{SFits}
 use borrow.Author.Needs.{needs}
 use Rattle.literal.proofs.Signs.{back}
 use Rattle.sheet.specs.Blocks.{byte, fourBlocks}
-use Rattle.translation.specs.Walks.{IsExpression, IsFormula}
-use Rattle.translation.proofs.Walking.{Reached, sound-scopes, ready-low, kept-expression, kept-formula, expression-over, formula-over}
+use Rattle.cells.proofs.Layouts.{scopes-of}
+use Rattle.nodes.specs.Nodes.{IsExpression, IsFormula}
+use Rattle.nodes.proofs.Views.{expression-low, formula-low}
+use Rattle.translation.proofs.Walking.{Reached, kept-expression, kept-formula, expression-over, formula-over}
 use Rattle.translation.proofs.ExpressionWalks.{leaf-arity, leaf-walks, binary-left, binary-right, binary-operands, binary-walks, unary-left, unary-operand, unary-walks, comprehension-body, comprehension-walks}
 use Rattle.translation.proofs.FormulaWalks.{comparison-left, comparison-right, comparison-operands, comparison-walks, test-left, test-operand, test-walks, negation-left, negation-operand, negation-walks, connective-left, connective-right, connective-operands, connective-walks, quantifier-body, quantifier-operand, quantifier-walks}
 use Rattle.translation.proofs.BodyWalks.{Done, done-none, done-ready, done-kept, done-more, done-all}
@@ -35,8 +37,8 @@ use Rattle.terms.proofs.apply.negate.Reads as negate-reads
 use Rattle.terms.proofs.apply.quantify.Reads as quantify-reads
 use Rattle.terms.proofs.leaves.leaf.Reads as leaf-reads
 use Rattle.terms.proofs.leaves.nothing.Reads as nothing-reads
-use Rattle.terms.proofs.nodes.read_node.Reads as read-node-reads
-use Rattle.translation.proofs.walk.bind.Reads as bind-reads
+use Rattle.nodes.proofs.forms.read_node.Reads as read-node-reads
+use Rattle.nodes.proofs.environments.bind.Reads as bind-reads
 use Rattle.translation.proofs.walk.+bodies+expression+formula.{statement}
 use Rattle.translation.proofs.walk.+bodies+expression+formula.Tie.{close}
 
@@ -124,7 +126,7 @@ bodies-few : (t : ℕ) (b : bodies-lts.After-byte2 (bodies-calls t) (bodies-at t
     → b .byte2 .result ≤ 8
 bodies-few t b =
     let s = b .before .before .before .before .before .before in
-    omega (arith, b .byte2 .ensures .0, sound-scopes (s .pre .1 .0 .facts) .most (b .before .byte .result))
+    omega (arith, b .byte2 .ensures .0, scopes-of (s .pre .1 .0 .facts) .most (b .before .byte .result))
 
 bodies-byte-requires : (t : ℕ) → bodies-lts.Need-byte-requires (bodies-calls t) (bodies-at t) bodies.Post bodies-Inv-loop bodies-μ-loop
 bodies-byte-requires t c κs = search needs
@@ -168,7 +170,7 @@ bodies-loop-again t c =
     let a = c .before .before .before .before .before .before .before in
     let few = bodies-few t (a .before) in
     let l : SFits w32 (f .result .literal) = search needs in
-    (omega arith, done-more _ _ _ _ _ _ _ (a .loop .inv .1) (f .ensures) (e .0) (e .1) (omega arith) (back _ l))
+    (omega arith, done-more _ _ _ _ _ _ _ (a .loop .inv .1) (f .ensures) e (omega arith) (back _ l))
 
 bodies-same-length : (t : ℕ) → bodies-lts.Need-same-length (bodies-calls t) (bodies-at t) bodies.Post bodies-Inv-loop bodies-μ-loop
 bodies-same-length t c =
@@ -208,7 +210,7 @@ expression-returns t c =
 expression-read-node-requires : (t : ℕ) → expression-lts.Need-read-node-requires (expression-calls t) (expression-at t) expression.Post
 expression-read-node-requires t c κs =
     let s = c .before .before .before .before .before .before in
-    ready-low (s .pre .1 .0)
+    expression-low (s .pre .1 .0 .facts) (s .pre .1 .1)
 
 expression-enum-told : (t : ℕ) → expression-lts.Need-enum-told (expression-calls t) (expression-at t) expression.Post
 expression-enum-told t c = search needs
@@ -217,7 +219,7 @@ expression-leaf-requires : (t : ℕ) → expression-lts.Need-leaf-requires (expr
 expression-leaf-requires t c κs =
     let n = c .before .before in
     let h = expression-node t n in
-    (n .read-node .ensures .1, (sound-scopes (h .ready .facts), leaf-arity h (c .enum-told .given .1)))
+    (n .read-node .ensures .1, (scopes-of (h .ready .facts), leaf-arity h (c .enum-told .given .1)))
 
 expression-enum-told-2 : (t : ℕ) → expression-lts.Need-enum-told-2 (expression-calls t) (expression-at t) expression.Post
 expression-enum-told-2 t c = search needs
@@ -328,7 +330,7 @@ formula-returns t c =
 formula-read-node-requires : (t : ℕ) → formula-lts.Need-read-node-requires (formula-calls t) (formula-at t) formula.Post
 formula-read-node-requires t c κs =
     let s = c .before .before .before .before .before .before in
-    ready-low (s .pre .1 .0)
+    formula-low (s .pre .1 .0 .facts) (s .pre .1 .1)
 
 formula-enum-told : (t : ℕ) → formula-lts.Need-enum-told (formula-calls t) (formula-at t) formula.Post
 formula-enum-told t c = search needs

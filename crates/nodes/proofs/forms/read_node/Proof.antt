@@ -1,7 +1,7 @@
 -- `read_node` meets its contract: byte by byte, and the form by the row of the kind.
 use borrow.Author.Needs.{needs}
-use Rattle.terms.proofs.nodes.read_node.Statement.{statement}
-use Rattle.terms.proofs.nodes.read_node.Tie as tie
+use Rattle.nodes.proofs.forms.read_node.Statement.{statement}
+use Rattle.nodes.proofs.forms.read_node.Tie as tie
 
 mul-byte : tie.Need-mul-byte
 mul-byte c = search needs

@@ -1,5 +1,6 @@
--- The kinds that the walk treats alike.
+-- The kinds that a walk treats alike, and the trees of nodes.
 -- Cited by contracts of functions that only this project's crates call: nothing here needs belief.
+use mathlib.Core.Path.{_≡_}
 use mathlib.Core.List.{List}
 use Prim.Native.Nat.{ℕ, _+_, _*_}
 use Rattle.kinds.specs.declared.Rule.{Rule}
@@ -7,12 +8,12 @@ use Rattle.kinds.specs.declared.Rule.the-variants as rule
 use Rattle.kinds.specs.Kinds.{rowOf}
 use lib.ListN.{getD}
 use Rattle.sheet.specs.Blocks.{Sheet, byte}
-use Rattle.relational.specs.Trees.{Tree, broken, trees}
-use Rattle.terms.specs.declared.nodes.ExpressionForm.{ExpressionForm}
-use Rattle.terms.specs.declared.nodes.ExpressionForm.the-variants.{Leaf, Binary, Unary, Comprehension}
-use Rattle.terms.specs.declared.nodes.FormulaForm.{FormulaForm}
-use Rattle.terms.specs.declared.nodes.FormulaForm.the-variants.{Comparison, Test, Negation, Connective, Quantifier}
-use Rattle.terms.specs.declared.nodes.Node.{Node}
+use Rattle.relational.specs.Trees.{Expression, Formula, Tree, expression, formula, broken, trees}
+use Rattle.nodes.specs.declared.forms.ExpressionForm.{ExpressionForm}
+use Rattle.nodes.specs.declared.forms.ExpressionForm.the-variants.{Leaf, Binary, Unary, Comprehension}
+use Rattle.nodes.specs.declared.forms.FormulaForm.{FormulaForm}
+use Rattle.nodes.specs.declared.forms.FormulaForm.the-variants.{Comparison, Test, Negation, Connective, Quantifier}
+use Rattle.nodes.specs.declared.forms.Node.{Node}
 
 abbrev pub expressionForm : Rule → ExpressionForm
 expressionForm rule.Unknown = Leaf
@@ -64,3 +65,12 @@ nodeAt nodes v =
 -- the tree of node v
 abbrev pub treeAt : Sheet → ℕ → Tree
 treeAt sheet v = getD (trees sheet) v broken
+
+-- node v is an expression, a formula
+pub record IsExpression (sheet : Sheet) (v : ℕ) : Type 0 where
+  pub it : Expression
+  pub is : treeAt sheet v ≡ expression it
+
+pub record IsFormula (sheet : Sheet) (v : ℕ) : Type 0 where
+  pub it : Formula
+  pub is : treeAt sheet v ≡ formula it

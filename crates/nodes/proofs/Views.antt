@@ -1,23 +1,26 @@
 -- The tree of a node over the trees before it, and the form of its symbol.
 use mathlib.Core.Path.{_≡_, refl, sym, _∙_}
-use mathlib.Core.Bool.{true}
-use Prim.Native.Nat.{ℕ, _<_}
+use mathlib.Core.Bool.{true, false}
+use mathlib.Core.Logic.{_⊎_, inl, inr}
+use Prim.Native.Nat.{ℕ, _≤_, _<_}
 use native.Mathlib.Omega.{arith}
 use lib.Dec.{ltb}
-use lib.ListN.{getD}
-use borrow.Author.Tests.{ltb-true}
+use lib.ListN.{getD, List·getD-eq-default}
+use borrow.Author.Tests.{ltb-true, ltb-false}
+use Rattle.prelude.proofs.Laws.{decided}
 use Rattle.sheet.specs.Blocks.{Sheet, nodeCount, kind, fieldA, fieldB}
 use Rattle.sheet.specs.Tables.{table}
 use Rattle.sheet.specs.Reading.{fieldFine}
 use Rattle.sheet.specs.Facts.{Facts}
-use Rattle.relational.specs.Trees.{Leaf, relation, variable, atoms, identity, Binary, union, intersection, difference, join, product, Unary, inverse, closure, Comparison, Test, Connective, Quantifier, Expression, Formula, Symbol, leaf-symbol, binary-symbol, unary-symbol, comparison-symbol, test-symbol, connective-symbol, quantifier-symbol, comprehension-symbol, negation-symbol, unknown-symbol, symbolOf, Tree, expression, formula, broken, withExpression, withFormula, treeBy, treeStep}
-use Rattle.terms.specs.declared.nodes.ExpressionForm.{ExpressionForm}
-use Rattle.terms.specs.declared.nodes.ExpressionForm.the-variants as form
-use Rattle.terms.specs.declared.nodes.FormulaForm.{FormulaForm}
-use Rattle.terms.specs.declared.nodes.FormulaForm.the-variants as claim
-use Rattle.terms.specs.Nodes.{expressionForm, formulaForm, treeAt}
-use Rattle.terms.proofs.Rows.{rowBy, row-by}
-use Rattle.sheet.proofs.TableLaws.{table-at, table-same}
+use Rattle.relational.specs.Trees.{Leaf, relation, variable, atoms, identity, Binary, union, intersection, difference, join, product, Unary, inverse, closure, Comparison, Test, Connective, Quantifier, Expression, Formula, Symbol, leaf-symbol, binary-symbol, unary-symbol, comparison-symbol, test-symbol, connective-symbol, quantifier-symbol, comprehension-symbol, negation-symbol, unknown-symbol, symbolOf, Tree, expression, formula, broken, withExpression, withFormula, treeBy, treeStep, trees}
+use Rattle.nodes.specs.declared.forms.ExpressionForm.{ExpressionForm}
+use Rattle.nodes.specs.declared.forms.ExpressionForm.the-variants as form
+use Rattle.nodes.specs.declared.forms.FormulaForm.{FormulaForm}
+use Rattle.nodes.specs.declared.forms.FormulaForm.the-variants as claim
+use Rattle.nodes.specs.declared.forms.Node.{Node}
+use Rattle.nodes.specs.Nodes.{expressionForm, formulaForm, nodeAt, treeAt, IsExpression, IsFormula}
+use Rattle.sheet.proofs.TableLaws.{table-length, table-at, table-same}
+use Rattle.relational.proofs.Rows.{rowOfSymbol, row-of-symbol}
 
 -- ---- a tree that another grows from
 pub record Expressed (x : Tree) (grow : Expression → Tree) (t : Tree) : Type 0 where
@@ -49,6 +52,35 @@ whole-formula f p = let z : _≡_ {A = ℕ} 0 1 = cc in omega arith
 pub no-both : {A : Type 0} (e : Expression) (f : Formula) → formula f ≡ expression e → A
 no-both e f p = let z : _≡_ {A = ℕ} 0 1 = cc in absurd (omega arith)
 
+-- ---- only nodes have trees that are not broken
+tree-there : (sheet : Sheet) (v : ℕ) → (treeAt sheet v ≡ broken → ⊥) → v < nodeCount sheet
+tree-there sheet v h = go (decided (ltb v (nodeCount sheet)))
+  where
+    go : (ltb v (nodeCount sheet) ≡ true) ⊎ (ltb v (nodeCount sheet) ≡ false) → v < nodeCount sheet
+    go (inl e) = ltb-true v (nodeCount sheet) e
+    go (inr e) =
+        let past = ltb-false v (nodeCount sheet) e in
+        absurd (h (List·getD-eq-default (trees sheet) broken {n = v} (omega (arith, table-length (treeStep sheet) (nodeCount sheet)))))
+
+pub expression-there : {sheet : Sheet} {v : ℕ} → IsExpression sheet v → v < nodeCount sheet
+expression-there {sheet} {v} i = tree-there sheet v λ p. whole-expression (i .it) (sym (i .is) ∙ p)
+
+pub formula-there : {sheet : Sheet} {v : ℕ} → IsFormula sheet v → v < nodeCount sheet
+formula-there {sheet} {v} i = tree-there sheet v λ p. whole-formula (i .it) (sym (i .is) ∙ p)
+
+-- and a sheet has at most 200
+pub expression-low : {sheet : Sheet} {v : ℕ} → Facts sheet → IsExpression sheet v → v ≤ 200
+expression-low f i = omega (arith, expression-there i, f .counts .few-nodes)
+
+pub formula-low : {sheet : Sheet} {v : ℕ} → Facts sheet → IsFormula sheet v → v ≤ 200
+formula-low f i = omega (arith, formula-there i, f .counts .few-nodes)
+
+-- a walk is at node v, and has read it
+pub record Reached (sheet : Sheet) (v : ℕ) (node : Node) (Tree : Sheet → ℕ → Type 0) : Type 0 where
+  pub facts : Facts sheet
+  pub read : node ≡ nodeAt (sheet .nodes) v
+  pub tree : Tree sheet v
+
 -- ---- the form of a symbol
 abbrev pub formBy : Symbol → ExpressionForm
 formBy (leaf-symbol l) = form.Leaf
@@ -62,7 +94,7 @@ formBy comprehension-symbol = form.Comprehension
 formBy negation-symbol = form.Leaf
 formBy unknown-symbol = form.Leaf
 
-pub form-by : (s : Symbol) → expressionForm (rowBy s .rule) ≡ formBy s
+pub form-by : (s : Symbol) → expressionForm (rowOfSymbol s .rule) ≡ formBy s
 form-by (leaf-symbol relation) = refl
 form-by (leaf-symbol variable) = refl
 form-by (leaf-symbol atoms) = refl
@@ -94,7 +126,7 @@ claimBy comprehension-symbol = claim.Negation
 claimBy negation-symbol = claim.Negation
 claimBy unknown-symbol = claim.Negation
 
-pub claim-by : (s : Symbol) → formulaForm (rowBy s .rule) ≡ claimBy s
+pub claim-by : (s : Symbol) → formulaForm (rowOfSymbol s .rule) ≡ claimBy s
 claim-by (leaf-symbol relation) = refl
 claim-by (leaf-symbol variable) = refl
 claim-by (leaf-symbol atoms) = refl
@@ -124,11 +156,11 @@ module _ (sheet : Sheet) (v : ℕ) where
 
 -- ---- what the symbol of a node says of its fields, and its tree over the trees before it
 module _ (sheet : Sheet) (fine : Facts sheet) (v : ℕ) (there : v < nodeCount sheet) (s : Symbol) (e : symbolOf (kind sheet v) ≡ s) where
-  pub field-a : fieldFine sheet (rowBy s .a) v (fieldA sheet v) ≡ true
-  field-a = rw (row-by (kind sheet v), e) at (fine .fine-a v there)
+  pub field-a : fieldFine sheet (rowOfSymbol s .a) v (fieldA sheet v) ≡ true
+  field-a = rw (row-of-symbol (kind sheet v), e) at (fine .fine-a v there)
 
-  pub field-b : fieldFine sheet (rowBy s .b) v (fieldB sheet v) ≡ true
-  field-b = rw (row-by (kind sheet v), e) at (fine .fine-b v there)
+  pub field-b : fieldFine sheet (rowOfSymbol s .b) v (fieldB sheet v) ≡ true
+  field-b = rw (row-of-symbol (kind sheet v), e) at (fine .fine-b v there)
 
   pub tree-by : treeAt sheet v ≡ treeBy s (fieldA sheet v) (before sheet v (fieldA sheet v)) (before sheet v (fieldB sheet v))
   unfolding treeStep

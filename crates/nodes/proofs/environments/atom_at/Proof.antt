@@ -3,8 +3,8 @@ use borrow.Author.Needs.{needs}
 use mathlib.Core.Path.{_≡_, sym}
 use native.Mathlib.Omega.{arith}
 use lib.ListN.{length, List·getD-eq-default}
-use Rattle.terms.proofs.leaves.atom_at.Statement.{statement}
-use Rattle.terms.proofs.leaves.atom_at.Tie as tie
+use Rattle.nodes.proofs.environments.atom_at.Statement.{statement}
+use Rattle.nodes.proofs.environments.atom_at.Tie as tie
 
 mul-result : tie.Need-mul-result
 mul-result c = search needs

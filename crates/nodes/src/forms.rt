@@ -1,7 +1,7 @@
 // A node of the sheet, and what the walk does there.
 ghost use mathlib.Core.Path.{_≡_};
 ghost use Prim.Native.Nat.{_≤_, _<_};
-ghost use Rattle.terms.specs.Nodes.{expressionForm, formulaForm, nodeAt};
+ghost use Rattle.nodes.specs.Nodes.{expressionForm, formulaForm, nodeAt};
 use kinds::Rule;
 use kinds::row_of;
 use sheet::bytes::byte;
