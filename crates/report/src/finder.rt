@@ -64,20 +64,21 @@ fn put_report(text: &mut [u8], input: &[u8], ended: Search, instance: &[u8]) -> 
     ensures { λ r. ⌜ r ≤ 2048 ⌝ }
 {
     match ended {
+        Search::Found(steps) => put_found(text, input, steps, instance),
         Search::None(steps) => put_end(text, b"none ", steps),
         Search::Spent(steps) => put_end(text, b"spent ", steps),
         Search::Refused(r) => put_end(text, b"refused ", refusal::number(r) as u64),
-        Search::Found(steps) => put_found(text, input, steps, instance),
     }
 }
 
-// Reads the input as a sheet, and writes what the finder prints to the front of the text.
+// Reads the input as a sheet, and writes what the finder prints to the front of the text: with 16,384 clause words, and room for all
+// variables and cells that there can be.
 pub fn find_text(
     input: &[u8],
-    list: &mut [i32],
-    values: &mut [u8],
-    trail: &mut [i32],
-    instance: &mut [u8],
+    list: &mut [i32; 16384],
+    values: &mut [u8; 16000],
+    trail: &mut [i32; 16000],
+    instance: &mut [u8; 1024],
     text: &mut [u8; 2048],
 ) -> usize
     ensures { λ r. ⌜ (r ≤ length (now (text .exit))) × (r ≡ length (take r (now (text .exit)))) ⌝ }

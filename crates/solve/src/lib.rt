@@ -1,13 +1,11 @@
 // From a sheet to an answer: read-back, and the finder over lent slices.
 ghost use mathlib.Core.Path.{_≡_};
-ghost use Prim.Native.Nat.{_≤_};
-ghost use lib.ListN.{length};
 ghost use Rattle.sheet.specs.Blocks.{sheetOf};
 ghost use Rattle.relational.specs.Cells.{cellCount};
 ghost use Rattle.clauses.specs.Answers.{fits, countAnswer};
 ghost use Rattle.search.specs.Answers as searched;
 ghost use Rattle.solve.specs.Answers.{answerOf, readBackAnswer, instanceAfter};
-ghost use Rattle.solve.specs.Finding.{slices, findIn, finding};
+ghost use Rattle.solve.specs.Finding.{slices, finding};
 ghost use Rattle.solve.specs.Finds.{Finds};
 ghost use Rattle.solve.specs.Private.{Fitting, Left};
 use answer::ReadBack;

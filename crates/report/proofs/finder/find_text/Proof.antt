@@ -1,17 +1,14 @@
 -- `find_text` meets its contract: what `find` ensures, as text.
-use mathlib.Core.Path.{_≡_, refl, sym, ap, _∙_}
-use mathlib.Core.List.{List}
-use Prim.Native.Nat.{ℕ, _≤_}
+use mathlib.Core.Path.{sym, _∙_}
+use Prim.Native.Nat.{_≤_}
 use native.Mathlib.Omega.{arith}
 use lib.ListN.{length}
 use borrow.Author.Needs.{needs}
 use Rattle.sheet.specs.Blocks.{sheetOf}
-use Rattle.search.specs.Answers.{Answer}
-use Rattle.dimacs.specs.Private.{Put}
 use Rattle.dimacs.proofs.Puts.{put-as}
 use Rattle.solve.specs.Finding.{Slices, slices}
 use Rattle.solve.proofs.Findings.{found-fits}
-use Rattle.report.specs.Printed.{report, findingOf, findingText}
+use Rattle.report.specs.Printed.{report}
 use Rattle.report.proofs.Texts.{prints, counts, long-text, long-slices, short-text, short-slices}
 use Rattle.report.proofs.finder.find_text.Statement.{statement}
 use Rattle.report.proofs.finder.find_text.Tie as tie
@@ -24,11 +21,11 @@ slice-aggregate-put-end : tie.Need-slice-aggregate-put-end
 slice-aggregate-put-end c = search needs
 
 put-end-requires : tie.Need-put-end-requires
-put-end-requires c κs = (omega arith, omega arith)
+put-end-requires c κs = search needs
 
 returns : tie.Need-returns
 returns c =
-    let s = c .before .before .before .before .before .before .before in
+    let s = c .before .before .before .before .before in
     let h = c .before .before .before .if1 .taken in
     let p = put-as (sym (long-text (s .args .input .now) (lent s) h)) (c .put-end .ensures .0) in
     let l : c .put-end .result ≤ length (s .args .text .now) = omega (arith, c .put-end .ensures .1) in
@@ -39,26 +36,14 @@ find-requires c κs = search needs
 
 put-report-requires : tie.Need-put-report-requires
 put-report-requires c κs =
-    let k = c .before .before .before .before .before .before .before .before in
-    let s = k .before .before .before .before .before .before .before .before .before in
+    let k = c .before .before .before in
+    let s = k .before .before .before .before .before .before .before in
     (omega arith, λ n e. found-fits (s .args .input .now) (lent s) 1000000 n (sym (k .find .ensures .0) ∙ e))
-
-same-length : tie.Need-same-length
-same-length c = search needs
-
-same-length-2 : tie.Need-same-length-2
-same-length-2 c = search needs
-
-same-length-3 : tie.Need-same-length-3
-same-length-3 c = search needs
-
-same-length-4 : tie.Need-same-length-4
-same-length-4 c = search needs
 
 returns-2 : tie.Need-returns-2
 returns-2 c =
-    let k = c .before .before .before .before .before .before .before .before .before in
-    let s = k .before .before .before .before .before .before .before .before .before in
+    let k = c .before .before .before .before in
+    let s = k .before .before .before .before .before .before .before in
     let input = s .args .input .now in
     let h = k .before .before .before .before .before .if1 .left in
     let e = k .find .ensures in
@@ -69,15 +54,4 @@ returns-2 c =
 
 pub find-text-spec : {M : Type 1} → statement M
 find-text-spec =
-    tie.close
-    (tie.spec
-    slice-aggregate-put-end
-    put-end-requires
-    returns
-    find-requires
-    put-report-requires
-    same-length
-    same-length-2
-    same-length-3
-    same-length-4
-    returns-2)
+    tie.close (tie.spec slice-aggregate-put-end put-end-requires returns find-requires put-report-requires returns-2)

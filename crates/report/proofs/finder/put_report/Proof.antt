@@ -23,23 +23,31 @@ shown s e p = put-as (ap (λ (x : Search). report (answerOf x) (sheetOf (s .args
 enum-known-ended : tie.Need-enum-known-ended
 enum-known-ended c = search needs
 
+put-found-requires : tie.Need-put-found-requires
+put-found-requires c κs =
+    let s = c .before .before .before .before .before .before .before in
+    (s .pre .0, s .pre .1 _ (ap answerOf (c .before .before .ended .given .1)))
+
+enum-known-ended-2 : tie.Need-enum-known-ended-2
+enum-known-ended-2 c = search needs
+
 slice-aggregate-put-end : tie.Need-slice-aggregate-put-end
 slice-aggregate-put-end c = search needs
 
 put-end-requires : tie.Need-put-end-requires
-put-end-requires c κs = (omega (arith, c .before .before .before .before .before .before .before .before .pre .0), omega arith)
+put-end-requires c κs = search needs
 
-enum-known-ended-2 : tie.Need-enum-known-ended-2
-enum-known-ended-2 c = search needs
+enum-known-ended-3 : tie.Need-enum-known-ended-3
+enum-known-ended-3 c = search needs
 
 slice-aggregate-put-end-2 : tie.Need-slice-aggregate-put-end-2
 slice-aggregate-put-end-2 c = search needs
 
 put-end-requires-2 : tie.Need-put-end-requires-2
-put-end-requires-2 c κs = (omega (arith, c .before .before .before .before .before .before .before .before .pre .0), omega arith)
+put-end-requires-2 c κs = search needs
 
-enum-known-ended-3 : tie.Need-enum-known-ended-3
-enum-known-ended-3 c = search needs
+enum-known-ended-4 : tie.Need-enum-known-ended-4
+enum-known-ended-4 c = search needs
 
 slice-aggregate-put-end-3 : tie.Need-slice-aggregate-put-end-3
 slice-aggregate-put-end-3 c = search needs
@@ -51,15 +59,7 @@ cast-put-end : tie.Need-cast-put-end
 cast-put-end c = search needs
 
 put-end-requires-3 : tie.Need-put-end-requires-3
-put-end-requires-3 c κs = (omega (arith, c .before .before .before .before .before .before .before .before .before .pre .0), omega arith)
-
-enum-known-ended-4 : tie.Need-enum-known-ended-4
-enum-known-ended-4 c = search needs
-
-put-found-requires : tie.Need-put-found-requires
-put-found-requires c κs =
-    let s = c .before .before .before .before .before .before .before in
-    (s .pre .0, s .pre .1 _ (ap answerOf (c .before .before .ended4 .given .1)))
+put-end-requires-3 c κs = search needs
 
 same-length : tie.Need-same-length
 same-length c = search needs
@@ -67,8 +67,8 @@ same-length c = search needs
 returns : tie.Need-returns
 returns c =
     let k = c .before .before in
-    let s = k .before .before .before .before .before .before .before .before .before in
-    (shown s (k .before .before .before .before .ended .given .1) (k .put-end .ensures .0), omega (arith, k .put-end .ensures .1))
+    let s = k .before .before .before .before .before .before .before .before in
+    (shown s (k .before .before .before .ended .given .1) (k .put-found .ensures .0), k .put-found .ensures .1)
 
 same-length-2 : tie.Need-same-length-2
 same-length-2 c = search needs
@@ -77,7 +77,7 @@ returns-2 : tie.Need-returns-2
 returns-2 c =
     let k = c .before .before in
     let s = k .before .before .before .before .before .before .before .before .before in
-    (shown s (k .before .before .before .before .ended2 .given .1) (k .put-end2 .ensures .0), omega (arith, k .put-end2 .ensures .1))
+    (shown s (k .before .before .before .before .ended2 .given .1) (k .put-end .ensures .0), omega (arith, k .put-end .ensures .1))
 
 same-length-3 : tie.Need-same-length-3
 same-length-3 c = search needs
@@ -85,9 +85,8 @@ same-length-3 c = search needs
 returns-3 : tie.Need-returns-3
 returns-3 c =
     let k = c .before .before in
-    let s = k .before .before .before .before .before .before .before .before .before .before in
-    let p = put-as (ap (endLine (bytesOf "refused ")) (k .before .number .ensures)) (k .put-end3 .ensures .0) in
-    (shown s (k .before .before .before .before .before .ended3 .given .1) p, omega (arith, k .put-end3 .ensures .1))
+    let s = k .before .before .before .before .before .before .before .before .before in
+    (shown s (k .before .before .before .before .ended3 .given .1) (k .put-end2 .ensures .0), omega (arith, k .put-end2 .ensures .1))
 
 same-length-4 : tie.Need-same-length-4
 same-length-4 c = search needs
@@ -95,26 +94,27 @@ same-length-4 c = search needs
 returns-4 : tie.Need-returns-4
 returns-4 c =
     let k = c .before .before in
-    let s = k .before .before .before .before .before .before .before .before in
-    (shown s (k .before .before .before .ended4 .given .1) (k .put-found .ensures .0), k .put-found .ensures .1)
+    let s = k .before .before .before .before .before .before .before .before .before .before in
+    let p = put-as (ap (endLine (bytesOf "refused ")) (k .before .number .ensures)) (k .put-end3 .ensures .0) in
+    (shown s (k .before .before .before .before .before .ended4 .given .1) p, omega (arith, k .put-end3 .ensures .1))
 
 pub put-report-spec : {M : Type 1} → statement M
 put-report-spec =
     tie.close
     (tie.spec
     enum-known-ended
+    put-found-requires
+    enum-known-ended-2
     slice-aggregate-put-end
     put-end-requires
-    enum-known-ended-2
+    enum-known-ended-3
     slice-aggregate-put-end-2
     put-end-requires-2
-    enum-known-ended-3
+    enum-known-ended-4
     slice-aggregate-put-end-3
     number-requires
     cast-put-end
     put-end-requires-3
-    enum-known-ended-4
-    put-found-requires
     same-length
     returns
     same-length-2
