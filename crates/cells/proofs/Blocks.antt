@@ -11,7 +11,7 @@ use borrow.Author.Tests.{eqb-true}
 use Rattle.prelude.proofs.Laws.{and-left, and-right}
 use Rattle.sheet.specs.declared.Layout.{Layout}
 use Rattle.sheet.specs.declared.Reading.the-variants.{Accepted}
-use Rattle.sheet.specs.Blocks.{lengthAt, blockAt, after, variablesHead, relationsHead, nodesHead, blocksEnd, sheetOf}
+use Rattle.sheet.specs.Blocks.{lengthAt, blockAt, after, variablesHead, relationsHead, nodesHead, blocksEnd, fourBlocks, sheetOf}
 use Rattle.sheet.specs.Reading.{reading}
 use Rattle.sheet.proofs.Acceptance.{conditions, accepted-layout}
 
@@ -66,3 +66,18 @@ module _ (s : List ℕ) (l : Layout) (accepted : reading s ≡ Accepted l) where
         relations = block-at s (relationsHead s) _ _ c (omega arith) (whole-count _ 4 r);
         nodes = block-at s (nodesHead s) _ _ d (omega arith) (whole-count _ 3 n);
       }
+
+  -- the part of n bytes from a place on, as code takes it
+  abbrev part : ℕ → ℕ → List ℕ
+  part place n = take (place + n - place) (drop place s)
+
+  pub blocks-are : fourBlocks (part (l .sorts .start) (l .sorts .count)) (part (l .variables .start) (l .variables .count))
+      (part (l .relations .start) (4 * l .relations .count)) (part (l .nodes .start) (3 * l .nodes .count))
+      ≡ sheetOf s
+  blocks-are =
+      let p = placed in
+      let a = part-is (p .sorts) in
+      let b = part-is (p .variables) in
+      let c = part-is (p .relations) in
+      let d = part-is (p .nodes) in
+      λ i. fourBlocks (a i) (b i) (c i) (d i)

@@ -1,18 +1,17 @@
 -- An accepted sheet can be translated, from its blocks where they stand.
 use mathlib.Core.Path.{_≡_, ap, _∙_}
 use mathlib.Core.List.{List, map}
-use Prim.Native.Nat.{ℕ, _+_, _*_, _-_, _≤_}
+use Prim.Native.Nat.{ℕ, _+_, _-_, _≤_}
 use native.Mathlib.Omega.{arith}
 use lib.IntN.{ℤ}
-use lib.ListN.{take, drop}
+use lib.ListN.{take}
 use lib.Seq.{length-take-le}
 use Rattle.literal.specs.Literals.{positive}
 use Rattle.sheet.specs.declared.Layout.{Layout}
 use Rattle.sheet.specs.declared.Reading.the-variants.{Accepted}
-use Rattle.sheet.specs.Blocks.{fourBlocks, sheetOf}
+use Rattle.sheet.specs.Blocks.{sheetOf}
 use Rattle.sheet.specs.Reading.{reading}
 use Rattle.sheet.proofs.Acceptance.{accepted-facts}
-use Rattle.cells.proofs.Blocks.{placed, part-is}
 use Rattle.relational.specs.Cells.{cellCount}
 use Rattle.relational.specs.Matrices.{upto}
 use Rattle.nodes.proofs.Roots.{root-formula}
@@ -20,23 +19,7 @@ use Rattle.encoding.proofs.Accepted.{accepted-rows}
 use Rattle.clauses.specs.Translating.{CellWords, Translatable}
 
 module _ (s : List ℕ) (l : Layout) (accepted : reading s ≡ Accepted l) where
-  -- the part of n bytes from a place on, as code takes it
-  abbrev part : ℕ → ℕ → List ℕ
-  part place n = take (place + n - place) (drop place s)
-
-  pub blocks-are : fourBlocks (part (l .sorts .start) (l .sorts .count)) (part (l .variables .start) (l .variables .count))
-      (part (l .relations .start) (4 * l .relations .count)) (part (l .nodes .start) (3 * l .nodes .count))
-      ≡ sheetOf s
-  blocks-are =
-      let p = placed s l accepted in
-      let a = part-is (p .sorts) in
-      let b = part-is (p .variables) in
-      let c = part-is (p .relations) in
-      let d = part-is (p .nodes) in
-      λ i. fourBlocks (a i) (b i) (c i) (d i)
-
-  pub translatable : {n : ℕ} {ws : List ℤ} → n ≡ cellCount (sheetOf s) → n ≤ 1024 → CellWords n ws
-      → Translatable (sheetOf s) (take n ws)
+  pub translatable : {n : ℕ} {ws : List ℤ} → n ≡ cellCount (sheetOf s) → n ≤ 1024 → CellWords n ws → Translatable (sheetOf s) (take n ws)
   translatable {n} {ws} e h w =
       let f = accepted-facts s l accepted in
       record {

@@ -1,4 +1,3 @@
-mod Cuts
 mod Flags
 mod Held
 pub mod Exact

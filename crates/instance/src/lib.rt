@@ -68,20 +68,23 @@ fn check_accepted(sheet: &[u8], instance: &[u8], layout: Layout) -> Check
     requires { ⌜ reading (now sheet) ≡ accepted.Reading.Accepted layout ⌝ }
     ensures { λ r. ⌜ CheckAnswers (now (sheet .entry)) (now (instance .entry)) (answerOf r) ⌝ }
 {
+    let sorts = layout.sorts;
     let variables = layout.variables;
     let relations = layout.relations;
     let nodes = layout.nodes;
-    let a = variables.start;
-    let b = relations.start;
-    let c = nodes.start;
-    let sorts_end = a - 2;
-    let variables_end = b - 2;
-    let relations_end = c - 2;
+    let a = sorts.start;
+    let b = variables.start;
+    let c = relations.start;
+    let d = nodes.start;
+    let a_end = a + sorts.count;
+    let b_end = b + variables.count;
+    let c_end = c + 4 * relations.count;
+    let d_end = d + 3 * nodes.count;
     check_blocks(
-        &sheet[3..sorts_end],
-        &sheet[a..variables_end],
-        &sheet[b..relations_end],
-        &sheet[c..],
+        &sheet[a..a_end],
+        &sheet[b..b_end],
+        &sheet[c..c_end],
+        &sheet[d..d_end],
         instance,
     )
 }

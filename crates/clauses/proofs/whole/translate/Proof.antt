@@ -2,8 +2,8 @@
 use mathlib.Core.Path.{sym}
 use native.Mathlib.Omega.{arith}
 use lib.Seq.{length-take-le}
-use Rattle.cells.proofs.Blocks.{Placed, placed}
-use Rattle.clauses.proofs.Sheets.{blocks-are, translatable}
+use Rattle.cells.proofs.Blocks.{Placed, placed, blocks-are}
+use Rattle.clauses.proofs.Sheets.{translatable}
 use borrow.Author.Needs.{needs}
 use Rattle.clauses.proofs.whole.translate.Statement.{statement}
 use Rattle.clauses.proofs.whole.translate.Tie as tie
