@@ -4,15 +4,12 @@
 #[path = "../../tests/src/library.rs"]
 mod library;
 mod search;
+mod translation;
 
-#[cfg(on = "count")]
-use reference::clauses::count;
 use reference::clauses::{translate, Clauses};
 use reference::random::Source;
-#[cfg(on = "count")]
-use reference::random_sheet::closures;
-use reference::random_sheet::{gates_of, sheet, style};
-use reference::sheet::read;
+use reference::random_sheet::{closures, gates_of, sheet, style};
+use reference::sheet::{read, Sheet};
 use std::hint::black_box;
 use std::time::{Duration, Instant};
 
@@ -92,39 +89,60 @@ fn searches(what: &str, lists: &[Clauses], budget: u64) {
     line(what, steps, "steps", times);
 }
 
-/// Counting and writing of all sheets, for each gate; beside them the reference's translation.
-#[cfg(on = "count")]
+/// Counting and writing of all sheets, for each gate. Both sides are held to the reference's list first. The Rust side gets
+/// the sheets read, so the library's reading is timed by itself and taken off.
 fn translations(sheets: &[(Vec<u8>, Clauses)]) {
-    let gates = |(bytes, clauses): &(Vec<u8>, Clauses)| {
-        let cells = read(bytes).map_or(0, |sheet| sheet.cells());
-        clauses.variables as u64 - 1 - cells as u64
-    };
-    let gates: u64 = sheets.iter().map(gates).sum();
-    let mut list = vec![0; 1 << 20];
-    let each = |run: &mut dyn FnMut(&[u8])| sheets.iter().for_each(|(bytes, _)| run(bytes));
-    let mut reference = || {
-        each(&mut |bytes| {
-            let _ = black_box(count(bytes));
-        })
-    };
-    let counts = || {
-        each(&mut |bytes| {
-            let _ = black_box(library::count(bytes));
-        })
-    };
-    let writes = || {
-        each(&mut |bytes| {
-            let _ = black_box(library::write(bytes, &mut list));
-        })
-    };
-    let counting = best(counts, &mut reference);
-    let writing = best(writes, &mut reference);
-    line("counting", gates, "gates", counting);
-    line("writing", gates, "gates", writing);
+    let read: Vec<Sheet> = sheets.iter().map(|(bytes, _)| read(bytes).expect("an accepted sheet")).collect();
+    let (mut list, mut list2) = (vec![0; 1 << 20], vec![0; 1 << 20]);
+    let mut gates = 0;
+    for ((bytes, clauses), sheet) in sheets.iter().zip(&read) {
+        let words = clauses.words();
+        let size = library::write(bytes, &mut list);
+        assert_eq!((size, &list[..words.len()]), (Ok(clauses.size()), words.as_slice()));
+        let size = translation::translate(sheet, &mut list2);
+        assert_eq!((size, &list2[..words.len()]), (Ok(clauses.size()), words.as_slice()));
+        gates += clauses.variables as u64 - 1 - sheet.cells() as u64;
+    }
+    let counting = best(
+        || {
+            sheets.iter().for_each(|(bytes, _)| {
+                let _ = black_box(library::count(bytes));
+            })
+        },
+        || {
+            read.iter().for_each(|sheet| {
+                let _ = black_box(translation::translate(sheet, &mut []));
+            })
+        },
+    );
+    let writing = best(
+        || {
+            sheets.iter().for_each(|(bytes, _)| {
+                let _ = black_box(library::write(bytes, &mut list));
+            })
+        },
+        || {
+            read.iter().for_each(|sheet| {
+                let _ = black_box(translation::translate(sheet, &mut []));
+                let _ = black_box(translation::translate(sheet, &mut list2));
+            })
+        },
+    );
+    let (reading, _) = best(
+        || {
+            sheets.iter().for_each(|(bytes, _)| {
+                let _ = black_box(library::read(bytes));
+            })
+        },
+        || (),
+    );
+    println!("reading: {} sheets, library {} ns each", sheets.len(), reading.as_nanos() / sheets.len() as u128);
+    let less = |(library, rust): (Duration, Duration)| (library.saturating_sub(reading), rust);
+    line("counting", gates, "gates", less(counting));
+    line("counting and writing", gates, "gates", less(writing));
 }
 
 /// A sheet that would make over 10^9 gates is refused about as fast as one of 16,001 variables.
-#[cfg(on = "count")]
 fn giving_up() {
     let (just, far) = (gates_of(15_997).bytes(), closures(190).bytes());
     assert_eq!((library::count(&just), library::count(&far)), (Err(10), Err(10)));
@@ -146,8 +164,6 @@ fn main() {
     let large = translate(&gates_of(1_600)).expect("a list");
     let words = large.size().words;
     searches(&format!("search of a list of {words} words"), &[large], 5_000);
-    #[cfg(on = "count")]
     translations(&sheets);
-    #[cfg(on = "count")]
     giving_up();
 }
