@@ -24,8 +24,13 @@ both-requires-3 c κs = search needs
 
 returns : tie.Need-returns
 returns c =
-    rw
-    (← c .before .before .before .before .before .within .ensures, ← c .before .before .before .before .within2 .ensures, ← c .before .before .before .within3 .ensures, ← c .before .before .both .ensures, ← c .before .both2 .ensures)
+    rw (
+      ← c .before .before .before .before .before .within .ensures,
+      ← c .before .before .before .before .within2 .ensures,
+      ← c .before .before .before .within3 .ensures,
+      ← c .before .before .both .ensures,
+      ← c .before .both2 .ensures,
+    )
     (c .both3 .ensures)
 
 pub is-counted-spec : {M : Type 1} → statement M

@@ -105,7 +105,8 @@ same-step sheet v entries array f =
 
 found : (c : tie.After-visits-by Inv-loop μ-loop) (sheet : Sheet)
     → sheet .sorts ≡ c .before .before .before .before .before .before .before .before .before .before .before .before .before .before .args .sorts .now
-    → sheet .variables ≡ c .before .before .before .before .before .before .before .before .before .before .before .before .before .before .args .variables .now → sheet .nodes ≡ c .before .before .before .before .before .before .before .before .before .before .before .before .before .before .args .nodes .now
+    → sheet .variables ≡ c .before .before .before .before .before .before .before .before .before .before .before .before .before .before .args .variables .now
+    → sheet .nodes ≡ c .before .before .before .before .before .before .before .before .before .before .before .before .before .before .args .nodes .now
     → c .visits-by .result
     ≡ capped (visitsStep sheet (c .before .before .before .before .before .before .before .before .before .before .loop .v)
     (c .before .before .before .before .before .before .before .before .before .before .loop .visits))
