@@ -2,9 +2,7 @@
 use mathlib.Core.Path.{_≡_}
 use mathlib.Core.List.{List}
 use Prim.Native.Nat.{ℕ}
-use Rattle.refusal.specs.Refusals.{numberOf}
-use Rattle.sheet.specs.declared.Reading.{Reading}
-use Rattle.sheet.specs.declared.Reading.the-variants.{Accepted, Refused}
+use Rattle.sheet_rules.specs.Reading as sheets
 use Rattle.instance.specs.Answers as checked
 use Rattle.clauses.specs.Answers as counted
 use Rattle.dimacs.specs.Answers as text
@@ -17,9 +15,9 @@ use Rattle.boundary.specs.declared.runs.ReadBackAnswer.{ReadBackAnswer}
 use Rattle.boundary.specs.declared.lists.TextAnswer.{TextAnswer}
 
 -- reading
-abbrev pub readNumber : Reading → ℕ
-readNumber (Accepted layout) = 0
-readNumber (Refused r) = numberOf r
+abbrev pub readNumber : sheets.Answer → ℕ
+readNumber (sheets.accepted layout) = 0
+readNumber (sheets.refused n) = n
 
 -- the check of an instance
 abbrev pub checkNumbers : checked.Answer → CheckAnswer
@@ -27,7 +25,7 @@ checkNumbers checked.yes = record { refusal = 0; satisfies = 1 }
 checkNumbers checked.no = record { refusal = 0; satisfies = 0 }
 checkNumbers (checked.refused n) = record { refusal = n; satisfies = 0 }
 
--- the numbers of the answer that the check must give
+-- what the numbers mean: they are those of the answer that the check must give
 pub record Checked (sheet instance : List ℕ) (numbers : CheckAnswer) : Type 0 where
   pub answer : checked.Answer
   pub answers : checked.CheckAnswers sheet instance answer

@@ -1,13 +1,15 @@
 // Reading a sheet, and the check of an instance.
 ghost use mathlib.Core.Path.{_≡_};
-ghost use Rattle.sheet.specs.Reading.{reading};
+ghost use Rattle.sheet_rules.specs.Reading.{reading};
+ghost use Rattle.sheet.specs.Answers.{answerOf};
 ghost use Rattle.instance.specs.Answers as checked;
+ghost use Rattle.instance.specs.Held.{checkAnswer};
 ghost use Rattle.boundary.specs.Numbers.{readNumber, checkNumbers, Checked};
 use instance::answer::Check;
 use sheet::Reading;
 
 fn read_number(answer: Reading) -> u32
-    ensures { λ r. ⌜ r ≡ readNumber answer ⌝ }
+    ensures { λ r. ⌜ r ≡ readNumber (answerOf answer) ⌝ }
 {
     match answer {
         Reading::Accepted(_) => 0,
@@ -52,6 +54,7 @@ fn check_numbers(answer: Check) -> CheckAnswer
 #[no_mangle]
 pub extern "C" fn fawnloom_check(sheet: &[u8], instance: &[u8]) -> CheckAnswer
     ensures { λ r. ⌜ Checked (now (sheet .entry)) (now (instance .entry)) r ⌝ }
+    ensures { λ r. ⌜ r ≡ checkNumbers (checkAnswer (now (sheet .entry)) (now (instance .entry))) ⌝ }
 {
     check_numbers(instance::check(sheet, instance))
 }

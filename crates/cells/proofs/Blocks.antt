@@ -9,11 +9,10 @@ use lib.ListN.{length, take, drop, length-drop}
 use lib.Seq.{length-take-le}
 use borrow.Author.Tests.{eqb-true}
 use Rattle.prelude.proofs.Laws.{and-left, and-right}
-use Rattle.sheet.specs.declared.Layout.{Layout}
-use Rattle.sheet.specs.declared.Reading.the-variants.{Accepted}
-use Rattle.sheet.specs.Blocks.{lengthAt, blockAt, after, variablesHead, relationsHead, nodesHead, blocksEnd, fourBlocks, sheetOf}
-use Rattle.sheet.specs.Reading.{reading}
-use Rattle.sheet.proofs.Acceptance.{conditions, accepted-layout}
+use Rattle.sheet_rules.specs.declared.Layout.{Layout}
+use Rattle.sheet_rules.specs.Blocks.{lengthAt, blockAt, after, variablesHead, relationsHead, nodesHead, blocksEnd, fourBlocks, sheetOf}
+use Rattle.sheet_rules.specs.Reading.{accepted, reading}
+use Rattle.sheet_rules.proofs.Acceptance.{conditions, accepted-layout}
 
 -- a block of n bytes stands at a place
 pub record At (s : List ℕ) (place n : ℕ) (block : List ℕ) : Type 0 where
@@ -41,14 +40,14 @@ module _ (s : List ℕ) where
       let e = q ∙ block-length head h in
       record { inside = omega arith; is = rw (p, e) }
 
-module _ (s : List ℕ) (l : Layout) (accepted : reading s ≡ Accepted l) where
+module _ (s : List ℕ) (l : Layout) (taken : reading s ≡ accepted l) where
   whole-count : (n k : ℕ) → n % k ≡ 0 → k * (n / k) ≡ n
   whole-count n k e = let d = div-add-mod n k in omega arith
 
   pub placed : Placed s l
   placed =
-      let k = conditions s l accepted in
-      let e = accepted-layout s l accepted in
+      let k = conditions s l taken in
+      let e = accepted-layout s l taken in
       let f : blocksEnd s ≡ length s = eqb-true _ _ (k .is-filled) in
       let r : length (sheetOf s .relations) % 4 ≡ 0 = eqb-true _ _ (and-left _ _ (k .is-whole)) in
       let n : length (sheetOf s .nodes) % 3 ≡ 0 = eqb-true _ _ (and-right (eqb (length (sheetOf s .relations) % 4) 0) _ (k .is-whole)) in

@@ -11,8 +11,8 @@ use lib.Dec.{eqb}
 use lib.ListN.{length, getD, set, replicate, length-set}
 use lib.Seq.{getD-set-same, getD-set-other}
 use borrow.Author.Tests.{eq-eqb, ne-eqb}
-use Rattle.sheet.specs.Blocks.{Sheet, fourBlocks, byte, scope, columns, firstSort, secondSort}
-use Rattle.sheet.specs.Facts.{Facts}
+use Rattle.sheet_rules.specs.Blocks.{Sheet, fourBlocks, byte, scope, columns, firstSort, secondSort}
+use Rattle.sheet_rules.specs.Facts.{Facts}
 use Rattle.relational.specs.Cells.{isSet, rowCount, rowLength, cellsOf, firstCell}
 use Rattle.cells.specs.Private.{Scopes}
 

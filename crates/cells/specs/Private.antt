@@ -3,7 +3,7 @@ use mathlib.Core.Path.{_≡_}
 use mathlib.Core.List.{List}
 use Prim.Native.Nat.{ℕ, _≤_, _<_}
 use lib.ListN.{length, getD}
-use Rattle.sheet.specs.Blocks.{Sheet, byte, relationCount}
+use Rattle.sheet_rules.specs.Blocks.{Sheet, byte, relationCount}
 use Rattle.relational.specs.Cells.{firstCell}
 
 -- every scope is at most 8

@@ -2,13 +2,12 @@
 ghost use mathlib.Core.Path.{_≡_};
 ghost use Prim.Native.Nat.{_*_, _/_, _≤_, _<_};
 ghost use lib.ListN.{length};
-ghost use Rattle.sheet.specs.declared.Reading.the-variants.{Accepted};
-ghost use Rattle.sheet.specs.Blocks.{Sheet, sheetOf};
-ghost use Rattle.sheet.specs.Reading.{reading};
+ghost use Rattle.sheet_rules.specs.Blocks.{Sheet, sheetOf};
+ghost use Rattle.sheet_rules.specs.Reading.{accepted, reading};
 ghost use Rattle.relational.specs.Cells.{rowCount, rowLength, firstCell, cellCount};
 ghost use Rattle.cells.specs.Private.{Scopes, Starts};
-use sheet::Layout;
 use sheet::bytes::byte;
+use sheet_rules::Layout;
 
 // The rows of relation r.
 pub fn row_count(sorts: &[u8], relations: &[u8], r: usize) -> usize
@@ -75,7 +74,7 @@ pub fn first_cells(sorts: &[u8], relations: &[u8]) -> Cells
 
 // All cells of an accepted sheet.
 pub fn cell_count(sheet: &[u8], layout: Layout) -> usize
-    requires { ⌜ reading (now sheet) ≡ Accepted layout ⌝ }
+    requires { ⌜ reading (now sheet) ≡ accepted layout ⌝ }
     ensures { λ n. ⌜ (n ≡ cellCount (sheetOf (now (sheet .entry)))) × (n ≤ 1024) ⌝ }
 {
     let sorts = layout.sorts;

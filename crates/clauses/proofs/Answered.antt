@@ -8,11 +8,10 @@ use lib.IntN.{ℤ}
 use lib.ListN.{length, take, drop}
 use lib.Seq.{take-append-seam}
 use borrow.Author.Tests.{leb-true}
-use Rattle.sheet.specs.declared.Layout.{Layout}
-use Rattle.sheet.specs.declared.Reading.{Reading}
-use Rattle.sheet.specs.declared.Reading.the-variants.{Accepted, Refused}
-use Rattle.sheet.specs.Blocks.{Sheet, sheetOf}
-use Rattle.sheet.specs.Reading.{reading}
+use Rattle.sheet_rules.specs.declared.Layout.{Layout}
+use Rattle.sheet_rules.specs.Blocks.{Sheet, sheetOf}
+use Rattle.sheet_rules.specs.Reading as sheets
+use Rattle.sheet_rules.specs.Reading.{reading}
 use Rattle.encoding.specs.Whole.{words, variableTotal, clauseTotal, wordTotal}
 use Rattle.clauses.specs.Answers.{Answer, fits, refused, countAfter, countAnswer, writeAfter, writeAnswer, listBy, listAfter}
 
@@ -35,14 +34,14 @@ wordsIn (refused n) = n
 -- counting answered with numbers: the sheet is accepted, its variables are within the limit, and the numbers are those of its clauses
 pub record Counted (s : List ℕ) (v c w : ℕ) : Type 0 where
   pub layout : Layout
-  pub accepted : reading s ≡ Accepted layout
+  pub accepted : reading s ≡ sheets.accepted layout
   pub variables : v ≡ variableTotal (sheetOf s)
   pub clauses : c ≡ clauseTotal (sheetOf s)
   pub words : w ≡ wordTotal (sheetOf s)
   pub small : variableTotal (sheetOf s) ≤ 16000
 
 module _ (s : List ℕ) (v c w : ℕ) where
-  within-limit : (layout : Layout) → reading s ≡ Accepted layout → (b : Bool) → leb (variableTotal (sheetOf s)) 16000 ≡ b
+  within-limit : (layout : Layout) → reading s ≡ sheets.accepted layout → (b : Bool) → leb (variableTotal (sheetOf s)) 16000 ≡ b
       → cond b (fits (variableTotal (sheetOf s)) (clauseTotal (sheetOf s)) (wordTotal (sheetOf s))) (refused 10) ≡ fits v c w
       → Counted s v c w
   unfolding isFits variablesIn clausesIn wordsIn
@@ -57,10 +56,10 @@ module _ (s : List ℕ) (v c w : ℕ) where
       }
   within-limit layout a false h e = absurd (false≢true (ap isFits e))
 
-  by-reading : (r : Reading) → reading s ≡ r → countAfter r (sheetOf s) ≡ fits v c w → Counted s v c w
+  by-reading : (r : sheets.Answer) → reading s ≡ r → countAfter r (sheetOf s) ≡ fits v c w → Counted s v c w
   unfolding isFits
-  by-reading (Refused refusal) a e = absurd (false≢true (ap isFits e))
-  by-reading (Accepted layout) a e = within-limit layout a (leb (variableTotal (sheetOf s)) 16000) refl e
+  by-reading (sheets.refused n) a e = absurd (false≢true (ap isFits e))
+  by-reading (sheets.accepted layout) a e = within-limit layout a (leb (variableTotal (sheetOf s)) 16000) refl e
 
   pub count-fits : countAnswer s ≡ fits v c w → Counted s v c w
   unfolding countAnswer

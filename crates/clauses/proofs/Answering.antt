@@ -8,12 +8,10 @@ use lib.IntN.{ℤ}
 use lib.ListN.{length}
 use borrow.Author.Tests.{le-leb, lt-leb}
 use Rattle.prelude.proofs.Stores.{put-front}
-use Rattle.refusal.specs.declared.Refusal.{Refusal}
-use Rattle.refusal.specs.Refusals.{numberOf}
-use Rattle.sheet.specs.declared.Layout.{Layout}
-use Rattle.sheet.specs.declared.Reading.the-variants.{Accepted, Refused}
-use Rattle.sheet.specs.Blocks.{sheetOf}
-use Rattle.sheet.specs.Reading.{reading}
+use Rattle.sheet_rules.specs.declared.Layout.{Layout}
+use Rattle.sheet_rules.specs.Blocks.{sheetOf}
+use Rattle.sheet_rules.specs.Reading as sheets
+use Rattle.sheet_rules.specs.Reading.{accepted, reading}
 use Rattle.encoding.specs.Whole.{words, variableTotal}
 use Rattle.emission.specs.declared.Tape.{Tape}
 use Rattle.emission.specs.Emission.{Within, Over}
@@ -36,11 +34,11 @@ module _ (tape : Tape) where
       less zero = refl
       less (suc n) = omega arith
 
-pub count-refused : (s : List ℕ) (r : Refusal) → reading s ≡ Refused r → refused (numberOf r) ≡ countAnswer s
+pub count-refused : (s : List ℕ) (n : ℕ) → reading s ≡ sheets.refused n → refused n ≡ countAnswer s
 unfolding countAnswer
-count-refused s r e = rw e
+count-refused s n e = rw e
 
-module _ (s : List ℕ) (layout : Layout) (accepted : reading s ≡ Accepted layout) {old new : List ℤ} {tape : Tape}
+module _ (s : List ℕ) (layout : Layout) (taken : reading s ≡ accepted layout) {old new : List ℤ} {tape : Tape}
     (t : Translates (sheetOf s) old new tape) where
   small : Within (tape .next) → variableTotal (sheetOf s) ≤ 16000
   small h = rw (← t .variable-count h) (less (tape .next) h)
@@ -56,10 +54,10 @@ module _ (s : List ℕ) (layout : Layout) (accepted : reading s ≡ Accepted lay
       within : Within (tape .next) → sizeAnswer tape ≡ countAnswer s
       within h =
           let v = le-leb (variableTotal (sheetOf s)) 16000 (small h) in
-          rw (accepted, le-leb (tape .next) 16001 h, v, t .variable-count h, t .clause-count h, t .word-count h)
+          rw (taken, le-leb (tape .next) 16001 h, v, t .variable-count h, t .clause-count h, t .word-count h)
 
       over : Over (tape .next) → sizeAnswer tape ≡ countAnswer s
-      over h = rw (accepted, lt-leb (tape .next) 16001 h, lt-leb (variableTotal (sheetOf s)) 16000 (t .over h))
+      over h = rw (taken, lt-leb (tape .next) 16001 h, lt-leb (variableTotal (sheetOf s)) 16000 (t .over h))
 
   -- ---- writing: the words fit
   module _ {v c w : ℕ} (counted : countAnswer s ≡ fits v c w) (room : w ≤ length old) where

@@ -7,9 +7,9 @@ use Rattle.prelude.specs.Tests.{each}
 use Rattle.kinds.specs.Kinds.{rowOf}
 use Rattle.literal.specs.Literals.{Literal, positive, negative}
 use Rattle.clause_list.specs.ClauseList.{wordsOf}
-use Rattle.sheet.specs.Blocks.{sheetOf}
-use Rattle.sheet.specs.Tables.{table, shapeStep, freeStep, visitsStep}
-use Rattle.sheet.specs.Reading.{counted, scoped, declared, nodesFine, shaped, rooted, walkable, reading}
+use Rattle.sheet_rules.specs.Blocks.{sheetOf}
+use Rattle.sheet_rules.specs.Tables.{table, shapeStep, freeStep, visitsStep}
+use Rattle.sheet_rules.specs.Reading.{counted, scoped, declared, nodesFine, shaped, rooted, walkable, reading}
 use Rattle.relational.specs.Trees.{symbolOf, treeStep, closure}
 use Rattle.relational.specs.Cells.{firstCell}
 use Rattle.relational.specs.Matrices.{Matrix, rounds}

@@ -7,25 +7,24 @@ use lib.IntN.{ℤ}
 use lib.ListN.{take}
 use lib.Seq.{length-take-le}
 use Rattle.literal.specs.Literals.{positive}
-use Rattle.sheet.specs.declared.Layout.{Layout}
-use Rattle.sheet.specs.declared.Reading.the-variants.{Accepted}
-use Rattle.sheet.specs.Blocks.{sheetOf}
-use Rattle.sheet.specs.Reading.{reading}
-use Rattle.sheet.proofs.Acceptance.{accepted-facts}
+use Rattle.sheet_rules.specs.declared.Layout.{Layout}
+use Rattle.sheet_rules.specs.Blocks.{sheetOf}
+use Rattle.sheet_rules.specs.Reading.{accepted, reading}
+use Rattle.sheet_rules.proofs.Acceptance.{accepted-facts}
 use Rattle.relational.specs.Cells.{cellCount}
 use Rattle.relational.specs.Matrices.{upto}
 use Rattle.nodes.proofs.Roots.{root-formula}
 use Rattle.encoding.proofs.Accepted.{accepted-rows}
 use Rattle.clauses.specs.Translating.{CellWords, Translatable}
 
-module _ (s : List ℕ) (l : Layout) (accepted : reading s ≡ Accepted l) where
+module _ (s : List ℕ) (l : Layout) (taken : reading s ≡ accepted l) where
   pub translatable : {n : ℕ} {ws : List ℤ} → n ≡ cellCount (sheetOf s) → n ≤ 1024 → CellWords n ws → Translatable (sheetOf s) (take n ws)
   translatable {n} {ws} e h w =
-      let f = accepted-facts s l accepted in
+      let f = accepted-facts s l taken in
       record {
         facts = f;
         formula = root-formula (sheetOf s) f;
-        rows = accepted-rows s l accepted;
+        rows = accepted-rows s l taken;
         few = rw (← e) h;
         size = length-take-le n ws (omega (arith, w .room)) ∙ e;
         cells = w .cells ∙ ap (λ (k : ℕ). map (λ (i : ℕ). positive (2 + i)) (upto k)) e;

@@ -8,7 +8,7 @@ use lib.IntN.{ℤ}
 use lib.ListN.{length, replicate}
 use Rattle.literal.specs.Literals.{positive, literalOf}
 use Rattle.clause_list.specs.ClauseList.{wordsOf}
-use Rattle.sheet.specs.Blocks.{Sheet, root}
+use Rattle.sheet_rules.specs.Blocks.{Sheet, root}
 use Rattle.relational.specs.Cells.{cellCount}
 use Rattle.encoding.specs.Translation.{translateFormula}
 use Rattle.encoding.specs.Whole.{markClauses, cellLiterals, firstGate, rootWalk, clauses, words, variableTotal, clauseTotal, wordTotal}

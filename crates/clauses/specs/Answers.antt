@@ -6,10 +6,9 @@ use lib.Dec.{leb}
 use lib.IntN.{ℤ}
 use lib.ListN.{length, drop}
 use Rattle.refusal.specs.Refusals.{numberOf}
-use Rattle.sheet.specs.declared.Reading.{Reading}
-use Rattle.sheet.specs.declared.Reading.the-variants as r
-use Rattle.sheet.specs.Blocks.{Sheet, sheetOf}
-use Rattle.sheet.specs.Reading.{reading}
+use Rattle.sheet_rules.specs.Blocks.{Sheet, sheetOf}
+use Rattle.sheet_rules.specs.Reading as sheets
+use Rattle.sheet_rules.specs.Reading.{reading}
 use Rattle.clauses.specs.declared.answer.Count.{Count}
 use Rattle.clauses.specs.declared.answer.Count.the-variants.{Fits, Refused}
 use Rattle.encoding.specs.Whole.{words, variableTotal, clauseTotal, wordTotal}
@@ -24,9 +23,9 @@ answerOf (Fits size) = fits (size .variables) (size .clauses) (size .words)
 answerOf (Refused r) = refused (numberOf r)
 
 -- "counting 1 to 10": those of reading, then 10 SIZE, "more than 16,000 variables"
-abbrev pub countAfter : Reading → Sheet → Answer
-countAfter (r.Refused refusal) sheet = refused (numberOf refusal)
-countAfter (r.Accepted layout) sheet =
+abbrev pub countAfter : sheets.Answer → Sheet → Answer
+countAfter (sheets.refused n) sheet = refused n
+countAfter (sheets.accepted layout) sheet =
     cond (leb (variableTotal sheet) 16000) (fits (variableTotal sheet) (clauseTotal sheet) (wordTotal sheet)) (refused 10)
 
 unfoldable pub countAnswer : List ℕ → Answer

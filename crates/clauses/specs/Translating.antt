@@ -9,8 +9,8 @@ use lib.IntN.{ℤ}
 use lib.ListN.{length, take}
 use Rattle.prelude.specs.Stores.{putAll}
 use Rattle.literal.specs.Literals.{positive}
-use Rattle.sheet.specs.Blocks.{Sheet, relationCount, root}
-use Rattle.sheet.specs.Facts.{Facts}
+use Rattle.sheet_rules.specs.Blocks.{Sheet, relationCount, root}
+use Rattle.sheet_rules.specs.Facts.{Facts}
 use Rattle.relational.specs.Cells.{rowLength, cellCount}
 use Rattle.relational.specs.Matrices.{upto}
 use Rattle.encoding.specs.Whole.{cellLiterals, words, variableTotal, clauseTotal, wordTotal}

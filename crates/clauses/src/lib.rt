@@ -1,16 +1,15 @@
 // Counting and writing the clauses of a sheet (document 01, "Clauses").
 ghost use mathlib.Core.Path.{_≡_};
-ghost use Rattle.sheet.specs.declared.Reading.the-variants.{Accepted};
-ghost use Rattle.sheet.specs.Reading.{reading};
+ghost use Rattle.sheet_rules.specs.Reading.{accepted, reading};
 ghost use Rattle.clauses.specs.Answers.{fits, answerOf, countAnswer, writeAnswer, listAfter};
 ghost use Rattle.clauses.specs.Translating.{Numbered, sizeAnswer};
 use answer::Count;
 use answer::Size;
 use emission::Tape;
 use refusal::Refusal;
-use sheet::Layout;
 use sheet::Reading;
 use sheet::read;
+use sheet_rules::Layout;
 use whole::translate;
 
 pub mod answer; // answer.rt: what counting and writing answer
@@ -37,7 +36,7 @@ fn size_of(tape: Tape) -> Count
 
 // Counting: the translation over an empty list.
 fn count_accepted(sheet: &[u8], layout: Layout) -> Count
-    requires { ⌜ reading (now sheet) ≡ Accepted layout ⌝ }
+    requires { ⌜ reading (now sheet) ≡ accepted layout ⌝ }
     ensures { λ r. ⌜ answerOf r ≡ countAnswer (now (sheet .entry)) ⌝ }
 {
     let mut nothing = [0i32; 1];
@@ -58,7 +57,7 @@ pub fn count(sheet: &[u8]) -> Count
 
 // Writing, once the count is known: 13 if the list is too short, else the same translation over the list.
 fn write_counted(sheet: &[u8], layout: Layout, size: Size, list: &mut [i32]) -> Count
-    requires { ⌜ reading (now sheet) ≡ Accepted layout ⌝ }
+    requires { ⌜ reading (now sheet) ≡ accepted layout ⌝ }
     requires { ⌜ countAnswer (now sheet) ≡ fits (size .variables) (size .clauses) (size .words) ⌝ }
     ensures { λ r. ⌜ answerOf r ≡ writeAnswer (now (sheet .entry)) (now (list .entry)) ⌝ }
     ensures { λ _. ⌜ now (list .exit) ≡ listAfter (now (sheet .entry)) (now (list .entry)) ⌝ }
@@ -72,7 +71,7 @@ fn write_counted(sheet: &[u8], layout: Layout, size: Size, list: &mut [i32]) -> 
 
 // Nothing is written before the count is known to fit.
 fn write_accepted(sheet: &[u8], layout: Layout, list: &mut [i32]) -> Count
-    requires { ⌜ reading (now sheet) ≡ Accepted layout ⌝ }
+    requires { ⌜ reading (now sheet) ≡ accepted layout ⌝ }
     ensures { λ r. ⌜ answerOf r ≡ writeAnswer (now (sheet .entry)) (now (list .entry)) ⌝ }
     ensures { λ _. ⌜ now (list .exit) ≡ listAfter (now (sheet .entry)) (now (list .entry)) ⌝ }
 {

@@ -1,15 +1,14 @@
 // The clauses of an accepted sheet, in the order of document 01: one translation serves counting and writing.
 ghost use mathlib.Core.Path.{_≡_};
 ghost use Prim.Native.Nat.{_≤_};
-ghost use Rattle.sheet.specs.declared.Reading.the-variants.{Accepted};
-ghost use Rattle.sheet.specs.Blocks.{fourBlocks, sheetOf};
-ghost use Rattle.sheet.specs.Reading.{reading};
+ghost use Rattle.sheet_rules.specs.Blocks.{fourBlocks, sheetOf};
+ghost use Rattle.sheet_rules.specs.Reading.{accepted, reading};
 ghost use Rattle.clauses.specs.Translating.{CellWords, Translatable, Translates};
 use cells::cell_count;
 use emission::Tape;
 use emission::list::emit_clause;
 use marks::marks;
-use sheet::Layout;
+use sheet_rules::Layout;
 use translation::walk::formula;
 
 // The literals of n cells: 2, 3 and so on.
@@ -65,7 +64,7 @@ fn translate_blocks(
 
 // Each block of an accepted sheet, handed on as the part of the sheet where it stands.
 pub(crate) fn translate(sheet: &[u8], layout: Layout, list: &mut [i32]) -> Tape
-    requires { ⌜ reading (now sheet) ≡ Accepted layout ⌝ }
+    requires { ⌜ reading (now sheet) ≡ accepted layout ⌝ }
     ensures { λ r. ⌜ Translates (sheetOf (now (sheet .entry))) (now (list .entry)) (now (list .exit)) r ⌝ }
 {
     let n = cell_count(sheet, layout);

@@ -5,14 +5,13 @@ use mathlib.Core.List.{List}
 use Prim.Native.Nat.{ℕ, _≤_, _<_}
 use borrow.Author.Tests.{eq-eqb, ne-eqb}
 use native.Mathlib.Omega.{arith}
-use Rattle.sheet.specs.declared.Layout.{Layout}
-use Rattle.sheet.specs.declared.Reading.the-variants.{Accepted}
-use Rattle.sheet.specs.Blocks.{sheetOf, relationCount, columns, firstSort, secondSort}
-use Rattle.sheet.specs.Reading.{reading}
-use Rattle.sheet.proofs.Acceptance.{accepted-facts}
+use Rattle.sheet_rules.specs.declared.Layout.{Layout}
+use Rattle.sheet_rules.specs.Blocks.{sheetOf, relationCount, columns, firstSort, secondSort}
+use Rattle.sheet_rules.specs.Reading.{accepted, reading}
+use Rattle.sheet_rules.proofs.Acceptance.{accepted-facts}
 use Rattle.relational.specs.Cells.{rowLength}
 
-pub accepted-rows : (s : List ℕ) (l : Layout) → reading s ≡ Accepted l
+pub accepted-rows : (s : List ℕ) (l : Layout) → reading s ≡ accepted l
     → (r : ℕ) → r < relationCount (sheetOf s) → 1 ≤ rowLength (sheetOf s) r
 accepted-rows s l e r h =
     let sheet = sheetOf s in

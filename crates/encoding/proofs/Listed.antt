@@ -12,7 +12,7 @@ use Rattle.prelude.proofs.Laws.{and-both, all-append, all-map}
 use Rattle.literal.specs.Literals.{Literal, negative, wordOf}
 use Rattle.clause_list.specs.ClauseList.{isList}
 use Rattle.clause_list.proofs.Laws.{hasLiteral, words-list}
-use Rattle.sheet.specs.Blocks.{Sheet, relationCount, multiplicity}
+use Rattle.sheet_rules.specs.Blocks.{Sheet, relationCount, multiplicity}
 use Rattle.relational.specs.Cells.{rowCount, rowLength, cell}
 use Rattle.relational.specs.Matrices.{from, pairs}
 use Rattle.encoding.specs.Builder.{Gate}

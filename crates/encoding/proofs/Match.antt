@@ -12,7 +12,7 @@ use Rattle.prelude.proofs.Laws.{and-left, and-right, and-both}
 use Rattle.literal.specs.Literals.{Literal, positive, wordOf}
 use Rattle.clause_list.specs.ClauseList.{clausesOf, isTrue}
 use Rattle.clause_list.proofs.Laws.{clauses-words}
-use Rattle.sheet.specs.Blocks.{Sheet}
+use Rattle.sheet_rules.specs.Blocks.{Sheet}
 use Rattle.relational.specs.Trees.{rootTree}
 use Rattle.relational.specs.Cells.{cellCount, withinScopes}
 use Rattle.relational.specs.Matrices.{from, upto}

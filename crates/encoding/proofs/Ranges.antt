@@ -5,7 +5,7 @@ use Prim.Native.Nat.{ℕ, zero, suc, _+_, _≤_}
 use native.Mathlib.Omega.{arith}
 use lib.ListN.{length, getD}
 use Rattle.literal.specs.Literals.{Literal, positive, negative}
-use Rattle.sheet.specs.Blocks.{Sheet, relationCount, multiplicity}
+use Rattle.sheet_rules.specs.Blocks.{Sheet, relationCount, multiplicity}
 use Rattle.relational.specs.Cells.{rowCount, rowLength, cell}
 use Rattle.relational.specs.Matrices.{from, pairs}
 use Rattle.encoding.specs.Builder.{Gate}

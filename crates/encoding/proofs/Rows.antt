@@ -7,7 +7,7 @@ use lib.Dec.{eqb}
 use Rattle.prelude.specs.Tests.{each, all, any}
 use Rattle.prelude.proofs.Laws.{each-cong}
 use Rattle.literal.specs.Literals.{Literal}
-use Rattle.sheet.specs.Blocks.{Sheet, relationCount, multiplicity}
+use Rattle.sheet_rules.specs.Blocks.{Sheet, relationCount, multiplicity}
 use Rattle.relational.specs.Cells.{rowCount, rowLength, cell}
 use Rattle.relational.specs.Matrices.{from, pairs}
 use Rattle.relational.specs.Evaluation.{count, rowHolds, rowCells, marksHold}

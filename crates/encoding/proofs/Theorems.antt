@@ -8,10 +8,9 @@ use lib.ListN.{length}
 use Rattle.prelude.specs.Tests.{any}
 use Rattle.literal.specs.Literals.{Literal, positive}
 use Rattle.clause_list.specs.ClauseList.{isList}
-use Rattle.sheet.specs.declared.Layout.{Layout}
-use Rattle.sheet.specs.declared.Reading.the-variants.{Accepted}
-use Rattle.sheet.specs.Blocks.{Sheet, sheetOf}
-use Rattle.sheet.specs.Reading.{reading}
+use Rattle.sheet_rules.specs.declared.Layout.{Layout}
+use Rattle.sheet_rules.specs.Blocks.{Sheet, sheetOf}
+use Rattle.sheet_rules.specs.Reading.{accepted, reading}
 use Rattle.relational.specs.Trees.{Expression, Formula}
 use Rattle.relational.specs.Meaning.{Environment}
 use Rattle.relational.specs.Evaluation.{valueOf, truthOf}
@@ -70,14 +69,14 @@ module _ (sheet : Sheet) (instance : List ℕ) (cells : List Literal) (env : Env
 
 -- `match`: for every accepted sheet, instances within the scopes that satisfy marks and formula are read back from exactly one
 -- satisfying assignment, and every satisfying assignment reads back to one
-module _ (s : List ℕ) (layout : Layout) (accepted : reading s ≡ Accepted layout) where
+module _ (s : List ℕ) (layout : Layout) (taken : reading s ≡ accepted layout) where
   pub match : Match (sheetOf s)
   match =
       record {
-        once = λ i h. exactly-one (sheetOf s) i record { within = h .within; holds = accepted-holds s layout accepted i .1 (h .satisfies) };
+        once = λ i h. exactly-one (sheetOf s) i record { within = h .within; holds = accepted-holds s layout taken i .1 (h .satisfies) };
         reads = λ a h.
             let r = reads-instance (sheetOf s) a h in
-            record { within = r .within; satisfies = accepted-holds s layout accepted (readBack (sheetOf s) a) .0 (r .holds) };
+            record { within = r .within; satisfies = accepted-holds s layout taken (readBack (sheetOf s) a) .0 (r .holds) };
       }
 
   -- no satisfying assignment exactly when no instance satisfies
@@ -90,4 +89,4 @@ module _ (s : List ℕ) (layout : Layout) (accepted : reading s ≡ Accepted lay
   -- `listed`: the search takes the clauses as they are written, where they fit the limits
   pub listed : variableTotal (sheetOf s) ≤ 16000 → wordTotal (sheetOf s) ≤ 2147483647
       → isList (variableTotal (sheetOf s)) (words (sheetOf s)) ≡ true
-  listed = words-listed (sheetOf s) (accepted-rows s layout accepted)
+  listed = words-listed (sheetOf s) (accepted-rows s layout taken)

@@ -6,7 +6,7 @@ use Prim.Native.Nat.{ℕ, zero, suc}
 use lib.Dec.{eqb}
 use lib.ListN.{length, getD}
 use Rattle.literal.specs.Literals.{Literal, opposite}
-use Rattle.sheet.specs.Blocks.{Sheet, byte, scope, sortOf}
+use Rattle.sheet_rules.specs.Blocks.{Sheet, byte, scope, sortOf}
 use Rattle.relational.specs.Trees.{Leaf, relation, variable, atoms, identity, Expression, leaf, binary, unary, comprehension, Formula}
 use Rattle.relational.specs.Trees.{comparison, test, negation, connective, quantified, Tree, expression, formula, broken}
 use Rattle.relational.specs.Cells.{firstCell, cellsOf}

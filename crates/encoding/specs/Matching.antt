@@ -4,7 +4,7 @@ use mathlib.Core.Bool.{true}
 use mathlib.Core.List.{List}
 use Prim.Native.Nat.{ℕ}
 use Rattle.clause_list.specs.ClauseList.{clausesOf, Satisfying}
-use Rattle.sheet.specs.Blocks.{Sheet}
+use Rattle.sheet_rules.specs.Blocks.{Sheet}
 use Rattle.relational.specs.Cells.{withinScopes}
 use Rattle.relational.specs.Meaning.{Satisfies}
 use Rattle.encoding.specs.Whole.{words, variableTotal, readBack}

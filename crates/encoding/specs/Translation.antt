@@ -6,7 +6,7 @@ use mathlib.Core.List.{List, [], _∷_}
 use Prim.Native.Nat.{ℕ, zero, suc}
 use lib.ListN.{getD}
 use Rattle.literal.specs.Literals.{Literal, positive, negative, opposite}
-use Rattle.sheet.specs.Blocks.{Sheet, scope, sortOf}
+use Rattle.sheet_rules.specs.Blocks.{Sheet, scope, sortOf}
 use Rattle.relational.specs.Trees.{Binary, union, intersection, difference, join, product, Unary, inverse, closure, Comparison, equal}
 use Rattle.relational.specs.Trees.{within, Test, some, none, lone, Connective, conjunction, disjunction, implication, equivalence}
 use Rattle.relational.specs.Trees.{Quantifier, for-all, for-some, Expression, leaf, binary, unary, comprehension, Formula, comparison, test}

@@ -5,7 +5,7 @@ use lib.IntN.{ℤ}
 use lib.ListN.{length, take, drop}
 use Rattle.literal.specs.Literals.{Literal, positive, opposite, wordOf}
 use Rattle.clause_list.specs.ClauseList.{wordsOf}
-use Rattle.sheet.specs.Blocks.{Sheet, relationCount, multiplicity}
+use Rattle.sheet_rules.specs.Blocks.{Sheet, relationCount, multiplicity}
 use Rattle.relational.specs.Trees.{rootTree}
 use Rattle.relational.specs.Cells.{rowCount, rowLength, cellCount, cell}
 use Rattle.relational.specs.Matrices.{from, upto, pairs}

@@ -4,7 +4,7 @@ use mathlib.Core.Logic.{_⊎_, inl, inr}
 use mathlib.Core.List.{List}
 use Prim.Native.Nat.{ℕ, _+_, _*_}
 use native.Mathlib.Omega.{arith}
-use Rattle.sheet.specs.Blocks.{Sheet, columns, multiplicity}
+use Rattle.sheet_rules.specs.Blocks.{Sheet, columns, multiplicity}
 use Rattle.relational.specs.Trees.{relation}
 use Rattle.relational.specs.Cells.{rowCount, rowLength, firstCell, cell}
 use Rattle.relational.specs.Meaning.{Environment}
@@ -20,7 +20,7 @@ module _ (sheet : Sheet) where
   set-or-relation r (inr e) = inr e
 
   pub relation-leaf : (instance : List ℕ) (r first arity rows columns : ℕ) (env : Environment) → first ≡ firstCell sheet r
-      → arity ≡ Rattle.sheet.specs.Blocks.columns sheet r → rows ≡ rowCount sheet r → columns ≡ rowLength sheet r
+      → arity ≡ Rattle.sheet_rules.specs.Blocks.columns sheet r → rows ≡ rowCount sheet r → columns ≡ rowLength sheet r
       → sized arity rows columns (flagsFrom instance first (rows * columns)) ≡ valueLeaf sheet instance relation r env
   relation-leaf instance r first arity rows columns env ef ea er ec =
       λ i. sized (ea i) (er i) (ec i) (flagsFrom instance (ef i) (er i * ec i))

@@ -4,7 +4,7 @@ use mathlib.Core.Bool.{Bool, not}
 use mathlib.Core.List.{List}
 use Prim.Native.Nat.{ℕ}
 use lib.ListN.{replicate}
-use Rattle.sheet.specs.Blocks.{Sheet, scope, sortOf}
+use Rattle.sheet_rules.specs.Blocks.{Sheet, scope, sortOf}
 use Rattle.relational.specs.Trees.{Leaf, relation, variable, atoms, identity, Quantifier, for-all, for-some, leaf-symbol, quantifier-symbol}
 use Rattle.relational.specs.Trees.{symbolOf, Tree, expression, formula, broken}
 use Rattle.relational.specs.Matrices.{Matrix, setOf}

@@ -5,8 +5,8 @@ use mathlib.Core.List.{List, [], map}
 use Prim.Native.Nat.{ℕ}
 use lib.Dec.{eqb}
 use Rattle.prelude.specs.Tests.{each, all, any}
-use Rattle.sheet.specs.Blocks.{Sheet, scope, sortOf, multiplicity}
-use Rattle.sheet.specs.Facts.{Facts}
+use Rattle.sheet_rules.specs.Blocks.{Sheet, scope, sortOf, multiplicity}
+use Rattle.sheet_rules.specs.Facts.{Facts}
 use Rattle.relational.specs.Trees.{relation, variable, atoms, identity, Tree, expression, formula, broken}
 use Rattle.relational.specs.Cells.{rowCount}
 use Rattle.cells.specs.Private.{Starts}

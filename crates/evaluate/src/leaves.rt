@@ -3,7 +3,7 @@ ghost use mathlib.Core.Path.{_≡_};
 ghost use mathlib.Core.Bool.{cond};
 ghost use lib.Dec.{eqb};
 ghost use Prim.Native.Nat.{_<_};
-ghost use Rattle.sheet.specs.Blocks as blocks;
+ghost use Rattle.sheet_rules.specs.Blocks as blocks;
 ghost use Rattle.relational.specs.Trees as trees;
 ghost use Rattle.relational.specs.Meaning as meaning;
 ghost use Rattle.relational.specs.Evaluation as spec;

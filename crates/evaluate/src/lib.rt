@@ -1,6 +1,6 @@
 // The value of an expression and the truth of a formula in an instance (document 01, "Kinds and meanings"), and whether the marks hold.
 ghost use mathlib.Core.Path.{_≡_};
-ghost use Rattle.sheet.specs.Blocks as blocks;
+ghost use Rattle.sheet_rules.specs.Blocks as blocks;
 ghost use Rattle.relational.specs.Evaluation as spec;
 ghost use Rattle.evaluate.specs.Walking as walking;
 use marks::marks_hold;

@@ -1,7 +1,7 @@
 // Multiplicities: "For a relation the mark holds for each atom of the first sort; a set is a single row."
 ghost use mathlib.Core.Path.{_≡_};
 ghost use Prim.Native.Nat.{_<_};
-ghost use Rattle.sheet.specs.Blocks as blocks;
+ghost use Rattle.sheet_rules.specs.Blocks as blocks;
 ghost use Rattle.relational.specs.Evaluation as spec;
 ghost use Rattle.evaluate.specs.Walking as walking;
 use cells::row_count;

@@ -1,7 +1,7 @@
 // The walk: expressions contain formulas and formulas expressions, and the node number falls.
 ghost use mathlib.Core.Path.{_≡_};
 ghost use Prim.Native.Nat.{_<_};
-ghost use Rattle.sheet.specs.Blocks as blocks;
+ghost use Rattle.sheet_rules.specs.Blocks as blocks;
 ghost use Rattle.matrix.specs.Values.{Gives};
 ghost use Rattle.nodes.specs.Nodes.{IsExpression, IsFormula};
 ghost use Rattle.evaluate.specs.Walking as walking;

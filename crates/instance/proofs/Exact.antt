@@ -4,21 +4,20 @@ use mathlib.Core.Bool.{Bool, true, false}
 use mathlib.Core.List.{List}
 use Prim.Native.Nat.{ℕ}
 use native.Mathlib.Omega.{arith}
-use Rattle.sheet.specs.declared.Reading.{Reading}
-use Rattle.sheet.specs.declared.Reading.the-variants as r
-use Rattle.sheet.specs.Blocks.{sheetOf}
-use Rattle.sheet.specs.Reading.{reading}
+use Rattle.sheet_rules.specs.Blocks.{sheetOf}
+use Rattle.sheet_rules.specs.Reading as sheets
+use Rattle.sheet_rules.specs.Reading.{reading}
 use Rattle.relational.specs.Cells.{withinScopes}
 use Rattle.relational.specs.Meaning.{Satisfies}
 use Rattle.instance.specs.Answers.{Answer, yes, no, refused, Answers, CheckAnswers}
 
-one-answer : (judged : Reading) (within : Bool) (statement : Type 0) (a b : Answer) → Answers judged within statement a
+one-answer : (judged : sheets.Answer) (within : Bool) (statement : Type 0) (a b : Answer) → Answers judged within statement a
     → Answers judged within statement b → a ≡ b
-one-answer (r.Refused refusal) within statement a b p q = p ∙ sym q
-one-answer (r.Accepted layout) false statement a b p q = p ∙ sym q
-one-answer (r.Accepted layout) true statement yes b p q = sym (q .0 .1 (p .0 .0 refl))
-one-answer (r.Accepted layout) true statement no b p q = sym (q .1 .1 (p .1 .0 refl))
-one-answer (r.Accepted layout) true statement (refused n) b p q =
+one-answer (sheets.refused m) within statement a b p q = p ∙ sym q
+one-answer (sheets.accepted layout) false statement a b p q = p ∙ sym q
+one-answer (sheets.accepted layout) true statement yes b p q = sym (q .0 .1 (p .0 .0 refl))
+one-answer (sheets.accepted layout) true statement no b p q = sym (q .1 .1 (p .1 .0 refl))
+one-answer (sheets.accepted layout) true statement (refused n) b p q =
     let apart-yes : refused n ≡ yes → ⊥ = λ e. let z : _≡_ {A = ℕ} 0 1 = cc in omega arith in
     let apart-no : refused n ≡ no → ⊥ = λ e. let z : _≡_ {A = ℕ} 0 1 = cc in omega arith in
     absurd (apart-no (p .1 .1 (λ s. apart-yes (p .0 .1 s))))

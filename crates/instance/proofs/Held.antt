@@ -1,5 +1,5 @@
 -- What the boolean evaluation answers is what the definition asks.
-use mathlib.Core.Path.{_≡_, refl, sym, _∙_}
+use mathlib.Core.Path.{_≡_, refl, sym, ap, subst, _∙_}
 use mathlib.Core.Logic.{_↔_}
 use mathlib.Core.Bool.{Bool, true, false, cond, true≢false}
 use mathlib.Core.List.{List}
@@ -9,21 +9,19 @@ use lib.Dec.{leb}
 use lib.ListN.{length}
 use borrow.Author.Tests.{eq-eqb, ne-eqb}
 use Rattle.prelude.specs.Tests.{all}
-use Rattle.refusal.specs.declared.Refusal.{Refusal}
-use Rattle.refusal.specs.Refusals.{numberOf}
-use Rattle.sheet.specs.declared.Layout.{Layout}
-use Rattle.sheet.specs.declared.Reading.the-variants as r
-use Rattle.sheet.specs.Blocks.{Sheet, sheetOf}
-use Rattle.sheet.specs.Reading.{reading}
+use Rattle.sheet_rules.specs.declared.Layout.{Layout}
+use Rattle.sheet_rules.specs.Blocks.{Sheet, sheetOf}
+use Rattle.sheet_rules.specs.Reading as sheets
+use Rattle.sheet_rules.specs.Reading.{reading}
 use Rattle.relational.specs.Cells.{cellCount, withinScopes}
 use Rattle.relational.specs.Meaning.{Satisfies}
 use Rattle.relational.specs.Evaluation.{holds}
 use Rattle.relational.proofs.Accepted.{accepted-holds}
 use Rattle.instance.specs.Answers.{Answer, yes, no, refused, Answers, CheckAnswers}
-use Rattle.instance.specs.Held.{heldAnswer}
+use Rattle.instance.specs.Held.{heldAnswer, checkAfter, checkAnswer}
 
 by-truth : (layout : Layout) (within truth : Bool) (statement : Type 0) → (truth ≡ true) ↔ statement
-    → Answers (r.Accepted layout) within statement (cond within (cond truth yes no) (refused 11))
+    → Answers (sheets.accepted layout) within statement (cond within (cond truth yes no) (refused 11))
 by-truth layout false truth statement h = refl
 by-truth layout true true statement h = (
   ((λ e. h .0 refl), λ s. refl),
@@ -34,13 +32,32 @@ by-truth layout true false statement h = (
   ((λ e s. true≢false (sym (h .1 s))), λ f. refl),
 )
 
-pub held : (sheet instance : List ℕ) (layout : Layout) (answer : Answer) → reading sheet ≡ r.Accepted layout
-    → answer ≡ heldAnswer (sheetOf sheet) instance → CheckAnswers sheet instance answer
-unfolding CheckAnswers heldAnswer
-held sheet instance layout answer e h =
-    rw (e, h)
-    (by-truth layout (withinScopes (sheetOf sheet) instance) (holds (sheetOf sheet) instance) (Satisfies (sheetOf sheet) instance)
-    (accepted-holds sheet layout e instance))
+by-reading : (sheet instance : List ℕ) (judged : sheets.Answer) → reading sheet ≡ judged
+    → Answers judged (withinScopes (sheetOf sheet) instance) (Satisfies (sheetOf sheet) instance) (checkAfter judged (sheetOf sheet) instance)
+unfolding heldAnswer
+by-reading sheet instance (sheets.refused n) e = refl
+by-reading sheet instance (sheets.accepted layout) e =
+    by-truth layout (withinScopes (sheetOf sheet) instance) (holds (sheetOf sheet) instance) (Satisfies (sheetOf sheet) instance)
+    (accepted-holds sheet layout e instance)
+
+-- the value is the answer that is meant, for every sheet and instance
+pub answers : (sheet instance : List ℕ) → CheckAnswers sheet instance (checkAnswer sheet instance)
+unfolding CheckAnswers checkAnswer
+answers sheet instance = by-reading sheet instance (reading sheet) refl
+
+-- what `check` ensures, from the value
+pub ensured : (sheet instance : List ℕ) {answer : Answer} → answer ≡ checkAnswer sheet instance
+    → CheckAnswers sheet instance answer × (answer ≡ checkAnswer sheet instance)
+ensured sheet instance e = (subst (CheckAnswers sheet instance) (sym e) (answers sheet instance), e)
+
+pub held : (sheet instance : List ℕ) (layout : Layout) → reading sheet ≡ sheets.accepted layout
+    → heldAnswer (sheetOf sheet) instance ≡ checkAnswer sheet instance
+unfolding checkAnswer
+held sheet instance layout e = ap (λ a. checkAfter a (sheetOf sheet) instance) (sym e)
+
+pub declined : (sheet instance : List ℕ) (n : ℕ) → reading sheet ≡ sheets.refused n → refused n ≡ checkAnswer sheet instance
+unfolding checkAnswer
+declined sheet instance n e = ap (λ a. checkAfter a (sheetOf sheet) instance) (sym e)
 
 -- ---- the two tests of 11, and then the evaluation
 module _ (sheet : Sheet) (instance : List ℕ) (count : ℕ) (e : count ≡ cellCount sheet) where
@@ -57,8 +74,3 @@ module _ (sheet : Sheet) (instance : List ℕ) (count : ℕ) (e : count ≡ cell
       → truth ≡ holds sheet instance → cond truth yes no ≡ heldAnswer sheet instance
   unfolding heldAnswer withinScopes
   evaluated fine truth l h f t = rw (eq-eqb (length instance) (cellCount sheet) (l ∙ e), ← h, f, ← t)
-
-pub declined : (sheet instance : List ℕ) (refusal : Refusal) → reading sheet ≡ r.Refused refusal
-    → CheckAnswers sheet instance (refused (numberOf refusal))
-unfolding CheckAnswers
-declined sheet instance refusal e = rw e refl

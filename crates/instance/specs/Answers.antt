@@ -5,10 +5,9 @@ use mathlib.Core.Bool.{Bool, true, false}
 use mathlib.Core.List.{List}
 use Prim.Native.Nat.{ℕ}
 use Rattle.refusal.specs.Refusals.{numberOf}
-use Rattle.sheet.specs.declared.Reading.{Reading}
-use Rattle.sheet.specs.declared.Reading.the-variants as r
-use Rattle.sheet.specs.Blocks.{sheetOf}
-use Rattle.sheet.specs.Reading.{reading}
+use Rattle.sheet_rules.specs.Blocks.{sheetOf}
+use Rattle.sheet_rules.specs.Reading as sheets
+use Rattle.sheet_rules.specs.Reading.{reading}
 use Rattle.relational.specs.Cells.{withinScopes}
 use Rattle.relational.specs.Meaning.{Satisfies}
 use Rattle.instance.specs.declared.answer.Check.{Check}
@@ -26,10 +25,10 @@ answerOf (Refused refusal) = refused (numberOf refusal)
 
 -- "The check takes 1 to 9 and 11": those of reading, then 11 CELLS, "an instance of the wrong length, or a cell not 0 or 1";
 -- else yes exactly when the statement holds, and no exactly when it does not
-abbrev pub Answers : Reading → Bool → Type 0 → Answer → Type 0
-Answers (r.Refused refusal) within statement answer = answer ≡ refused (numberOf refusal)
-Answers (r.Accepted layout) false statement answer = answer ≡ refused 11
-Answers (r.Accepted layout) true statement answer = ((answer ≡ yes) ↔ statement) × ((answer ≡ no) ↔ (statement → ⊥))
+abbrev pub Answers : sheets.Answer → Bool → Type 0 → Answer → Type 0
+Answers (sheets.refused n) within statement answer = answer ≡ refused n
+Answers (sheets.accepted layout) false statement answer = answer ≡ refused 11
+Answers (sheets.accepted layout) true statement answer = ((answer ≡ yes) ↔ statement) × ((answer ≡ no) ↔ (statement → ⊥))
 
 -- the answer for a sheet and an instance: does it satisfy marks and formula?
 unfoldable pub CheckAnswers : List ℕ → List ℕ → Answer → Type 0

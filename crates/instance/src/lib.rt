@@ -3,21 +3,20 @@ ghost use mathlib.Core.Path.{_≡_};
 ghost use Prim.Native.Nat.{ℕ};
 ghost use lib.Dec.{leb};
 ghost use Rattle.prelude.specs.Tests.{all};
-ghost use Rattle.sheet.specs.declared.Reading as accepted;
-ghost use Rattle.sheet.specs.Blocks as blocks;
-ghost use Rattle.sheet.specs.Facts.{Facts};
-ghost use Rattle.sheet.specs.Reading.{reading};
+ghost use Rattle.sheet_rules.specs.Blocks as blocks;
+ghost use Rattle.sheet_rules.specs.Facts.{Facts};
+ghost use Rattle.sheet_rules.specs.Reading.{accepted, reading};
 ghost use Rattle.instance.specs.Answers.{CheckAnswers, answerOf};
-ghost use Rattle.instance.specs.Held.{heldAnswer};
+ghost use Rattle.instance.specs.Held.{heldAnswer, checkAnswer};
 use answer::Check;
 use cells::first_cells;
 use evaluate::holds;
 use matrix::flags::both;
 use refusal::Refusal;
-use sheet::Layout;
 use sheet::Reading;
 use sheet::bytes::byte;
 use sheet::read;
+use sheet_rules::Layout;
 
 pub mod answer; // answer.rt: yes, no or a refusal
 
@@ -65,8 +64,8 @@ fn check_blocks(
 
 // The blocks of an accepted sheet, each handed on as the part of the sheet where it stands.
 fn check_accepted(sheet: &[u8], instance: &[u8], layout: Layout) -> Check
-    requires { ⌜ reading (now sheet) ≡ accepted.Reading.Accepted layout ⌝ }
-    ensures { λ r. ⌜ CheckAnswers (now (sheet .entry)) (now (instance .entry)) (answerOf r) ⌝ }
+    requires { ⌜ reading (now sheet) ≡ accepted layout ⌝ }
+    ensures { λ r. ⌜ answerOf r ≡ checkAnswer (now (sheet .entry)) (now (instance .entry)) ⌝ }
 {
     let sorts = layout.sorts;
     let variables = layout.variables;
@@ -89,9 +88,10 @@ fn check_accepted(sheet: &[u8], instance: &[u8], layout: Layout) -> Check
     )
 }
 
-// Whether the instance satisfies the marks and the formula of the sheet.
+// Whether the instance satisfies the marks and the formula of the sheet: what the answer means, and which it is.
 pub fn check(sheet: &[u8], instance: &[u8]) -> Check
     ensures { λ r. ⌜ CheckAnswers (now (sheet .entry)) (now (instance .entry)) (answerOf r) ⌝ }
+    ensures { λ r. ⌜ answerOf r ≡ checkAnswer (now (sheet .entry)) (now (instance .entry)) ⌝ }
 {
     let answer = read(sheet);
     match answer {

@@ -8,7 +8,7 @@ use lib.IntN.{ℤ}
 use lib.ListN.{length, take}
 use lib.Seq.{length-take-le}
 use Rattle.literal.specs.Literals.{Literal}
-use Rattle.sheet.specs.Blocks.{Sheet}
+use Rattle.sheet_rules.specs.Blocks.{Sheet}
 use Rattle.relational.specs.Cells.{rowLength, firstCell, cell}
 use Rattle.relational.proofs.Places.{length-map-from, from-at}
 use Rattle.encoding.specs.Translation.{absent, literalAt}

@@ -3,7 +3,7 @@ use mathlib.Core.Path.{_≡_, refl, ap}
 use mathlib.Core.List.{List, map}
 use Prim.Native.Nat.{ℕ, zero, suc, _+_, _*_}
 use Rattle.literal.specs.Literals.{Literal}
-use Rattle.sheet.specs.Blocks.{Sheet, multiplicity}
+use Rattle.sheet_rules.specs.Blocks.{Sheet, multiplicity}
 use Rattle.relational.specs.Cells.{rowCount, rowLength, cellsOf, firstCell}
 use Rattle.relational.specs.Matrices.{from}
 use Rattle.encoding.specs.Gates.{Clause}

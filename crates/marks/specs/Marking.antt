@@ -5,7 +5,7 @@ use Prim.Native.Nat.{ℕ, _+_, _≤_, _<_}
 use lib.IntN.{ℤ}
 use lib.ListN.{length}
 use Rattle.literal.specs.Literals.{Literal}
-use Rattle.sheet.specs.Blocks.{Sheet, fourBlocks, relationCount, multiplicity}
+use Rattle.sheet_rules.specs.Blocks.{Sheet, fourBlocks, relationCount, multiplicity}
 use Rattle.cells.specs.Private.{Scopes}
 use Rattle.relational.specs.Cells.{rowCount, rowLength}
 use Rattle.encoding.specs.Gates.{Clause}

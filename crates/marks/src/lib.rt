@@ -2,7 +2,7 @@
 ghost use mathlib.Core.List.{[], _∷_, map};
 ghost use Prim.Native.Nat.{_<_};
 ghost use Rattle.literal.specs.Literals.{literalOf};
-ghost use Rattle.sheet.specs.Blocks.{relationCount};
+ghost use Rattle.sheet_rules.specs.Blocks.{relationCount};
 ghost use Rattle.relational.specs.Matrices.{pairs};
 ghost use Rattle.encoding.specs.Whole.{pairClause, rowClauses, markClauses};
 ghost use Rattle.emission.specs.Emission.{Inside, AllInside, literalsOf};

@@ -13,7 +13,7 @@ use Rattle.relational.specs.Matrices.{upto}
 use Rattle.relational.specs.Evaluation.{count}
 use Rattle.relational.proofs.Places.{from-suc, upto-suc}
 use Rattle.matrix.specs.Values.{counted, flagsFrom}
-use Rattle.sheet.specs.Blocks.{byte}
+use Rattle.sheet_rules.specs.Blocks.{byte}
 use lib.Dec.{eqb}
 
 or-last : (a b : Bool) → (a || (b || false)) ≡ (a || b)

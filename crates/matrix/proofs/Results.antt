@@ -9,7 +9,7 @@ use lib.Dec.{eqb}
 use lib.ListN.{getD, take}
 use borrow.Author.Tests.{eq-eqb, ne-eqb}
 use Rattle.prelude.specs.Tests.{any}
-use Rattle.sheet.specs.Blocks.{byte}
+use Rattle.sheet_rules.specs.Blocks.{byte}
 use Rattle.relational.specs.Trees.{join, product, inverse}
 use Rattle.relational.specs.Matrices.{Matrix, upto, Place, places, setOf, relationOf, sameSize, joinColumns, matched, middles, crossed}
 use Rattle.relational.specs.Evaluation.{both, joinCells, valueBinary, valueUnary}

@@ -5,7 +5,7 @@ use mathlib.Core.List.{List}
 use Prim.Native.Nat.{ℕ, zero, suc}
 use native.Mathlib.Omega.{arith}
 use borrow.Author.Tests.{ne-eqb}
-use Rattle.sheet.specs.Blocks.{Sheet}
+use Rattle.sheet_rules.specs.Blocks.{Sheet}
 use Rattle.relational.specs.Trees.{Binary, union, intersection, difference, join, product, Unary}
 use Rattle.relational.specs.Trees.{inverse, closure, Comparison, equal, within, Test, some, none, lone, Connective, conjunction, disjunction}
 use Rattle.relational.specs.Trees.{implication, equivalence, binary-symbol, unary-symbol}

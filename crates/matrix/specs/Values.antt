@@ -7,7 +7,7 @@ use mathlib.Core.List.{List, map}
 use Prim.Native.Nat.{ℕ, suc, _*_, _≤_}
 use lib.Dec.{eqb}
 use lib.ListN.{length, getD, take}
-use Rattle.sheet.specs.Blocks.{byte}
+use Rattle.sheet_rules.specs.Blocks.{byte}
 use Rattle.relational.specs.Matrices.{Matrix, from}
 use Rattle.matrix.specs.declared.Value.{Value}
 

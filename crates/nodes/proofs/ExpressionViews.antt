@@ -3,8 +3,8 @@ use mathlib.Core.Path.{_≡_, refl, sym, _∙_}
 use Prim.Native.Nat.{ℕ, _<_}
 use native.Mathlib.Omega.{arith}
 use Rattle.kinds.specs.Kinds.{rowOf}
-use Rattle.sheet.specs.Blocks.{Sheet, variableCount, relationCount, nodeCount, kind, fieldA, fieldB}
-use Rattle.sheet.specs.Facts.{Facts}
+use Rattle.sheet_rules.specs.Blocks.{Sheet, variableCount, relationCount, nodeCount, kind, fieldA, fieldB}
+use Rattle.sheet_rules.specs.Facts.{Facts}
 use Rattle.relational.specs.Trees.{Leaf, relation, Binary, Unary, Expression, leaf, binary, unary, comprehension, Symbol, leaf-symbol, binary-symbol, unary-symbol, comparison-symbol, test-symbol, connective-symbol, quantifier-symbol, comprehension-symbol, negation-symbol, unknown-symbol, symbolOf, treeBy, expression}
 use Rattle.nodes.specs.declared.forms.ExpressionForm.{ExpressionForm}
 use Rattle.nodes.specs.declared.forms.ExpressionForm.the-variants as form

@@ -3,8 +3,8 @@ use mathlib.Core.Path.{_≡_, refl, sym, _∙_}
 use Prim.Native.Nat.{ℕ, _<_}
 use native.Mathlib.Omega.{arith}
 use Rattle.kinds.specs.Kinds.{rowOf}
-use Rattle.sheet.specs.Blocks.{Sheet, variableCount, nodeCount, kind, fieldA, fieldB}
-use Rattle.sheet.specs.Facts.{Facts}
+use Rattle.sheet_rules.specs.Blocks.{Sheet, variableCount, nodeCount, kind, fieldA, fieldB}
+use Rattle.sheet_rules.specs.Facts.{Facts}
 use Rattle.relational.specs.Trees.{Comparison, Test, Connective, Quantifier, leaf, Formula, comparison, test, negation, connective, quantified, Symbol, leaf-symbol, binary-symbol, unary-symbol, comparison-symbol, test-symbol, connective-symbol, quantifier-symbol, comprehension-symbol, negation-symbol, unknown-symbol, symbolOf, treeBy, formula}
 use Rattle.nodes.specs.declared.forms.FormulaForm.{FormulaForm}
 use Rattle.nodes.specs.declared.forms.FormulaForm.the-variants as claim

@@ -1,8 +1,8 @@
 -- The root of an accepted sheet is a formula.
 use mathlib.Core.Path.{ap}
 use Rattle.shapes.specs.Shapes.{isFormula}
-use Rattle.sheet.specs.Blocks.{Sheet, sortOf, root}
-use Rattle.sheet.specs.Facts.{Facts}
+use Rattle.sheet_rules.specs.Blocks.{Sheet, sortOf, root}
+use Rattle.sheet_rules.specs.Facts.{Facts}
 use Rattle.relational.proofs.Satisfaction.{Sound, root-is}
 use Rattle.nodes.specs.Nodes.{IsFormula}
 

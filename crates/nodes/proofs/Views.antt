@@ -8,10 +8,10 @@ use lib.Dec.{ltb}
 use lib.ListN.{getD, List·getD-eq-default}
 use borrow.Author.Tests.{ltb-true, ltb-false}
 use Rattle.prelude.proofs.Laws.{decided}
-use Rattle.sheet.specs.Blocks.{Sheet, nodeCount, kind, fieldA, fieldB}
-use Rattle.sheet.specs.Tables.{table}
-use Rattle.sheet.specs.Reading.{fieldFine}
-use Rattle.sheet.specs.Facts.{Facts}
+use Rattle.sheet_rules.specs.Blocks.{Sheet, nodeCount, kind, fieldA, fieldB}
+use Rattle.sheet_rules.specs.Tables.{table}
+use Rattle.sheet_rules.specs.Reading.{fieldFine}
+use Rattle.sheet_rules.specs.Facts.{Facts}
 use Rattle.relational.specs.Trees.{Leaf, relation, variable, atoms, identity, Binary, union, intersection, difference, join, product, Unary, inverse, closure, Comparison, Test, Connective, Quantifier, Expression, Formula, Symbol, leaf-symbol, binary-symbol, unary-symbol, comparison-symbol, test-symbol, connective-symbol, quantifier-symbol, comprehension-symbol, negation-symbol, unknown-symbol, symbolOf, Tree, expression, formula, broken, withExpression, withFormula, treeBy, treeStep, trees}
 use Rattle.nodes.specs.declared.forms.ExpressionForm.{ExpressionForm}
 use Rattle.nodes.specs.declared.forms.ExpressionForm.the-variants as form
@@ -19,7 +19,7 @@ use Rattle.nodes.specs.declared.forms.FormulaForm.{FormulaForm}
 use Rattle.nodes.specs.declared.forms.FormulaForm.the-variants as claim
 use Rattle.nodes.specs.declared.forms.Node.{Node}
 use Rattle.nodes.specs.Nodes.{expressionForm, formulaForm, nodeAt, treeAt, IsExpression, IsFormula}
-use Rattle.sheet.proofs.TableLaws.{table-length, table-at, table-same}
+use Rattle.sheet_rules.proofs.TableLaws.{table-length, table-at, table-same}
 use Rattle.relational.proofs.Rows.{rowOfSymbol, row-of-symbol}
 
 -- ---- a tree that another grows from

@@ -4,23 +4,21 @@ use mathlib.Core.Logic.{_↔_}
 use mathlib.Core.Bool.{Bool, true, false, false≢true}
 use mathlib.Core.List.{List}
 use Prim.Native.Nat.{ℕ}
-use Rattle.sheet.specs.declared.Layout.{Layout}
-use Rattle.sheet.specs.declared.Reading.{Reading}
-use Rattle.sheet.specs.declared.Reading.the-variants.{Accepted, Refused}
-use Rattle.sheet.specs.Blocks.{sheetOf}
-use Rattle.sheet.specs.Reading.{reading}
-use Rattle.sheet.proofs.Acceptance.{conditions}
+use Rattle.sheet_rules.specs.declared.Layout.{Layout}
+use Rattle.sheet_rules.specs.Blocks.{sheetOf}
+use Rattle.sheet_rules.specs.Reading.{Answer, accepted, refused, reading}
+use Rattle.sheet_rules.proofs.Acceptance.{conditions}
 use Rattle.relational.specs.Meaning.{Satisfies}
 use Rattle.relational.specs.Evaluation.{holds}
 use Rattle.relational.proofs.Satisfaction.{Sound, sound, holds-satisfies}
 
-abbrev pub isAccepted : Reading → Bool
-isAccepted (Accepted l) = true
-isAccepted (Refused r) = false
+abbrev pub isAccepted : Answer → Bool
+isAccepted (accepted l) = true
+isAccepted (refused n) = false
 
-has-layout : (r : Reading) → isAccepted r ≡ true → (l : Layout) × (r ≡ Accepted l)
-has-layout (Accepted l) e = (l, refl)
-has-layout (Refused r) e = absurd (false≢true e)
+has-layout : (a : Answer) → isAccepted a ≡ true → (l : Layout) × (a ≡ accepted l)
+has-layout (accepted l) e = (l, refl)
+has-layout (refused n) e = absurd (false≢true e)
 
 pub accepted-sound : (s : List ℕ) → isAccepted (reading s) ≡ true → Sound (sheetOf s)
 accepted-sound s e =
@@ -29,6 +27,6 @@ accepted-sound s e =
     sound (sheetOf s) (c .is-scoped) (c .is-declared) (c .is-fine) (c .is-rooted)
 
 -- for every accepted sheet and every instance
-pub accepted-holds : (s : List ℕ) (l : Layout) → reading s ≡ Accepted l → (instance : List ℕ)
+pub accepted-holds : (s : List ℕ) (l : Layout) → reading s ≡ accepted l → (instance : List ℕ)
     → (holds (sheetOf s) instance ≡ true) ↔ Satisfies (sheetOf s) instance
 accepted-holds s l e instance = holds-satisfies (sheetOf s) (accepted-sound s (ap isAccepted e)) instance

@@ -8,9 +8,9 @@ use lib.ListN.{getD, length}
 use Rattle.prelude.specs.Tests.{each, all, any}
 use Rattle.prelude.proofs.Laws.{and-left, and-right, all-at}
 use Rattle.kinds.specs.Kinds.{rowOf}
-use Rattle.sheet.specs.Blocks.{Sheet, sheetOf}
-use Rattle.sheet.specs.Tables.{table, shapeStep, freeStep, visitsStep}
-use Rattle.sheet.specs.Reading.{counted, scoped, declared, nodesFine, shaped, rooted, walkable, reading}
+use Rattle.sheet_rules.specs.Blocks.{Sheet, sheetOf}
+use Rattle.sheet_rules.specs.Tables.{table, shapeStep, freeStep, visitsStep}
+use Rattle.sheet_rules.specs.Reading.{counted, scoped, declared, nodesFine, shaped, rooted, walkable, reading}
 use Rattle.relational.specs.Trees.{symbolOf, treeStep}
 use Rattle.relational.specs.Cells.{firstCell, withinScopes}
 use Rattle.relational.specs.Matrices.{rounds, Matrix, relationOf}

@@ -9,7 +9,7 @@ use lib.Dec.{eqb}
 use lib.ListN.{getD}
 use borrow.Author.Tests.{eq-eqb, ne-eqb}
 use Rattle.shapes.specs.declared.Shape.{Shape}
-use Rattle.sheet.specs.Blocks.{Sheet, byte, scope, variableCount, sortOf, columns, firstSort, secondSort}
+use Rattle.sheet_rules.specs.Blocks.{Sheet, byte, scope, variableCount, sortOf, columns, firstSort, secondSort}
 use Rattle.relational.specs.Trees.{relation, variable, atoms, identity, Expression, comprehension, Formula}
 use Rattle.relational.specs.Cells.{rowLength, firstCell, cell}
 use Rattle.relational.specs.Meaning.{Tuple, one, two, Environment, bind, IsAtom, Given, Denoted, Member, Holds}

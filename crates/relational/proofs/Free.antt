@@ -9,8 +9,8 @@ use lib.ListN.{getD}
 use borrow.Author.Tests.{eq-eqb, eqb-true, ne-eqb, eqb-false}
 use Rattle.prelude.proofs.Laws.{and-left, and-right, and-both, or-left, or-right, or-cases, decided}
 use Rattle.shapes.specs.declared.Shape.{Shape}
-use Rattle.sheet.specs.Blocks.{Sheet, variableCount, scope, sortOf, kind, fieldA, fieldB, nodeCount}
-use Rattle.sheet.specs.Tables.{freeBy, freeStep, free}
+use Rattle.sheet_rules.specs.Blocks.{Sheet, variableCount, scope, sortOf, kind, fieldA, fieldB, nodeCount}
+use Rattle.sheet_rules.specs.Tables.{freeBy, freeStep, free}
 use Rattle.relational.specs.Trees.{relation, variable, atoms, identity, Expression, leaf, binary, unary, comprehension, Formula, comparison}
 use Rattle.relational.specs.Trees.{test, negation, connective, quantified, Symbol, leaf-symbol, binary-symbol, unary-symbol}
 use Rattle.relational.specs.Trees.{comparison-symbol, test-symbol, connective-symbol, quantifier-symbol, comprehension-symbol}

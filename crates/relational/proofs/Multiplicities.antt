@@ -7,7 +7,7 @@ use Prim.Native.Nat.{ℕ, zero, suc, _+_, _<_}
 use native.Mathlib.Omega.{arith}
 use lib.ListN.{getD}
 use Rattle.prelude.specs.Tests.{each}
-use Rattle.sheet.specs.Blocks.{Sheet, byte, scope, relationCount, columns, multiplicity, firstSort, secondSort}
+use Rattle.sheet_rules.specs.Blocks.{Sheet, byte, scope, relationCount, columns, multiplicity, firstSort, secondSort}
 use Rattle.relational.specs.Cells.{rowCount, rowLength, cell}
 use Rattle.relational.specs.Meaning.{Atom, one, two, IsAtom, Given, Marked, Marks}
 use Rattle.relational.specs.Matrices.{from}

@@ -13,11 +13,11 @@ use Rattle.prelude.specs.Tests.{between, each}
 use Rattle.prelude.proofs.Laws.{clash, and-left, and-right, each-at, between-low, between-high}
 use Rattle.kinds.specs.Kinds.{rowOf, isKnown}
 use Rattle.shapes.specs.declared.Shape.the-variants.{Ill}
-use Rattle.sheet.specs.Blocks.{Sheet, sortCount, scope, variableCount, sortOf, relationCount, columns, multiplicity, firstSort, secondSort}
-use Rattle.sheet.specs.Blocks.{nodeCount, kind, fieldA, fieldB, root}
+use Rattle.sheet_rules.specs.Blocks.{Sheet, sortCount, scope, variableCount, sortOf, relationCount, columns, multiplicity, firstSort, secondSort}
+use Rattle.sheet_rules.specs.Blocks.{nodeCount, kind, fieldA, fieldB, root}
 use Rattle.shapes.specs.Shapes.{isFormula}
-use Rattle.sheet.specs.Tables.{shapes, free}
-use Rattle.sheet.specs.Reading.{fieldFine, nodeFine, nodesFine, isSort, relationDeclared, declared, scoped, rooted}
+use Rattle.sheet_rules.specs.Tables.{shapes, free}
+use Rattle.sheet_rules.specs.Reading.{fieldFine, nodeFine, nodesFine, isSort, relationDeclared, declared, scoped, rooted}
 use Rattle.relational.specs.Trees.{Formula, formula, rootTree}
 use Rattle.relational.specs.Meaning.{Environment, Holds, IsTrue, Satisfies}
 use Rattle.relational.specs.Evaluation.{truthOf, marksHold, truthOfTree, holds}

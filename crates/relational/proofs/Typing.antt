@@ -5,7 +5,7 @@ use Prim.Native.Nat.{ℕ, _<_}
 use Rattle.shapes.specs.declared.Shape.{Shape}
 use Rattle.shapes.specs.declared.Shape.the-variants.{Ill, SetOf, RelationOf}
 use Rattle.shapes.specs.declared.Shape.the-variants as shape
-use Rattle.sheet.specs.Blocks.{Sheet, scope, variableCount, sortOf, columns, firstSort, secondSort}
+use Rattle.sheet_rules.specs.Blocks.{Sheet, scope, variableCount, sortOf, columns, firstSort, secondSort}
 use Rattle.relational.specs.Trees.{relation, variable, atoms, identity, union, intersection, difference, join, product, inverse, closure}
 use Rattle.relational.specs.Trees.{Comparison, Test, Connective, Quantifier, Expression, leaf, binary, unary, comprehension, Formula}
 use Rattle.relational.specs.Trees.{comparison, test, negation, connective, quantified}

@@ -13,11 +13,11 @@ use Rattle.kinds.specs.Kinds.{rowOf}
 use Rattle.shapes.specs.declared.Shape.{Shape}
 use Rattle.shapes.specs.declared.Shape.the-variants.{Ill, SetOf, RelationOf}
 use Rattle.shapes.specs.declared.Shape.the-variants as shape
-use Rattle.sheet.specs.Blocks.{Sheet, variableCount, sortOf, relationCount, columns, firstSort, secondSort, kind, fieldA, fieldB, nodeCount, root}
+use Rattle.sheet_rules.specs.Blocks.{Sheet, variableCount, sortOf, relationCount, columns, firstSort, secondSort, kind, fieldA, fieldB, nodeCount, root}
 use Rattle.shapes.specs.Shapes.{only, isFormula, isExpression, equalShape, joinShape, productShape, inverseShape, closureShape}
 use Rattle.shapes.specs.Shapes.{shapeBy}
-use Rattle.sheet.specs.Tables.{declaredShape, table, shapeStep, shapes}
-use Rattle.sheet.specs.Reading.{fieldFine}
+use Rattle.sheet_rules.specs.Tables.{declaredShape, table, shapeStep, shapes}
+use Rattle.sheet_rules.specs.Reading.{fieldFine}
 use Rattle.relational.specs.Trees.{relation, variable, atoms, identity, Binary, union, intersection, difference, join, product, inverse}
 use Rattle.relational.specs.Trees.{closure, Comparison, Test, Connective, Quantifier, Expression, binary, Formula, Symbol, leaf-symbol}
 use Rattle.relational.specs.Trees.{binary-symbol, unary-symbol, comparison-symbol, test-symbol, connective-symbol, quantifier-symbol}

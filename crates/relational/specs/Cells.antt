@@ -5,7 +5,7 @@ use Prim.Native.Nat.{ℕ, zero, suc, _+_, _*_}
 use lib.Dec.{eqb, leb}
 use lib.ListN.{length}
 use Rattle.prelude.specs.Tests.{all}
-use Rattle.sheet.specs.Blocks.{Sheet, scope, relationCount, columns, firstSort, secondSort}
+use Rattle.sheet_rules.specs.Blocks.{Sheet, scope, relationCount, columns, firstSort, secondSort}
 
 module _ (sheet : Sheet) where
   -- "columns (1 a set, 2 a relation)"

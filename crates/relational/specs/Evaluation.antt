@@ -5,7 +5,7 @@ use mathlib.Core.List.{List, [], _∷_, map}
 use Prim.Native.Nat.{ℕ, zero, suc}
 use lib.Dec.{eqb, leb}
 use Rattle.prelude.specs.Tests.{each, all, any}
-use Rattle.sheet.specs.Blocks.{Sheet, byte, scope, sortOf, relationCount, multiplicity}
+use Rattle.sheet_rules.specs.Blocks.{Sheet, byte, scope, sortOf, relationCount, multiplicity}
 use Rattle.relational.specs.Trees.{Leaf, Binary, union, intersection, difference, join, product, Unary, inverse, closure, Comparison, equal}
 use Rattle.relational.specs.Trees.{within, Test, some, none, lone, Connective, conjunction, disjunction, implication, equivalence, Quantifier}
 use Rattle.relational.specs.Trees.{for-all, for-some, Expression, leaf, binary, unary, comprehension, Formula, comparison, test, negation}

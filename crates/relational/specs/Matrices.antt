@@ -6,7 +6,7 @@ use mathlib.Core.List.{List, [], _∷_, _++_, map}
 use Prim.Native.Nat.{ℕ, zero, suc, _+_, _*_, _^_}
 use lib.Dec.{eqb, leb}
 use lib.ListN.{getD}
-use Rattle.sheet.specs.Blocks.{Sheet, scope, sortOf, columns}
+use Rattle.sheet_rules.specs.Blocks.{Sheet, scope, sortOf, columns}
 use Rattle.relational.specs.Trees.{Leaf, relation, variable, atoms, identity}
 use Rattle.relational.specs.Cells.{rowCount, rowLength, cellsOf, firstCell}
 use Rattle.relational.specs.Meaning.{Environment}

@@ -5,7 +5,7 @@ use mathlib.Core.Bool.{cond}
 use mathlib.Core.List.{List}
 use Prim.Native.Nat.{ℕ, zero, suc, _<_}
 use lib.Dec.{eqb}
-use Rattle.sheet.specs.Blocks.{Sheet, byte, scope, sortOf, relationCount, columns, multiplicity, firstSort, secondSort}
+use Rattle.sheet_rules.specs.Blocks.{Sheet, byte, scope, sortOf, relationCount, columns, multiplicity, firstSort, secondSort}
 use Rattle.relational.specs.Trees.{Leaf, relation, variable, atoms, identity, Binary, union, intersection, difference, join, product, Unary}
 use Rattle.relational.specs.Trees.{inverse, closure, Comparison, equal, within, Test, some, none, lone, Connective, conjunction, disjunction}
 use Rattle.relational.specs.Trees.{implication, equivalence, Quantifier, for-all, for-some, Expression, leaf, binary, unary, comprehension}

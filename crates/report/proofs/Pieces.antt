@@ -7,7 +7,7 @@ use native.Mathlib.Omega.{arith}
 use lib.ListN.{length, getD, set, drop, length-append}
 use lib.Seq.{drop-cons}
 use Rattle.prelude.specs.Texts.{bytesOf}
-use Rattle.sheet.specs.Blocks.{Sheet, fourBlocks, byte}
+use Rattle.sheet_rules.specs.Blocks.{Sheet, fourBlocks, byte}
 use Rattle.relational.specs.Cells.{rowCount, rowLength, firstCell, cell}
 use Rattle.cells.proofs.Layouts.{Earlier}
 use Rattle.encoding.specs.Whole.{series}

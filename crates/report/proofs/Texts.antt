@@ -10,7 +10,7 @@ use lib.Seq.{length-take-le}
 use borrow.Author.Tests.{le-leb, lt-leb}
 use Rattle.prelude.specs.Texts.{bytesOf}
 use Rattle.prelude.proofs.Stores.{put-front}
-use Rattle.sheet.specs.Blocks.{sheetOf}
+use Rattle.sheet_rules.specs.Blocks.{sheetOf}
 use Rattle.clause_list.specs.ClauseList.{isList}
 use Rattle.encoding.specs.Whole.{words, wordTotal}
 use Rattle.encoding.proofs.Theorems.{listed}

@@ -7,7 +7,7 @@ use lib.Dec.{eqb, leb}
 use lib.IntN.{ℤ}
 use lib.ListN.{length, drop}
 use Rattle.prelude.specs.Texts.{bytesOf}
-use Rattle.sheet.specs.Blocks.{Sheet, sheetOf, byte, relationCount}
+use Rattle.sheet_rules.specs.Blocks.{Sheet, sheetOf, byte, relationCount}
 use Rattle.relational.specs.Cells.{rowCount, rowLength, cell}
 use Rattle.encoding.specs.Whole.{series, words}
 use Rattle.clauses.specs.Answers as clauses

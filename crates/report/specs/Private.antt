@@ -3,7 +3,7 @@ use mathlib.Core.Path.{_≡_}
 use mathlib.Core.List.{List, [], _∷_, _++_}
 use Prim.Native.Nat.{ℕ, _+_, _*_, _≤_}
 use lib.ListN.{length}
-use Rattle.sheet.specs.Blocks.{Sheet, byte}
+use Rattle.sheet_rules.specs.Blocks.{Sheet, byte}
 use Rattle.encoding.specs.Whole.{series}
 use Rattle.dimacs.specs.Text.{decimal}
 use Rattle.dimacs.specs.Private.{Put}

@@ -2,9 +2,8 @@
 ghost use mathlib.Core.Path.{_≡_};
 ghost use Prim.Native.Nat.{ℕ, _+_, _≤_};
 ghost use lib.ListN.{length, take};
-ghost use Rattle.sheet.specs.declared.Reading.the-variants.{Accepted};
-ghost use Rattle.sheet.specs.Blocks.{sheetOf};
-ghost use Rattle.sheet.specs.Reading.{reading};
+ghost use Rattle.sheet_rules.specs.Blocks.{sheetOf};
+ghost use Rattle.sheet_rules.specs.Reading.{accepted, reading};
 ghost use Rattle.search.specs.Answers.{found, answerOf};
 ghost use Rattle.dimacs.specs.Private.{Put};
 ghost use Rattle.solve.specs.Finding.{slices};
@@ -13,12 +12,12 @@ ghost use Rattle.report.specs.Printed.{relationLines, report, findingTex
 use super::lines::put_end;
 use super::lines::put_lines;
 use search::answer::Search;
-use sheet::Layout;
 use sheet::Reading;
+use sheet_rules::Layout;
 
 // Puts the lines of an accepted sheet's relations.
 fn put_relations(text: &mut [u8], at: usize, input: &[u8], layout: Layout, instance: &[u8]) -> usize
-    requires { ⌜ reading (now input) ≡ Accepted layout ⌝ }
+    requires { ⌜ reading (now input) ≡ accepted layout ⌝ }
     requires { ⌜ at + 1216 ≤ length (now text) ⌝ }
     ensures { λ r. ⌜ Put (now (text .entry)) at (relationLines (sheetOf (now (input .entry))) (now (instance .entry))) (now (text .exit)) r ⌝ }
     ensures { λ r. ⌜ r ≤ at + 1216 ⌝ }

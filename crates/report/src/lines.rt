@@ -3,7 +3,7 @@ ghost use mathlib.Core.Path.{_≡_};
 ghost use Prim.Native.Nat.{suc, _+_, _*_, _≤_, _<_};
 ghost use lib.ListN.{length};
 ghost use Rattle.cells.specs.Private.{Scopes};
-ghost use Rattle.sheet.specs.Blocks as blocks;
+ghost use Rattle.sheet_rules.specs.Blocks as blocks;
 ghost use Rattle.dimacs.specs.Private.{Room, Put};
 ghost use Rattle.report.specs.Printed.{endLine, cellDigit};
 ghost use Rattle.report.specs.Private.{rowFrom, lineFrom, PutLines};

@@ -7,9 +7,9 @@ use native.Mathlib.Numerals.{add-one}
 use native.Mathlib.Decide.{ℕ-discrete, decLt}
 use lib.ListN.{length, getD, set, replicate, length-replicate, getD-replicate, List·getD-eq-default}
 use lib.Seq.{getD-set-same, getD-set-other}
-use Rattle.sheet.specs.Tables.{table}
+use Rattle.sheet_rules.specs.Tables.{table}
 use Rattle.sheet.specs.Filling.{Fills}
-use Rattle.sheet.proofs.TableLaws.{table-length, table-old, table-new}
+use Rattle.sheet_rules.proofs.TableLaws.{table-length, table-old, table-new}
 
 pub get-past : {A : Type 0} (xs : List A) (d : A) (i : ℕ) → length xs ≤ i → getD xs i d ≡ d
 get-past xs d i h = List·getD-eq-default xs d {n = i} h

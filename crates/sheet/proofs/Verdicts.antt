@@ -5,24 +5,21 @@ use Prim.Native.Nat.{ℕ, _≤_, _<_}
 use native.Mathlib.Omega.{arith}
 use lib.Dec.{leb}
 use borrow.Author.Tests.{not-true, not-false, lt-leb, le-leb}
-use Rattle.refusal.specs.declared.Refusal.{Refusal}
-use Rattle.sheet.specs.declared.Reading.{Reading}
-use Rattle.sheet.specs.declared.Reading.the-variants.{Refused}
-use Rattle.sheet.specs.Reading.{unless}
+use Rattle.sheet_rules.specs.Reading.{Answer, refused, unless}
 use Rattle.sheet.specs.Filling.{capped}
 
 -- the code's test t, negated in the source, is the definition's
-pub refuse : (t fine : Bool) (r : Refusal) (next : Reading) → t ≡ fine → not t ≡ true → Refused r ≡ unless fine r next
-refuse t fine r next e n = rw (← e, not-true t n) refl
+pub refuse : (t fine : Bool) (n : ℕ) (next : Answer) → t ≡ fine → not t ≡ true → refused n ≡ unless fine n next
+refuse t fine n next e h = rw (← e, not-true t h) refl
 
-pub pass : (t fine : Bool) (r : Refusal) (x next : Reading) → t ≡ fine → not t ≡ false → x ≡ next → x ≡ unless fine r next
-pass t fine r x next e n h = rw (← e, not-false t n) h
+pub pass : (t fine : Bool) (n : ℕ) (x next : Answer) → t ≡ fine → not t ≡ false → x ≡ next → x ≡ unless fine n next
+pass t fine n x next e f h = rw (← e, not-false t f) h
 
-pub refuse-false : (fine : Bool) (r : Refusal) (next : Reading) → fine ≡ false → Refused r ≡ unless fine r next
-refuse-false fine r next e = rw e refl
+pub refuse-false : (fine : Bool) (n : ℕ) (next : Answer) → fine ≡ false → refused n ≡ unless fine n next
+refuse-false fine n next e = rw e refl
 
-pub pass-true : (fine : Bool) (r : Refusal) (x next : Reading) → fine ≡ true → x ≡ next → x ≡ unless fine r next
-pass-true fine r x next e h = rw e h
+pub pass-true : (fine : Bool) (n : ℕ) (x next : Answer) → fine ≡ true → x ≡ next → x ≡ unless fine n next
+pass-true fine n x next e h = rw e h
 
 -- capped visits are over the limit where the visits are
 pub over-limit : (n r : ℕ) → r ≡ capped n → 1000000 < r → leb n 1000000 ≡ false

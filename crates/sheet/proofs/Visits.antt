@@ -6,7 +6,7 @@ use native.Mathlib.Omega.{arith}
 use native.Mathlib.Nat.{mul-le-mul-left, mul-le-mul-right, zero-mul}
 use native.Mathlib.Decide.{decLe}
 use Rattle.kinds.specs.declared.Row.{Row}
-use Rattle.sheet.specs.Tables.{isNode, isVariable, visitsBy}
+use Rattle.sheet_rules.specs.Tables.{isNode, isVariable, visitsBy}
 use Rattle.sheet.specs.Filling.{capped}
 
 pub capped-le : (n : ℕ) → capped n ≤ 1000001

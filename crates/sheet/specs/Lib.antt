@@ -1,5 +1,2 @@
-pub mod Blocks
-pub mod Tables
-pub mod Reading
+pub mod Answers
 pub mod Filling
-pub mod Facts

@@ -1,7 +1,7 @@
 // Bytes and lengths of a sheet.
 ghost use mathlib.Core.Path.{_≡_};
 ghost use Prim.Native.Nat.{_+_, _<_, _≤_};
-ghost use Rattle.sheet.specs.Blocks as blocks;
+ghost use Rattle.sheet_rules.specs.Blocks as blocks;
 
 fn wide(x: u8) -> usize
     ensures { λ r. ⌜ r ≡ x ⌝ }

@@ -5,10 +5,9 @@ ghost use Prim.Native.Nat.{_%_, _/_, _≤_};
 ghost use lib.Dec.{eqb, leb};
 ghost use lib.ListN.{length};
 ghost use Rattle.prelude.specs.Tests.{between};
-ghost use Rattle.sheet.specs.Blocks as blocks;
-ghost use Rattle.sheet.specs.Reading as spec;
-use super::Block;
-use super::Layout;
+ghost use Rattle.sheet_rules.specs.Blocks as blocks;
+ghost use Rattle.sheet_rules.specs.Reading as spec;
+ghost use Rattle.sheet.specs.Answers.{answerOf};
 use super::Reading;
 use super::declarations::relations_fine;
 use super::declarations::scopes_fine;
@@ -24,6 +23,8 @@ use prelude::both;
 use prelude::within;
 use refusal::Refusal;
 use shapes::is_formula;
+use sheet_rules::Block;
+use sheet_rules::Layout;
 
 fn is_whole(relations: usize, nodes: usize) -> bool
     ensures { λ r. ⌜ r ≡ (eqb (relations % 4) 0 && eqb (nodes % 3) 0) ⌝ }
@@ -76,7 +77,7 @@ fn layout(sorts: usize, variables: usize, relations: usize, nodes: usize) -> Lay
 fn judge_walk(sorts: &[u8], variables: &[u8], relations: &[u8], nodes: &[u8]) -> Reading
     requires { ⌜ (length (now sorts) ≤ 8) × (length (now variables) ≤ 4) × (length (now relations) ≤ 100) × (1 ≤ length (now nodes) / 3)
         × (length (now nodes) / 3 ≤ 200) ⌝ }
-    ensures { λ r. ⌜ r ≡ spec.walkJudged
+    ensures { λ r. ⌜ answerOf r ≡ spec.walkJudged
         (blocks.fourBlocks (now (sorts .entry)) (now (variables .entry)) (now (relations .entry)) (now (nodes .entry))) ⌝ }
 {
     let count = nodes.len() / 3;
@@ -105,7 +106,7 @@ pub(crate) fn judge_blocks(
     relations: &[u8],
     nodes: &[u8],
 ) -> Reading
-    ensures { λ r. ⌜ r ≡ spec.wholeJudged
+    ensures { λ r. ⌜ answerOf r ≡ spec.wholeJudged
         (blocks.fourBlocks (now (sorts .entry)) (now (variables .entry)) (now (relations .entry)) (now (nodes .entry))) ⌝ }
 {
     let sort_count = sorts.len();

@@ -10,8 +10,8 @@ use lib.Seq.{take-at}
 use borrow.Author.Tests.{le-leb, eq-eqb, eqb-true}
 use Rattle.prelude.specs.Tests.{all}
 use Rattle.prelude.proofs.Laws.{and-left, and-right, and-both}
-use Rattle.sheet.specs.Blocks.{sheetOf}
-use Rattle.sheet.specs.Reading.{reading}
+use Rattle.sheet_rules.specs.Blocks.{sheetOf}
+use Rattle.sheet_rules.specs.Reading.{reading}
 use Rattle.relational.specs.Cells.{cellCount, withinScopes}
 use Rattle.encoding.specs.Whole.{words, variableTotal, clauseTotal, wordTotal, readBack}
 use Rattle.clauses.specs.Answers as count

@@ -4,9 +4,9 @@ use mathlib.Core.List.{map}
 use Rattle.prelude.specs.Tests.{each, all, any}
 use Rattle.kinds.specs.Kinds.{rowOf}
 use Rattle.clause_list.specs.ClauseList.{cut, wordsOf, wellCut, isList}
-use Rattle.sheet.specs.Tables as tables
-use Rattle.sheet.specs.Tables.{shapeStep, freeStep, visitsStep}
-use Rattle.sheet.specs.Reading.{counted, scoped, declared, nodesFine, shaped, rooted, walkable, reading}
+use Rattle.sheet_rules.specs.Tables as tables
+use Rattle.sheet_rules.specs.Tables.{shapeStep, freeStep, visitsStep}
+use Rattle.sheet_rules.specs.Reading.{counted, scoped, declared, nodesFine, shaped, rooted, walkable, reading}
 use Rattle.relational.specs.Trees.{symbolOf, treeStep}
 use Rattle.relational.specs.Cells.{firstCell}
 use Rattle.relational.specs.Matrices.{rounds}

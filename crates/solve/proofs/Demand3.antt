@@ -7,7 +7,7 @@ use native.Mathlib.Omega.{arith}
 use lib.IntN.{ℤ}
 use lib.ListN.{take, drop}
 use Rattle.clause_list.specs.ClauseList.{clausesOf, isList, Satisfying}
-use Rattle.sheet.specs.Blocks.{sheetOf}
+use Rattle.sheet_rules.specs.Blocks.{sheetOf}
 use Rattle.relational.specs.Cells.{cellCount}
 use Rattle.encoding.specs.Whole.{words, variableTotal, clauseTotal, wordTotal, readBack}
 use Rattle.encoding.specs.Matching.{Solution}

@@ -10,7 +10,7 @@ use lib.IntN.{ℤ}
 use lib.ListN.{length, take, drop}
 use borrow.Author.Tests.{le-leb, lt-leb}
 use Rattle.prelude.proofs.Laws.{decided}
-use Rattle.sheet.specs.Blocks.{sheetOf}
+use Rattle.sheet_rules.specs.Blocks.{sheetOf}
 use Rattle.relational.specs.Cells.{cellCount}
 use Rattle.clauses.specs.declared.answer.Size.{Size}
 use Rattle.encoding.specs.Whole.{variableTotal, wordTotal}

@@ -9,7 +9,7 @@ use lib.Dec.{leb}
 use lib.ListN.{length}
 use borrow.Author.Tests.{leb-true, leb-false, le-leb}
 use Rattle.prelude.proofs.Laws.{clash, and-left, and-right, and-both}
-use Rattle.sheet.specs.Blocks.{sheetOf}
+use Rattle.sheet_rules.specs.Blocks.{sheetOf}
 use Rattle.relational.specs.Cells.{cellCount}
 use Rattle.encoding.specs.Whole.{variableTotal, wordTotal}
 use Rattle.clauses.specs.Answers as count

@@ -7,7 +7,7 @@ use native.Mathlib.Omega.{arith}
 use lib.IntN.{ℤ}
 use lib.ListN.{take}
 use Rattle.clause_list.specs.ClauseList.{clausesOf}
-use Rattle.sheet.specs.Blocks.{sheetOf}
+use Rattle.sheet_rules.specs.Blocks.{sheetOf}
 use Rattle.encoding.specs.Whole.{words, variableTotal, wordTotal}
 use Rattle.search_rules.specs.Run.{EndedWithin}
 use Rattle.search.specs.Answers.{Answer, found, none, spent, refused, Outcome}

@@ -10,10 +10,8 @@ use lib.Seq.{take-length, length-take-le}
 use borrow.Author.Tests.{le-leb, lt-leb, eq-eqb, ne-eqb}
 use Rattle.prelude.specs.Tests.{all}
 use Rattle.prelude.proofs.Laws.{and-both, and-not-left, and-not-right}
-use Rattle.sheet.specs.declared.Reading.{Reading}
-use Rattle.sheet.specs.declared.Reading.the-variants as reading
-use Rattle.sheet.specs.Blocks.{sheetOf}
-use Rattle.sheet.specs.Reading as spec
+use Rattle.sheet_rules.specs.Blocks.{sheetOf}
+use Rattle.sheet_rules.specs.Reading as sheets
 use Rattle.refusal.specs.declared.Refusal.{Refusal}
 use Rattle.refusal.specs.Refusals.{numberOf}
 use Rattle.relational.specs.Cells.{cellCount}
@@ -113,6 +111,6 @@ room-for-cells s v c w cells e f =
     omega (arith, d .variables, cells-variables (sheetOf s))
 
 -- a sheet that is refused is refused by counting
-pub counting-refuses : (s : List ℕ) (r : Refusal) → spec.reading s ≡ reading.Refused r → countAnswer s ≡ count.refused (numberOf r)
+pub counting-refuses : (s : List ℕ) (n : ℕ) → sheets.reading s ≡ sheets.refused n → countAnswer s ≡ count.refused n
 unfolding countAnswer
-counting-refuses s r e = ap (λ x. countAfter x (sheetOf s)) e
+counting-refuses s n e = ap (λ x. countAfter x (sheetOf s)) e

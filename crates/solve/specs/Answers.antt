@@ -6,7 +6,7 @@ use lib.Dec.{eqb, leb}
 use lib.ListN.{length, drop}
 use Rattle.prelude.specs.Tests.{all}
 use Rattle.refusal.specs.Refusals.{numberOf}
-use Rattle.sheet.specs.Blocks.{Sheet, sheetOf}
+use Rattle.sheet_rules.specs.Blocks.{Sheet, sheetOf}
 use Rattle.relational.specs.Cells.{cellCount}
 use Rattle.encoding.specs.Whole.{readBack}
 use Rattle.clauses.specs.Answers as count

@@ -16,10 +16,10 @@ use Prim.Native.Nat.{ℕ, _≤_}
 use lib.IntN.{ℤ}
 use lib.ListN.{length, take, drop}
 use Rattle.clause_list.specs.ClauseList.{clausesOf, Satisfying}
-use Rattle.sheet.specs.declared.Layout.{Layout}
-use Rattle.sheet.specs.declared.Reading.the-variants.{Accepted}
-use Rattle.sheet.specs.Blocks.{sheetOf}
-use Rattle.sheet.specs.Reading.{reading}
+use Rattle.sheet_rules.specs.declared.Layout.{Layout}
+use Rattle.sheet_rules.specs.Blocks.{sheetOf}
+use Rattle.sheet_rules.specs.Reading as sheets
+use Rattle.sheet_rules.specs.Reading.{reading}
 use Rattle.relational.specs.Cells.{cellCount}
 use Rattle.encoding.specs.Whole.{words, variableTotal, wordTotal}
 use Rattle.encoding.specs.Matching.{Solution}
@@ -32,7 +32,7 @@ use Rattle.solve.specs.Finding.{Slices}
 -- "A sheet is accepted when none of 1 to 9 below applies to it. Its clauses fit the limits when neither 10 nor the word limit in 12 applies"
 pub record FitsLimits (s : List ℕ) : Type 0 where
   pub layout : Layout
-  pub accepted : reading s ≡ Accepted layout
+  pub accepted : reading s ≡ sheets.accepted layout
   pub few-variables : variableTotal (sheetOf s) ≤ 16000
   pub few-words : wordTotal (sheetOf s) ≤ 2147483647
 

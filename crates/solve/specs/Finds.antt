@@ -6,7 +6,7 @@ use mathlib.Core.List.{List, [], _++_}
 use Prim.Native.Nat.{ℕ}
 use lib.ListN.{length, drop}
 use Rattle.clause_list.specs.ClauseList.{clausesOf}
-use Rattle.sheet.specs.Blocks.{Sheet, sheetOf}
+use Rattle.sheet_rules.specs.Blocks.{Sheet, sheetOf}
 use Rattle.encoding.specs.Whole.{words, variableTotal}
 use Rattle.encoding.specs.Matching.{Solution}
 use Rattle.search_rules.specs.Run.{EndedWithin}

@@ -1,6 +1,6 @@
 // From a sheet to an answer: read-back, and the finder over lent slices.
 ghost use mathlib.Core.Path.{_≡_};
-ghost use Rattle.sheet.specs.Blocks.{sheetOf};
+ghost use Rattle.sheet_rules.specs.Blocks.{sheetOf};
 ghost use Rattle.relational.specs.Cells.{cellCount};
 ghost use Rattle.clauses.specs.Answers.{fits, countAnswer};
 ghost use Rattle.search.specs.Answers as searched;

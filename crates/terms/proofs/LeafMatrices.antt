@@ -9,8 +9,8 @@ use lib.Dec.{eqb}
 use lib.IntN.{ℤ}
 use lib.ListN.{length, getD, List·getD-eq-default}
 use Rattle.literal.specs.Literals.{Literal, wordOf, literalOf}
-use Rattle.sheet.specs.Blocks.{Sheet, scope, sortOf}
-use Rattle.sheet.specs.Blocks as blocks
+use Rattle.sheet_rules.specs.Blocks.{Sheet, scope, sortOf}
+use Rattle.sheet_rules.specs.Blocks as blocks
 use Rattle.relational.specs.Trees.{relation, variable, atoms, identity}
 use Rattle.relational.specs.Cells.{rowCount, rowLength, firstCell}
 use Rattle.relational.specs.Meaning.{Environment}

@@ -8,7 +8,7 @@ use lib.Dec.{eqb}
 use lib.IntN.{ℤ, pos, negsuc}
 use lib.ListN.{length, getD}
 use Rattle.literal.specs.Literals.{Literal, literalOf}
-use Rattle.sheet.specs.Blocks.{Sheet}
+use Rattle.sheet_rules.specs.Blocks.{Sheet}
 use Rattle.relational.specs.Trees.{Leaf}
 use Rattle.relational.specs.Meaning.{Environment}
 use Rattle.relational.specs.Matrices.{upto, Place, places, setOf, relationOf, leafMatrix}

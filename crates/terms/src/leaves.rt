@@ -7,7 +7,7 @@ ghost use lib.Dec.{eqb};
 ghost use lib.IntN.{negsuc};
 ghost use lib.ListN.{getD};
 ghost use Rattle.literal.specs.Literals.{wordOf};
-ghost use Rattle.sheet.specs.Blocks as blocks;
+ghost use Rattle.sheet_rules.specs.Blocks as blocks;
 ghost use Rattle.relational.specs.Trees.{Leaf, leaf-symbol, symbolOf};
 ghost use Rattle.relational.specs.Trees as trees;
 ghost use Rattle.cells.specs.Private.{Scopes};

@@ -10,7 +10,7 @@ use lib.IntN.{ℤ, pos, negsuc}
 use lib.ListN.{length, getD, set, take, replicate, length-set}
 use lib.Seq.{getD-set-same, getD-set-other, take-suc-set}
 use Rattle.literal.specs.Literals.{Literal, literalOf}
-use Rattle.sheet.specs.Blocks.{Sheet, scope, sortOf}
+use Rattle.sheet_rules.specs.Blocks.{Sheet, scope, sortOf}
 use Rattle.relational.specs.Trees.{Formula, formula}
 use Rattle.relational.specs.Meaning.{Environment, bind}
 use Rattle.relational.specs.Matrices.{upto, setOf}

@@ -5,7 +5,7 @@ use mathlib.Core.List.{List}
 use Prim.Native.Nat.{ℕ, _≤_, _<_}
 use native.Mathlib.Omega.{arith}
 use lib.IntN.{ℤ}
-use Rattle.sheet.specs.Blocks.{Sheet, columns}
+use Rattle.sheet_rules.specs.Blocks.{Sheet, columns}
 use Rattle.relational.specs.Trees.{Binary, Unary, binary-symbol, unary-symbol, leaf-symbol, symbolOf, Leaf, Expression, expression}
 use Rattle.encoding.specs.Translation.{translateBinary, translateUnary, translate}
 use Rattle.emission.specs.declared.Tape.{Tape}

@@ -4,7 +4,7 @@ use mathlib.Core.List.{List}
 use Prim.Native.Nat.{ℕ, _<_}
 use lib.IntN.{ℤ}
 use Rattle.literal.specs.Literals.{literalOf, opposite}
-use Rattle.sheet.specs.Blocks.{Sheet, scope, sortOf}
+use Rattle.sheet_rules.specs.Blocks.{Sheet, scope, sortOf}
 use Rattle.relational.specs.Trees.{Comparison, Test, Connective, Quantifier, comparison-symbol, test-symbol, connective-symbol, quantifier-symbol, symbolOf, Formula, formula}
 use Rattle.relational.specs.Matrices.{setOf}
 use Rattle.encoding.specs.Builder.{_<$>_}

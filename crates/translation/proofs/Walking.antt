@@ -4,7 +4,7 @@ use mathlib.Core.List.{List}
 use Prim.Native.Nat.{ℕ, _≤_, _<_}
 use lib.IntN.{ℤ, negsuc}
 use lib.ListN.{length}
-use Rattle.sheet.specs.Blocks.{Sheet}
+use Rattle.sheet_rules.specs.Blocks.{Sheet}
 use Rattle.encoding.specs.Builder.{Builder, _>>=_}
 use Rattle.encoding.specs.Translation.{translate, translateFormula}
 use Rattle.emission.specs.declared.Tape.{Tape}

@@ -4,8 +4,8 @@ use mathlib.Core.Path.{_≡_}
 use mathlib.Core.List.{List}
 use Prim.Native.Nat.{ℕ}
 use lib.IntN.{ℤ}
-use Rattle.sheet.specs.Blocks.{Sheet, scope, sortOf}
-use Rattle.sheet.specs.Facts.{Facts}
+use Rattle.sheet_rules.specs.Blocks.{Sheet, scope, sortOf}
+use Rattle.sheet_rules.specs.Facts.{Facts}
 use Rattle.relational.specs.Trees.{Expression, Formula, expression, formula}
 use Rattle.relational.specs.Meaning.{Environment, bind}
 use Rattle.relational.specs.Matrices.{upto, setOf}

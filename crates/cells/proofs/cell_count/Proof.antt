@@ -3,8 +3,8 @@ use mathlib.Core.Path.{_≡_, sym, ap, _∙_}
 use Prim.Native.Nat.{_≤_}
 use native.Mathlib.Omega.{arith}
 use borrow.Author.Needs.{needs}
-use Rattle.sheet.specs.Blocks.{sheetOf, relationCount}
-use Rattle.sheet.proofs.Acceptance.{accepted-facts, accepted-layout}
+use Rattle.sheet_rules.specs.Blocks.{sheetOf, relationCount}
+use Rattle.sheet_rules.proofs.Acceptance.{accepted-facts, accepted-layout}
 use Rattle.relational.specs.Cells.{firstCell}
 use Rattle.cells.proofs.Blocks.{Placed, placed, part-is}
 use Rattle.cells.proofs.cell_count.Statement.{statement}

@@ -1,5 +1,6 @@
 -- Refused as reading refuses, else by the numbers of the clauses.
-use mathlib.Core.Path.{sym, _∙_}
+use mathlib.Core.Path.{sym, ap, _∙_}
+use Rattle.sheet.specs.Answers.{answerOf}
 use borrow.Author.Needs.{needs}
 use Rattle.clauses.proofs.Answering.{count-refused}
 use Rattle.clauses.proofs.count.Statement.{statement}
@@ -15,12 +16,12 @@ enum-known-answer-2 : tie.Need-enum-known-answer-2
 enum-known-answer-2 c = search needs
 
 count-accepted-requires : tie.Need-count-accepted-requires
-count-accepted-requires c κs = sym (c .before .before .before .read .ensures) ∙ c .before .answer2 .given .1
+count-accepted-requires c κs = sym (c .before .before .before .read .ensures) ∙ ap answerOf (c .before .answer2 .given .1)
 
 returns : tie.Need-returns
 returns c =
     let s = c .before .before .before .before .before in
-    count-refused (s .args .sheet .now) _ (sym (c .before .before .before .read .ensures) ∙ c .before .answer .given .1)
+    count-refused (s .args .sheet .now) _ (sym (c .before .before .before .read .ensures) ∙ ap answerOf (c .before .answer .given .1))
 
 returns-2 : tie.Need-returns-2
 returns-2 c = search needs

@@ -1,6 +1,7 @@
 -- Refused as reading refuses, else written once the count is known.
-use mathlib.Core.Path.{sym, _∙_}
+use mathlib.Core.Path.{sym, ap, _∙_}
 use Rattle.clauses.proofs.Answering.{count-refused, write-refused}
+use Rattle.sheet.specs.Answers.{answerOf}
 use borrow.Author.Needs.{needs}
 use Rattle.clauses.proofs.write.Statement.{statement}
 use Rattle.clauses.proofs.write.Tie as tie
@@ -15,13 +16,13 @@ enum-known-answer-2 : tie.Need-enum-known-answer-2
 enum-known-answer-2 c = search needs
 
 write-accepted-requires : tie.Need-write-accepted-requires
-write-accepted-requires c κs = sym (c .before .before .before .before .read .ensures) ∙ c .before .before .answer2 .given .1
+write-accepted-requires c κs = sym (c .before .before .before .before .read .ensures) ∙ ap answerOf (c .before .before .answer2 .given .1)
 
 returns : tie.Need-returns
 returns c =
     let start = c .before .before .before .before .before in
     write-refused (start .args .sheet .now) (start .args .list .now)
-    (count-refused (start .args .sheet .now) _ (sym (c .before .before .before .read .ensures) ∙ c .before .answer .given .1))
+    (count-refused (start .args .sheet .now) _ (sym (c .before .before .before .read .ensures) ∙ ap answerOf (c .before .answer .given .1)))
 
 same-length : tie.Need-same-length
 same-length c = search needs

@@ -1,7 +1,7 @@
 -- The marks, and the root from any atoms.
 use mathlib.Core.Path.{_∙_}
 use native.Mathlib.Omega.{arith}
-use Rattle.sheet.specs.Blocks.{fourBlocks}
+use Rattle.sheet_rules.specs.Blocks.{fourBlocks}
 use Rattle.relational.specs.Trees.{rootTree}
 use Rattle.relational.specs.Evaluation.{holds}
 use Rattle.nodes.proofs.Roots.{root-formula}

@@ -1,7 +1,7 @@
--- The parts are the blocks of the sheet, and the evaluation agrees with the meaning.
+-- The parts are the blocks of the sheet.
 use mathlib.Core.Path.{ap, _∙_}
 use native.Mathlib.Omega.{arith}
-use Rattle.sheet.proofs.Acceptance.{accepted-facts}
+use Rattle.sheet_rules.proofs.Acceptance.{accepted-facts}
 use Rattle.cells.proofs.Blocks.{Placed, placed, blocks-are}
 use Rattle.instance.specs.Held.{heldAnswer}
 use Rattle.instance.proofs.Held.{held}
@@ -74,9 +74,9 @@ check-blocks-requires c κs =
 returns : tie.Need-returns
 returns c =
     let s = c .before .before .before .before .before .before .before .before .before .before .before .before .before .before .before in
-    held (s .args .sheet .now) (s .args .instance .now) (s .args .layout) _ (s .pre)
-    (c .check-blocks .ensures
-    ∙ ap (λ sheet. heldAnswer sheet (s .args .instance .now)) (blocks-are (s .args .sheet .now) (s .args .layout) (s .pre)))
+    c .check-blocks .ensures
+    ∙ ap (λ sheet. heldAnswer sheet (s .args .instance .now)) (blocks-are (s .args .sheet .now) (s .args .layout) (s .pre))
+    ∙ held (s .args .sheet .now) (s .args .instance .now) (s .args .layout) (s .pre)
 
 pub check-accepted-spec : {M : Type 1} → statement M
 check-accepted-spec =

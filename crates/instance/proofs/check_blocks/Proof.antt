@@ -2,7 +2,7 @@
 use mathlib.Core.Path.{refl, sym, ap, _∙_}
 use mathlib.Core.Bool.{cond}
 use borrow.Author.Tests.{not-true, not-false}
-use Rattle.sheet.specs.Blocks.{fourBlocks}
+use Rattle.sheet_rules.specs.Blocks.{fourBlocks}
 use Rattle.instance.specs.Answers.{yes, no}
 use Rattle.instance.proofs.Held.{other-length, other-cells, evaluated}
 use borrow.Author.Needs.{needs}

@@ -5,7 +5,7 @@ use Prim.Native.Nat.{_-_, _*_, _≤_, _<_}
 use native.Mathlib.Nat.{mul-le-mul}
 use native.Mathlib.Omega.{arith}
 use lib.Seq.{length-take-le}
-use Rattle.sheet.specs.Blocks.{Sheet}
+use Rattle.sheet_rules.specs.Blocks.{Sheet}
 use Rattle.cells.proofs.Layouts.{count-most, width-most}
 use Rattle.relational.specs.Cells.{rowCount, rowLength, firstCell}
 use Rattle.encoding.specs.Whole.{series}

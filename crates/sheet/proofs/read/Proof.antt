@@ -5,9 +5,8 @@ use mathlib.Core.List.{List}
 use Prim.Native.Nat.{ℕ}
 use lib.Dec.{eqb}
 use borrow.Author.Tests.{eq-eqb, ne-eqb}
-use Rattle.refusal.specs.declared.Refusal.{Refusal}
-use Rattle.sheet.specs.Blocks.{byte, blocksEnd}
-use Rattle.sheet.specs.Reading.{reading, wholeJudged}
+use Rattle.sheet_rules.specs.Blocks.{byte, blocksEnd}
+use Rattle.sheet_rules.specs.Reading.{reading, wholeJudged}
 use Rattle.sheet.proofs.Parts.{end-is, parts-are}
 use Rattle.sheet.proofs.Verdicts.{refuse-false, pass-true}
 use borrow.Author.Needs.{needs}
@@ -31,7 +30,7 @@ byte-requires c κs = search needs
 
 returns : tie.Need-returns
 unfolding reading
-returns c = refuse-false _ Refusal.Version _ (ne-eqb _ 1 (λ q. c .if1 .taken (c .before .byte .ensures .0 ∙ q)))
+returns c = refuse-false _ 1 _ (ne-eqb _ 1 (λ q. c .if1 .taken (c .before .byte .ensures .0 ∙ q)))
 
 after-requires : tie.Need-after-requires
 after-requires c κs = search needs
@@ -48,8 +47,8 @@ after-requires-4 c κs = search needs
 returns-2 : tie.Need-returns-2
 unfolding reading
 returns-2 c =
-    pass-true _ Refusal.Version _ _ (is-version (c .before .before .before .before .before))
-    (refuse-false _ Refusal.Length _ (ne-eqb _ _ (λ q. c .if2 .taken (is-end (c .before) ∙ q))))
+    pass-true _ 1 _ _ (is-version (c .before .before .before .before .before))
+    (refuse-false _ 2 _ (ne-eqb _ _ (λ q. c .if2 .taken (is-end (c .before) ∙ q))))
 
 add-a : tie.Need-add-a
 add-a c = search needs
@@ -103,8 +102,8 @@ returns-3 : tie.Need-returns-3
 unfolding reading
 returns-3 c =
     let e = c .before .before .before .before .before .before in
-    pass-true _ Refusal.Version _ _ (is-version (c .before .before .before .before .before .before .before .before .before .before))
-    (pass-true _ Refusal.Length _ _ (eq-eqb _ _ (sym (is-end e) ∙ c .before .before .before .before .before .if2 .left))
+    pass-true _ 1 _ _ (is-version (c .before .before .before .before .before .before .before .before .before .before))
+    (pass-true _ 2 _ _ (eq-eqb _ _ (sym (is-end e) ∙ c .before .before .before .before .before .if2 .left))
     (c .judge-blocks .ensures
     ∙ ap wholeJudged (parts-are (sheetAt (e .before .before .before .before .before .before .before)) _ _ _ _
     (e .before .before .before .after .ensures .0) (e .before .before .after2 .ensures .0) (e .before .after3 .ensures .0)

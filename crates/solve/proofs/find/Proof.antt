@@ -1,6 +1,7 @@
 -- `find` meets its contract: what it ensures is the definition, and what the definition means is demand 3 of the call.
-use mathlib.Core.Path.{_≡_, sym, _∙_}
+use mathlib.Core.Path.{_≡_, sym, ap, _∙_}
 use borrow.Author.Needs.{needs}
+use Rattle.sheet.specs.Answers as read
 use Rattle.search.specs.Answers.{Answer}
 use Rattle.solve.specs.Finding.{Slices, slices, finding}
 use Rattle.solve.specs.Finds.{Finds}
@@ -24,7 +25,7 @@ enum-known-reading-2 : tie.Need-enum-known-reading-2
 enum-known-reading-2 c = search needs
 
 cell-count-requires : tie.Need-cell-count-requires
-cell-count-requires c κs = sym (c .before .before .before .read .ensures) ∙ c .before .reading2 .given .1
+cell-count-requires c κs = sym (c .before .before .before .read .ensures) ∙ ap read.answerOf (c .before .reading2 .given .1)
 
 find-accepted-requires : tie.Need-find-accepted-requires
 find-accepted-requires c κs = search needs
@@ -40,7 +41,7 @@ returns c =
     let s = c .before .before .before .before .before .before .before in
     ensured s _ (lent s)
     (counting-declines (s .args .sheet .now) (lent s) (s .args .budget) _
-    (counting-refuses (s .args .sheet .now) _ (sym (c .before .before .before .read .ensures) ∙ c .before .reading .given .1)))
+    (counting-refuses (s .args .sheet .now) _ (sym (c .before .before .before .read .ensures) ∙ ap read.answerOf (c .before .reading .given .1))))
 
 same-length : tie.Need-same-length
 same-length c = search needs

@@ -2,7 +2,7 @@
 use Prim.Native.Nat.{_≤_}
 use native.Mathlib.Omega.{arith}
 use borrow.Author.Needs.{needs}
-use Rattle.sheet.specs.Blocks.{sheetOf}
+use Rattle.sheet_rules.specs.Blocks.{sheetOf}
 use Rattle.relational.specs.Cells.{cellCount}
 use Rattle.search.specs.Answers.{refused}
 use Rattle.solve.specs.Finding.{Slices, slices}

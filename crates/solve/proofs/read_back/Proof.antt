@@ -1,6 +1,7 @@
 -- `read_back` meets its contract: the refusals of reading are those of counting.
 use mathlib.Core.Path.{_≡_, sym, ap, _∙_}
 use borrow.Author.Needs.{needs}
+use Rattle.sheet.specs.Answers as read
 use Rattle.solve.proofs.ReadBacks.{refuses, counting-refuses}
 use Rattle.solve.proofs.read_back.Statement.{statement}
 use Rattle.solve.proofs.read_back.Tie as tie
@@ -15,7 +16,7 @@ enum-known-reading-2 : tie.Need-enum-known-reading-2
 enum-known-reading-2 c = search needs
 
 cell-count-requires : tie.Need-cell-count-requires
-cell-count-requires c κs = sym (c .before .before .before .read .ensures) ∙ c .before .reading2 .given .1
+cell-count-requires c κs = sym (c .before .before .before .read .ensures) ∙ ap read.answerOf (c .before .reading2 .given .1)
 
 read-accepted-requires : tie.Need-read-accepted-requires
 read-accepted-requires c κs = search needs
@@ -24,7 +25,7 @@ returns : tie.Need-returns
 returns c =
     let a = c .before .before .before .before .before .before .before .args in
     refuses (a .sheet .now) (a .values .now) (a .instance .now) _
-    (counting-refuses (a .sheet .now) _ (sym (c .before .before .before .read .ensures) ∙ c .before .reading .given .1))
+    (counting-refuses (a .sheet .now) _ (sym (c .before .before .before .read .ensures) ∙ ap read.answerOf (c .before .reading .given .1)))
 
 same-length : tie.Need-same-length
 same-length c = search needs

@@ -4,7 +4,7 @@ use mathlib.Core.List.{[]}
 use native.Mathlib.Omega.{arith}
 use Rattle.literal.specs.Literals.{literalOf}
 use Rattle.literal.proofs.Signs.{read, back}
-use Rattle.sheet.specs.Blocks.{Sheet, fourBlocks}
+use Rattle.sheet_rules.specs.Blocks.{Sheet, fourBlocks}
 use Rattle.emission.proofs.Writes.{appends-as}
 use Rattle.clauses.proofs.Translation.{given-inside, marks-declared, first-small, root-ready, walk-room, translates}
 use borrow.Author.Needs.{needs}

@@ -1,7 +1,7 @@
 -- The relation's first cell, and its rows and columns.
 use mathlib.Core.Path.{refl}
 use native.Mathlib.Omega.{arith}
-use Rattle.sheet.specs.Blocks.{fourBlocks}
+use Rattle.sheet_rules.specs.Blocks.{fourBlocks}
 use Rattle.matrix.proofs.Results.{gives-as}
 use Rattle.cells.proofs.Layouts.{scopes-of, first-most, count-most, width-most}
 use Rattle.evaluate.proofs.Layouts.{set-or-relation, relation-leaf}

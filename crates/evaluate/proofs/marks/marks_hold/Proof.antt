@@ -5,7 +5,7 @@ use Prim.Native.Nat.{ℕ, _≤_, _-_, _/_}
 use native.Mathlib.Omega.{arith}
 use lib.ListN.{length}
 use Rattle.prelude.specs.Tests.{each}
-use Rattle.sheet.specs.Blocks.{fourBlocks}
+use Rattle.sheet_rules.specs.Blocks.{fourBlocks}
 use Rattle.relational.specs.Evaluation.{marksHold}
 use Rattle.evaluate.specs.Walking.{rowsHold}
 use Rattle.evaluate.proofs.Loops.{each-none, each-more}

@@ -6,7 +6,7 @@ use native.Mathlib.Omega.{arith}
 use mathlib.Core.Bool.{Bool}
 use native.Mathlib.Nat.{mul-le-mul}
 use Rattle.prelude.specs.Tests.{each}
-use Rattle.sheet.specs.Blocks.{fourBlocks, multiplicity}
+use Rattle.sheet_rules.specs.Blocks.{fourBlocks, multiplicity}
 use Rattle.relational.specs.Evaluation.{rowHolds, rowCells}
 use Rattle.cells.proofs.Layouts.{scopes-of, first-most, count-most, width-most}
 use Rattle.evaluate.proofs.Layouts.{row-law}

@@ -6,7 +6,7 @@ use mathlib.Core.Bool.{Bool, not}
 use mathlib.Core.List.{map}
 use Prim.Native.Nat.{ℕ, _+_, _*_, _-_, _≤_, _<_}
 use native.Mathlib.Omega.{arith}
-use Rattle.sheet.specs.Blocks.{byte, fourBlocks}
+use Rattle.sheet_rules.specs.Blocks.{byte, fourBlocks}
 use Rattle.relational.specs.Matrices.{setOf, upto}
 use Rattle.relational.specs.Meaning.{bind}
 use Rattle.matrix.proofs.Filling.{Filled, filled-none, filled-more}

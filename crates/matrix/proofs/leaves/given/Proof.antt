@@ -4,7 +4,7 @@ use mathlib.Core.Path.{ap}
 use Prim.Native.Nat.{ℕ, _≤_, _-_, _+_}
 use native.Mathlib.Omega.{arith}
 use lib.Dec.{eqb}
-use Rattle.sheet.specs.Blocks.{byte}
+use Rattle.sheet_rules.specs.Blocks.{byte}
 use Rattle.matrix.proofs.Filling.{Filled, filled-none, filled-more}
 use Rattle.matrix.proofs.Results.{given-law}
 use Rattle.matrix.proofs.leaves.given.Statement.{statement}

@@ -5,7 +5,7 @@ use Prim.Native.Nat.{ℕ, _≤_, _-_, _+_}
 use native.Mathlib.Omega.{arith}
 use mathlib.Core.Bool.{Bool}
 use lib.Dec.{eqb}
-use Rattle.sheet.specs.Blocks.{byte}
+use Rattle.sheet_rules.specs.Blocks.{byte}
 use Rattle.relational.specs.Evaluation.{count}
 use Rattle.matrix.specs.Values.{counted, flagsFrom}
 use Rattle.matrix.proofs.Counting.{count-from, counted-most}

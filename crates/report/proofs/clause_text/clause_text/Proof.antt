@@ -6,7 +6,7 @@ use lib.ListN.{length, take}
 use borrow.Author.Needs.{needs}
 use Rattle.prelude.specs.Texts.{bytesOf}
 use Rattle.refusal.specs.Refusals.{numberOf}
-use Rattle.sheet.specs.Blocks.{sheetOf}
+use Rattle.sheet_rules.specs.Blocks.{sheetOf}
 use Rattle.clauses.specs.declared.answer.Size.{Size}
 use Rattle.clauses.specs.declared.answer.Count.the-variants.{Fits, Refused}
 use Rattle.clauses.specs.Answers.{fits, answerOf, writeAnswer, listAfter}

@@ -4,7 +4,7 @@ use Prim.Native.Nat.{_≤_}
 use native.Mathlib.Omega.{arith}
 use lib.ListN.{length}
 use borrow.Author.Needs.{needs}
-use Rattle.sheet.specs.Blocks.{sheetOf}
+use Rattle.sheet_rules.specs.Blocks.{sheetOf}
 use Rattle.dimacs.proofs.Puts.{put-as}
 use Rattle.solve.specs.Finding.{Slices, slices}
 use Rattle.solve.proofs.Findings.{found-fits}

@@ -2,8 +2,7 @@
 use mathlib.Core.Path.{_≡_, sym, ap, _∙_}
 use native.Mathlib.Omega.{arith}
 use borrow.Author.Needs.{needs}
-use denote.Enum.Declared.{tagOf}
-use Rattle.sheet.proofs.Reading.{the-type}
+use Rattle.sheet.specs.Answers.{answerOf}
 use Rattle.dimacs.proofs.Puts.{put-both, put-length}
 use Rattle.report.proofs.finder.put_found.Statement.{statement}
 use Rattle.report.proofs.finder.put_found.Tie as tie
@@ -28,7 +27,7 @@ put-relations-requires c κs =
     let k = c .before .before .before .before in
     let e = k .before .before .before .put-end .ensures in
     let s = k .before .before .before .before .before .before .before .before .before in
-    (sym (k .read .ensures) ∙ c .before .before .reading .given .1, omega (arith, e .1, put-length (e .0), s .pre .0))
+    (sym (k .read .ensures) ∙ ap answerOf (c .before .before .reading .given .1), omega (arith, e .1, put-length (e .0), s .pre .0))
 
 same-length : tie.Need-same-length
 same-length c = search needs

@@ -3,8 +3,8 @@ use mathlib.Core.Path.{_≡_, sym, ap}
 use Prim.Native.Nat.{_≤_}
 use native.Mathlib.Omega.{arith}
 use borrow.Author.Needs.{needs}
-use Rattle.sheet.specs.Blocks.{sheetOf, relationCount}
-use Rattle.sheet.proofs.Acceptance.{accepted-facts, accepted-layout}
+use Rattle.sheet_rules.specs.Blocks.{sheetOf, relationCount}
+use Rattle.sheet_rules.proofs.Acceptance.{accepted-facts, accepted-layout}
 use Rattle.cells.proofs.Blocks.{Placed, placed, part-is}
 use Rattle.encoding.specs.Whole.{series}
 use Rattle.dimacs.proofs.Puts.{put-as}

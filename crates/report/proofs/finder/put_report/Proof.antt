@@ -7,7 +7,7 @@ use borrow.Author.Needs.{needs}
 use Rattle.prelude.specs.Texts.{bytesOf}
 use Rattle.search.specs.declared.answer.Search.{Search}
 use Rattle.search.specs.Answers.{answerOf}
-use Rattle.sheet.specs.Blocks.{sheetOf}
+use Rattle.sheet_rules.specs.Blocks.{sheetOf}
 use Rattle.dimacs.specs.Private.{Put}
 use Rattle.dimacs.proofs.Puts.{put-as}
 use Rattle.report.specs.Printed.{report, endLine}

@@ -5,7 +5,7 @@ use Prim.Native.Nat.{ℕ, _+_, _-_, _≤_}
 use native.Mathlib.Omega.{arith}
 use lib.ListN.{length, set, length-set}
 use borrow.Author.Needs.{needs}
-use Rattle.sheet.specs.Blocks.{byte}
+use Rattle.sheet_rules.specs.Blocks.{byte}
 use Rattle.encoding.specs.Whole.{series}
 use Rattle.dimacs.specs.Private.{Put}
 use Rattle.dimacs.proofs.Puts.{put-byte, put-both, put-as, put-length}

@@ -5,8 +5,8 @@ use Prim.Native.Nat.{ℕ, _≤_, _-_, _/_}
 use native.Mathlib.Omega.{arith}
 use lib.ListN.{length}
 use Rattle.prelude.specs.Tests.{each}
-use Rattle.sheet.specs.Blocks.{Sheet, sortCount}
-use Rattle.sheet.specs.Reading.{relationDeclared}
+use Rattle.sheet_rules.specs.Blocks.{Sheet, sortCount}
+use Rattle.sheet_rules.specs.Reading.{relationDeclared}
 use Rattle.sheet.proofs.Loops.{each-none, each-more}
 use Rattle.sheet.proofs.declarations.relations_fine.Statement.{statement}
 use Rattle.sheet.proofs.declarations.relations_fine.Tie as tie

@@ -5,7 +5,7 @@ use Prim.Native.Nat.{ℕ, _≤_, _-_, _/_}
 use native.Mathlib.Omega.{arith}
 use lib.ListN.{length}
 use Rattle.prelude.specs.Tests.{each, between}
-use Rattle.sheet.specs.Blocks.{byte}
+use Rattle.sheet_rules.specs.Blocks.{byte}
 use Rattle.sheet.proofs.Loops.{each-none, each-more}
 use Rattle.sheet.proofs.declarations.scopes_fine.Statement.{statement}
 use Rattle.sheet.proofs.declarations.scopes_fine.Tie as tie

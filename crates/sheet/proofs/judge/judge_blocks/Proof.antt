@@ -5,12 +5,10 @@ use Prim.Native.Nat.{_/_}
 use native.Mathlib.Omega.{arith}
 use lib.ListN.{length}
 use borrow.Author.Tests.{not-false}
-use Rattle.refusal.specs.declared.Refusal.{Refusal}
-use Rattle.sheet.specs.declared.Reading.{Reading}
-use Rattle.sheet.specs.Blocks.{Sheet, fourBlocks}
-use Rattle.sheet.specs.Reading.{counted, scoped, declared, nodesFine, wholeJudged, countJudged, scopeJudged, declarationJudged, nodeJudged, walkJudged}
-use Rattle.sheet.specs.Facts.{Counts}
-use Rattle.sheet.proofs.Counts.{counts}
+use Rattle.sheet_rules.specs.Blocks.{Sheet, fourBlocks}
+use Rattle.sheet_rules.specs.Reading.{counted, scoped, declared, nodesFine, Answer, wholeJudged, countJudged, scopeJudged, declarationJudged, nodeJudged, walkJudged}
+use Rattle.sheet_rules.specs.Facts.{Counts}
+use Rattle.sheet_rules.proofs.Counts.{counts}
 use Rattle.sheet.proofs.Verdicts.{refuse, pass}
 use borrow.Author.Needs.{needs}
 use Rattle.sheet.proofs.judge.judge_blocks.Statement.{statement}
@@ -46,31 +44,31 @@ is-fine c = c .nodes-fine .ensures
     (blocksOf (c .before .before .before .before .before .before .before .before .before .before .before .before .before .before .before)) refl refl refl refl
 
 -- past a test the rest of the tests decides
-past-whole : (c : tie.Else1) {x : Reading} → x ≡ countJudged (blocksOf (c .before .before .before .before .before .before))
+past-whole : (c : tie.Else1) {x : Answer} → x ≡ countJudged (blocksOf (c .before .before .before .before .before .before))
     → x ≡ wholeJudged (blocksOf (c .before .before .before .before .before .before))
-past-whole c h = pass _ _ Refusal.Length _ _ (c .before .is-whole .ensures) (c .if1 .left) h
+past-whole c h = pass _ _ 2 _ _ (c .before .is-whole .ensures) (c .if1 .left) h
 
-past-counted : (c : tie.Else2) {x : Reading} → x ≡ scopeJudged (blocksOf (c .before .before .before .before .before .before .before .before))
+past-counted : (c : tie.Else2) {x : Answer} → x ≡ scopeJudged (blocksOf (c .before .before .before .before .before .before .before .before))
     → x ≡ wholeJudged (blocksOf (c .before .before .before .before .before .before .before .before))
-past-counted c h = past-whole (c .before .before) (pass _ _ Refusal.Count _ _ (is-counted (c .before)) (c .if2 .left) h)
+past-counted c h = past-whole (c .before .before) (pass _ _ 3 _ _ (is-counted (c .before)) (c .if2 .left) h)
 
-past-scoped : (c : tie.Else3) {x : Reading}
+past-scoped : (c : tie.Else3) {x : Answer}
     → x ≡ declarationJudged (blocksOf (c .before .before .before .before .before .before .before .before .before .before))
     → x ≡ wholeJudged (blocksOf (c .before .before .before .before .before .before .before .before .before .before))
-past-scoped c h = past-counted (c .before .before) (pass _ _ Refusal.Scope _ _ (is-scoped (c .before)) (c .if3 .left) h)
+past-scoped c h = past-counted (c .before .before) (pass _ _ 4 _ _ (is-scoped (c .before)) (c .if3 .left) h)
 
-past-declared : (c : tie.Else4) {x : Reading}
+past-declared : (c : tie.Else4) {x : Answer}
     → x ≡ nodeJudged (blocksOf (c .before .before .before .before .before .before .before .before .before .before .before .before .before .before))
     → x ≡ wholeJudged (blocksOf (c .before .before .before .before .before .before .before .before .before .before .before .before .before .before))
 past-declared c h =
-    past-scoped (c .before .before .before .before) (pass _ _ Refusal.Declaration _ _ (is-declared (c .before)) (c .if4 .left) h)
+    past-scoped (c .before .before .before .before) (pass _ _ 5 _ _ (is-declared (c .before)) (c .if4 .left) h)
 
-past-fine : (c : tie.Else5) {x : Reading}
+past-fine : (c : tie.Else5) {x : Answer}
     → x ≡ walkJudged (blocksOf
     (c .before .before .before .before .before .before .before .before .before .before .before .before .before .before .before .before))
     → x ≡ wholeJudged (blocksOf
     (c .before .before .before .before .before .before .before .before .before .before .before .before .before .before .before .before))
-past-fine c h = past-declared (c .before .before) (pass _ _ Refusal.Node _ _ (is-fine (c .before)) (c .if5 .left) h)
+past-fine c h = past-declared (c .before .before) (pass _ _ 6 _ _ (is-fine (c .before)) (c .if5 .left) h)
 
 -- what number 3 leaves of the counts
 counts-at : (c : tie.Else2) → let a = c .before .before .before .before .before .before .before .before .args in
@@ -81,19 +79,19 @@ is-whole-requires : tie.Need-is-whole-requires
 is-whole-requires c κs = search needs
 
 returns : tie.Need-returns
-returns c = refuse _ _ Refusal.Length _ (c .before .is-whole .ensures) (c .if1 .taken)
+returns c = refuse _ _ 2 _ (c .before .is-whole .ensures) (c .if1 .taken)
 
 is-counted-requires : tie.Need-is-counted-requires
 is-counted-requires c κs = search needs
 
 returns-2 : tie.Need-returns-2
-returns-2 c = past-whole (c .before .before) (refuse _ _ Refusal.Count _ (is-counted (c .before)) (c .if2 .taken))
+returns-2 c = past-whole (c .before .before) (refuse _ _ 3 _ (is-counted (c .before)) (c .if2 .taken))
 
 scopes-fine-requires : tie.Need-scopes-fine-requires
 scopes-fine-requires c κs = search needs
 
 returns-3 : tie.Need-returns-3
-returns-3 c = past-counted (c .before .before) (refuse _ _ Refusal.Scope _ (is-scoped (c .before)) (c .if3 .taken))
+returns-3 c = past-counted (c .before .before) (refuse _ _ 4 _ (is-scoped (c .before)) (c .if3 .taken))
 
 variables-fine-requires : tie.Need-variables-fine-requires
 variables-fine-requires c κs = search needs
@@ -106,13 +104,13 @@ both-requires c κs = search needs
 
 returns-4 : tie.Need-returns-4
 returns-4 c =
-    past-scoped (c .before .before .before .before) (refuse _ _ Refusal.Declaration _ (is-declared (c .before)) (c .if4 .taken))
+    past-scoped (c .before .before .before .before) (refuse _ _ 5 _ (is-declared (c .before)) (c .if4 .taken))
 
 nodes-fine-requires : tie.Need-nodes-fine-requires
 nodes-fine-requires c κs = counts-at (c .before .before .before .before .before .before) .few-nodes
 
 returns-5 : tie.Need-returns-5
-returns-5 c = past-declared (c .before .before) (refuse _ _ Refusal.Node _ (is-fine (c .before)) (c .if5 .taken))
+returns-5 c = past-declared (c .before .before) (refuse _ _ 6 _ (is-fine (c .before)) (c .if5 .taken))
 
 judge-walk-requires : tie.Need-judge-walk-requires
 judge-walk-requires c κs =

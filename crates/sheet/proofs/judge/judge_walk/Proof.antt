@@ -4,13 +4,11 @@ use mathlib.Core.Bool.{_&&_}
 use native.Mathlib.Omega.{arith}
 use lib.ListN.{getD}
 use Rattle.prelude.proofs.Laws.{each-cong}
-use Rattle.refusal.specs.declared.Refusal.{Refusal}
-use Rattle.sheet.specs.declared.Reading.the-variants.{Accepted}
-use Rattle.sheet.specs.Blocks.{Sheet, fourBlocks, root}
+use Rattle.sheet_rules.specs.Blocks.{Sheet, fourBlocks, root}
 use Rattle.shapes.specs.Shapes.{isShaped, isFormula}
-use Rattle.sheet.specs.Tables.{visits}
+use Rattle.sheet_rules.specs.Tables.{visits}
 use Rattle.sheet.specs.Filling.{capped}
-use Rattle.sheet.specs.Reading.{shaped, rooted, walkable}
+use Rattle.sheet_rules.specs.Reading.{accepted, shaped, rooted, walkable}
 use Rattle.sheet.proofs.Verdicts.{refuse, pass, refuse-false, pass-true, over-limit, under-limit}
 use borrow.Author.Needs.{needs}
 use Rattle.sheet.proofs.judge.judge_walk.Statement.{statement}
@@ -55,7 +53,7 @@ all-shaped-requires : tie.Need-all-shaped-requires
 all-shaped-requires c κs = search needs
 
 returns : tie.Need-returns
-returns c = refuse _ _ Refusal.Shape _ (is-shaped (c .before)) (c .if1 .taken)
+returns c = refuse _ _ 7 _ (is-shaped (c .before)) (c .if1 .taken)
 
 shape-at-requires : tie.Need-shape-at-requires
 shape-at-requires c κs = search needs
@@ -71,8 +69,8 @@ both-requires c κs = search needs
 
 returns-2 : tie.Need-returns-2
 returns-2 c =
-    pass _ _ Refusal.Shape _ _ (is-shaped (c .before .before .before .before .before .before)) (c .before .before .before .before .before .if1 .left)
-    (refuse _ _ Refusal.Root _ (is-rooted (c .before)) (c .if2 .taken))
+    pass _ _ 7 _ _ (is-shaped (c .before .before .before .before .before .before)) (c .before .before .before .before .before .if1 .left)
+    (refuse _ _ 8 _ (is-rooted (c .before)) (c .if2 .taken))
 
 visits-of-requires : tie.Need-visits-of-requires
 visits-of-requires c κs = search needs
@@ -83,10 +81,10 @@ count-at-requires c κs = search needs
 returns-3 : tie.Need-returns-3
 unfolding walkable
 returns-3 c =
-    pass _ _ Refusal.Shape _ _ (is-shaped (c .before .before .before .before .before .before .before .before .before))
+    pass _ _ 7 _ _ (is-shaped (c .before .before .before .before .before .before .before .before .before))
     (c .before .before .before .before .before .before .before .before .if1 .left)
-    (pass _ _ Refusal.Root _ _ (is-rooted (c .before .before .before .before)) (c .before .before .before .if2 .left)
-    (refuse-false _ Refusal.Walk _ (over-limit _ _ (is-visits (c .before)) (c .if3 .taken))))
+    (pass _ _ 8 _ _ (is-rooted (c .before .before .before .before)) (c .before .before .before .if2 .left)
+    (refuse-false _ 9 _ (over-limit _ _ (is-visits (c .before)) (c .if3 .taken))))
 
 layout-requires : tie.Need-layout-requires
 layout-requires c κs = search needs
@@ -94,11 +92,11 @@ layout-requires c κs = search needs
 returns-4 : tie.Need-returns-4
 unfolding walkable
 returns-4 c =
-    pass _ _ Refusal.Shape _ _ (is-shaped (c .before .before .before .before .before .before .before .before .before .before))
+    pass _ _ 7 _ _ (is-shaped (c .before .before .before .before .before .before .before .before .before .before))
     (c .before .before .before .before .before .before .before .before .before .if1 .left)
-    (pass _ _ Refusal.Root _ _ (is-rooted (c .before .before .before .before .before)) (c .before .before .before .before .if2 .left)
-    (pass-true _ Refusal.Walk _ _ (under-limit _ _ (is-visits (c .before .before)) (c .before .if3 .left))
-    (ap Accepted (c .layout .ensures
+    (pass _ _ 8 _ _ (is-rooted (c .before .before .before .before .before)) (c .before .before .before .before .if2 .left)
+    (pass-true _ 9 _ _ (under-limit _ _ (is-visits (c .before .before)) (c .before .if3 .left))
+    (ap accepted (c .layout .ensures
     (blocksOf (c .before .before .before .before .before .before .before .before .before .before .before .before .before .before .before .before)) refl refl refl refl))))
 
 pub judge-walk-spec : {M : Type 1} → statement M

@@ -6,8 +6,8 @@ use Prim.Native.Nat.{ℕ, _≤_, _-_, _/_}
 use native.Mathlib.Omega.{arith}
 use lib.ListN.{length, getD}
 use Rattle.prelude.specs.Tests.{each}
-use Rattle.sheet.specs.Blocks.{Sheet, root as rootOf}
-use Rattle.sheet.specs.Tables.{free}
+use Rattle.sheet_rules.specs.Blocks.{Sheet, root as rootOf}
+use Rattle.sheet_rules.specs.Tables.{free}
 use Rattle.sheet.proofs.Loops.{each-none, each-more}
 use Rattle.sheet.proofs.tables.closed.Statement.{statement}
 use Rattle.sheet.proofs.tables.closed.Tie as tie

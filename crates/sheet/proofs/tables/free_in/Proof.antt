@@ -5,11 +5,11 @@ use Prim.Native.Nat.{ℕ, _≤_, _-_, _/_}
 use mathlib.Core.List.{List}
 use native.Mathlib.Omega.{arith}
 use lib.ListN.{length, getD, length-set, length-replicate}
-use Rattle.sheet.specs.Blocks.{Sheet, fieldA, fieldB}
+use Rattle.sheet_rules.specs.Blocks.{Sheet, fieldA, fieldB}
 use Rattle.sheet.specs.Filling.{Fills}
 use Rattle.sheet.proofs.FillingLaws.{fills-none, fills-more}
 use mathlib.Core.Bool.{Bool, false}
-use Rattle.sheet.specs.Tables.{table, freeStep}
+use Rattle.sheet_rules.specs.Tables.{table, freeStep}
 use Rattle.sheet.proofs.tables.free_in.Statement.{statement}
 use Rattle.sheet.proofs.tables.free_in.Tie as tie
 

@@ -1,6 +1,6 @@
 -- The row of the kind, the fields, and the shapes of what they name.
 use mathlib.Core.Path.{_≡_}
-use Rattle.sheet.specs.Tables.{shapeStep}
+use Rattle.sheet_rules.specs.Tables.{shapeStep}
 use borrow.Author.Needs.{needs}
 use Rattle.sheet.proofs.tables.node_shape.Statement.{statement}
 use Rattle.sheet.proofs.tables.node_shape.Tie as tie

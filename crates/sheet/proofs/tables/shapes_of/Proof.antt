@@ -4,8 +4,8 @@ use mathlib.Core.Path.{_≡_, refl}
 use Prim.Native.Nat.{ℕ, _≤_, _-_, _/_}
 use native.Mathlib.Omega.{arith}
 use lib.ListN.{length, getD, length-set, length-replicate}
-use Rattle.sheet.specs.Blocks.{Sheet, fieldA, fieldB}
-use Rattle.sheet.specs.Tables.{table, shapeStep}
+use Rattle.sheet_rules.specs.Blocks.{Sheet, fieldA, fieldB}
+use Rattle.sheet_rules.specs.Tables.{table, shapeStep}
 use Rattle.sheet.specs.Filling.{Fills}
 use Rattle.sheet.proofs.FillingLaws.{fills-none, fills-more}
 use Rattle.shapes.specs.declared.Shape.{Shape}

@@ -5,11 +5,11 @@ use Prim.Native.Nat.{ℕ, _≤_, _-_, _/_}
 use mathlib.Core.List.{List, []}
 use native.Mathlib.Omega.{arith}
 use lib.ListN.{length, getD, length-set, length-replicate}
-use Rattle.sheet.specs.Blocks.{Sheet, scope, sortOf, kind, fieldA, fieldB}
+use Rattle.sheet_rules.specs.Blocks.{Sheet, scope, sortOf, kind, fieldA, fieldB}
 use Rattle.kinds.specs.Kinds.{rowOf}
 use Rattle.sheet.specs.Filling.{Fills, capped}
 use Rattle.sheet.proofs.FillingLaws.{fills-none, fills-more}
-use Rattle.sheet.specs.Tables.{table, visitsStep}
+use Rattle.sheet_rules.specs.Tables.{table, visitsStep}
 use Rattle.sheet.proofs.Visits.{capped-le, capped-visits}
 use Rattle.sheet.proofs.tables.visits_of.Statement.{statement}
 use Rattle.sheet.proofs.tables.visits_of.Tie as tie

@@ -1,7 +1,7 @@
 -- `leaf` meets its contract, kind by kind.
 use mathlib.Core.Path.{refl, ap, _∙_}
 use native.Mathlib.Omega.{arith}
-use Rattle.sheet.specs.Blocks.{byte, fourBlocks}
+use Rattle.sheet_rules.specs.Blocks.{byte, fourBlocks}
 use Rattle.nodes.specs.Environments.{environment}
 use Rattle.terms.proofs.Numbers.{at-relation, at-variable, at-atoms, at-identity}
 use Rattle.terms.proofs.LeafMatrices.{variable-is, sort-is, identity-is}

@@ -3,7 +3,7 @@ use Prim.Native.Nat.{_*_, ℕ}
 use mathlib.Core.Path.{sym, ap, _∙_}
 use native.Mathlib.Omega.{arith}
 use mathlib.Core.List.{List}
-use Rattle.sheet.specs.Blocks.{byte}
+use Rattle.sheet_rules.specs.Blocks.{byte}
 use Rattle.cells.proofs.Layouts.{set-rows, count-most, width-most, cells-most}
 use Rattle.terms.proofs.LeafMatrices.{relation-from}
 use borrow.Author.Needs.{needs}

@@ -8,7 +8,7 @@ use mir.Syntax.{w32}
 use mir.Val.{SFits}
 use borrow.Author.Needs.{needs}
 use Rattle.literal.proofs.Signs.{back}
-use Rattle.sheet.specs.Blocks.{byte, fourBlocks}
+use Rattle.sheet_rules.specs.Blocks.{byte, fourBlocks}
 use Rattle.cells.proofs.Layouts.{scopes-of}
 use Rattle.nodes.specs.Nodes.{IsExpression, IsFormula}
 use Rattle.nodes.proofs.Views.{expression-low, formula-low}

@@ -7,10 +7,10 @@ use Prim.Native.Nat.{ℕ, _≤_, _<_}
 use lib.ListN.{getD}
 use Rattle.kinds.specs.Kinds.{rowOf, isKnown}
 use Rattle.shapes.specs.declared.Shape.the-variants.{Ill, Formula}
-use Rattle.sheet.specs.Blocks.{Sheet, sortCount, scope, variableCount, sortOf, relationCount, columns, multiplicity, firstSort, secondSort, nodeCount, kind, fieldA, fieldB, root}
+use Rattle.sheet_rules.specs.Blocks.{Sheet, sortCount, scope, variableCount, sortOf, relationCount, columns, multiplicity, firstSort, secondSort, nodeCount, kind, fieldA, fieldB, root}
 use Rattle.shapes.specs.Shapes.{isShaped}
-use Rattle.sheet.specs.Tables.{shapes, free, visits}
-use Rattle.sheet.specs.Reading.{fieldFine}
+use Rattle.sheet_rules.specs.Tables.{shapes, free, visits}
+use Rattle.sheet_rules.specs.Reading.{fieldFine}
 
 -- counts within their ranges
 pub record Counts (sorts variables relations nodes : ℕ) : Type 0 where

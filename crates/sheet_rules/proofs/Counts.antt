@@ -5,7 +5,7 @@ use Prim.Native.Nat.{ℕ, _≤_}
 use lib.Dec.{leb}
 use borrow.Author.Tests.{leb-true}
 use Rattle.prelude.specs.Tests.{between}
-use Rattle.sheet.specs.Facts.{Counts}
+use Rattle.sheet_rules.specs.Facts.{Counts}
 use Rattle.prelude.proofs.Laws.{and-left, and-right, between-low, between-high}
 
 pub counts : (s x r n : ℕ) → (between 1 8 s && (leb x 4 && (between 1 16 r && between 1 200 n))) ≡ true → Counts s x r n

@@ -2,21 +2,19 @@
 use mathlib.Core.Path.{_≡_, refl}
 use mathlib.Core.Bool.{Bool, true, _&&_}
 use mathlib.Core.List.{List, [], _∷_, _++_}
-use Prim.Native.Nat.{ℕ, zero, suc, _/_, _%_}
+use Prim.Native.Nat.{ℕ, zero, suc, _+_, _/_, _%_}
 use lib.Dec.{eqb}
 use lib.ListN.{length}
 use Rattle.prelude.specs.Tests.{each, all}
-use Rattle.refusal.specs.Refusals.{numberOf}
 use Rattle.kinds.specs.Kinds.{rowOf}
-use Rattle.sheet.specs.declared.Reading.{Reading}
-use Rattle.sheet.specs.declared.Reading.the-variants.{Accepted, Refused}
-use Rattle.sheet.specs.Tables.{table, shapeStep, freeStep, visitsStep}
-use Rattle.sheet.specs.Reading.{counted, scoped, declared, nodesFine, shaped, rooted, walkable, reading}
+use Rattle.sheet_rules.specs.Blocks.{sheetOf}
+use Rattle.sheet_rules.specs.Tables.{table, shapeStep, freeStep, visitsStep, visits}
+use Rattle.sheet_rules.specs.Reading.{counted, scoped, declared, nodesFine, shaped, rooted, walkable, Answer, accepted, refused, reading}
 
 -- the number of a reading; 0 where the sheet is accepted
-abbrev numberIn : Reading → ℕ
-numberIn (Accepted l) = 0
-numberIn (Refused r) = numberOf r
+abbrev numberIn : Answer → ℕ
+numberIn (accepted l) = 0
+numberIn (refused n) = n
 
 abbrev block : List ℕ → List ℕ
 block bytes = length bytes / 256 ∷ length bytes % 256 ∷ bytes
@@ -38,6 +36,10 @@ some-set = 1 ∷ 0 ∷ 0 ∷ 22 ∷ 0 ∷ 0 ∷ []
 abbrev doubled : ℕ → List ℕ
 doubled zero = 1 ∷ 0 ∷ 0 ∷ []
 doubled (suc v) = doubled v ++ (5 ∷ v ∷ v ∷ [])
+
+-- "some" of node v, under four binders
+abbrev bound : ℕ → List ℕ
+bound v = 22 ∷ v ∷ 0 ∷ 40 ∷ 0 ∷ suc v ∷ 40 ∷ 1 ∷ (2 + v) ∷ 40 ∷ 2 ∷ (3 + v) ∷ 40 ∷ 3 ∷ (4 + v) ∷ []
 
 pub record Case : Type 0 where
   pub bytes : List ℕ
@@ -89,10 +91,19 @@ cases =
     -- the root is no formula; a variable is bound on one path down from the root and not on another
     case 8 (sheet (2 ∷ []) [] set (1 ∷ 0 ∷ 0 ∷ [])) ∷
     case 8 (sheet (2 ∷ []) (0 ∷ []) set (2 ∷ 0 ∷ 0 ∷ 22 ∷ 0 ∷ 0 ∷ 40 ∷ 0 ∷ 1 ∷ 31 ∷ 1 ∷ 2 ∷ [])) ∷
+    -- another variable is bound
+    case 8 (sheet (2 ∷ []) (0 ∷ 0 ∷ []) set (2 ∷ 1 ∷ 0 ∷ 22 ∷ 0 ∷ 0 ∷ 40 ∷ 0 ∷ 1 ∷ [])) ∷ []
+
+-- long walks
+abbrev pub walks : List Case
+walks =
     -- 1,048,575 visits, and far more than 2^64 of them
     case 9 (sheet (2 ∷ []) [] set (doubled 18 ++ (22 ∷ 18 ∷ 0 ∷ 31 ∷ 19 ∷ 19 ∷ []))) ∷
     case 9 (sheet (2 ∷ []) [] set (doubled 80 ++ (22 ∷ 80 ∷ 0 ∷ []))) ∷
-    case 0 (sheet (2 ∷ []) [] set (doubled 18 ++ (22 ∷ 18 ∷ 0 ∷ []))) ∷ []
+    case 0 (sheet (2 ∷ []) [] set (doubled 18 ++ (22 ∷ 18 ∷ 0 ∷ []))) ∷
+    -- four binders over 8 atoms each: 1,049,161 visits, and 524,873
+    case 9 (sheet (8 ∷ []) (0 ∷ 0 ∷ 0 ∷ 0 ∷ []) set (doubled 7 ++ bound 7)) ∷
+    case 0 (sheet (8 ∷ []) (0 ∷ 0 ∷ 0 ∷ 0 ∷ []) set (doubled 6 ++ bound 6)) ∷ []
 
 abbrev agrees : Case → Bool
 agrees c = eqb (numberIn (reading (c .bytes))) (c .number)
@@ -100,3 +111,13 @@ agrees c = eqb (numberIn (reading (c .bytes))) (c .number)
 pub read-as-said : all agrees cases ≡ true
 unfolding rowOf each all table shapeStep freeStep visitsStep counted scoped declared nodesFine shaped rooted walkable reading
 read-as-said = refl
+
+pub walked-as-said : all agrees walks ≡ true
+unfolding rowOf each all table shapeStep freeStep visitsStep counted scoped declared nodesFine shaped rooted walkable reading
+walked-as-said = refl
+
+-- a body is walked for each atom: the visits of a set, of "some" of it, and of two binders over 3 atoms around that
+pub visits-counted : visits (sheetOf (sheet (3 ∷ []) (0 ∷ 0 ∷ []) set (some-set ++ (40 ∷ 0 ∷ 1 ∷ 40 ∷ 1 ∷ 2 ∷ []))))
+    ≡ 1 ∷ 2 ∷ 7 ∷ 22 ∷ []
+unfolding rowOf table visitsStep
+visits-counted = refl

@@ -7,24 +7,20 @@ use Prim.Native.Nat.{ℕ, _+_, _≤_, _<_}
 use native.Mathlib.Omega.{arith}
 use native.Mathlib.Decide.{decLt}
 use lib.Dec.{eqb, ltb, leb}
-use lib.ListN.{getD, length}
+use lib.ListN.{getD, length, List·getD-eq-default}
 use borrow.Author.Tests.{ltb-true, leb-true, eqb-true, eq-eqb, not-true, ne-eqb}
 use Rattle.prelude.specs.Tests.{between, each}
 use Rattle.prelude.proofs.Laws.{and-left, and-right, between-low, between-high, each-at}
-use Rattle.refusal.specs.declared.Refusal.{Refusal}
 use Rattle.kinds.specs.Kinds.{rowOf, isKnown}
-use Rattle.sheet.specs.declared.Layout.{Layout}
-use Rattle.sheet.specs.declared.Reading.{Reading}
-use Rattle.sheet.specs.declared.Reading.the-variants.{Accepted, Refused}
+use Rattle.sheet_rules.specs.declared.Layout.{Layout}
 use Rattle.shapes.specs.declared.Shape.{Shape}
 use Rattle.shapes.specs.declared.Shape.the-variants.{Ill, Formula, SetOf, RelationOf}
-use Rattle.sheet.specs.Blocks.{Sheet, byte, sheetOf, sortCount, scope, variableCount, sortOf, relationCount, columns, multiplicity, firstSort, secondSort, nodeCount, kind, fieldA, fieldB, root}
+use Rattle.sheet_rules.specs.Blocks.{Sheet, byte, sheetOf, sortCount, scope, variableCount, sortOf, relationCount, columns, multiplicity, firstSort, secondSort, nodeCount, kind, fieldA, fieldB, root}
 use Rattle.shapes.specs.Shapes.{isShaped, isFormula}
-use Rattle.sheet.specs.Tables.{shapes, free, visits}
-use Rattle.sheet.specs.Reading.{versioned, filled, whole, counted, scoped, isSort, relationDeclared, declared, fieldFine, nodeFine, nodesFine, shaped, rooted, walkable, layoutOf, unless, walkJudged, nodeJudged, declarationJudged, scopeJudged, countJudged, wholeJudged, reading}
-use Rattle.sheet.specs.Facts.{Counts, Facts}
-use Rattle.sheet.proofs.Counts.{counts}
-use Rattle.sheet.proofs.FillingLaws.{get-past}
+use Rattle.sheet_rules.specs.Tables.{shapes, free, visits}
+use Rattle.sheet_rules.specs.Reading.{versioned, filled, whole, counted, scoped, isSort, relationDeclared, declared, fieldFine, nodeFine, nodesFine, shaped, rooted, walkable, layoutOf, Answer, accepted, refused, unless, walkJudged, nodeJudged, declarationJudged, scopeJudged, countJudged, wholeJudged, reading}
+use Rattle.sheet_rules.specs.Facts.{Counts, Facts}
+use Rattle.sheet_rules.proofs.Counts.{counts}
 
 -- ---- all nine conditions
 pub record Conditions (s : List ℕ) : Type 0 where
@@ -39,29 +35,29 @@ pub record Conditions (s : List ℕ) : Type 0 where
   pub is-rooted : rooted (sheetOf s) ≡ true
   pub is-walkable : walkable (sheetOf s) ≡ true
 
-abbrev IsAccepted : Reading → Type 0
-IsAccepted (Accepted l) = Unit {0}
-IsAccepted (Refused r) = ⊥
+abbrev IsAccepted : Answer → Type 0
+IsAccepted (accepted l) = Unit {0}
+IsAccepted (refused n) = ⊥
 
-passes : (fine : Bool) (r : Refusal) (next : Reading) → IsAccepted (unless fine r next) → (fine ≡ true) × IsAccepted next
-passes true r next a = (refl, a)
-passes false r next a = absurd a
+passes : (fine : Bool) (n : ℕ) (next : Answer) → IsAccepted (unless fine n next) → (fine ≡ true) × IsAccepted next
+passes true n next a = (refl, a)
+passes false n next a = absurd a
 
 all-conditions : (s : List ℕ) → IsAccepted (reading s) → Conditions s
 unfolding reading
 all-conditions s a =
     let sheet = sheetOf s in
-    let p₁ = passes (versioned s) Refusal.Version (unless (filled s) Refusal.Length (wholeJudged sheet)) a in
-    let p₂ = passes (filled s) Refusal.Length (wholeJudged sheet) (p₁ .1) in
-    let p₃ = passes (whole sheet) Refusal.Length (countJudged sheet) (p₂ .1) in
-    let p₄ = passes (counted sheet) Refusal.Count (scopeJudged sheet) (p₃ .1) in
-    let p₅ = passes (scoped sheet) Refusal.Scope (declarationJudged sheet) (p₄ .1) in
-    let p₆ = passes (declared sheet) Refusal.Declaration (nodeJudged sheet) (p₅ .1) in
-    let p₇ = passes (nodesFine sheet) Refusal.Node (walkJudged sheet) (p₆ .1) in
-    let p₈ = passes (shaped sheet) Refusal.Shape
-    (unless (rooted sheet) Refusal.Root (unless (walkable sheet) Refusal.Walk (Accepted (layoutOf sheet)))) (p₇ .1) in
-    let p₉ = passes (rooted sheet) Refusal.Root (unless (walkable sheet) Refusal.Walk (Accepted (layoutOf sheet))) (p₈ .1) in
-    let p₁₀ = passes (walkable sheet) Refusal.Walk (Accepted (layoutOf sheet)) (p₉ .1) in
+    let p₁ = passes (versioned s) 1 (unless (filled s) 2 (wholeJudged sheet)) a in
+    let p₂ = passes (filled s) 2 (wholeJudged sheet) (p₁ .1) in
+    let p₃ = passes (whole sheet) 2 (countJudged sheet) (p₂ .1) in
+    let p₄ = passes (counted sheet) 3 (scopeJudged sheet) (p₃ .1) in
+    let p₅ = passes (scoped sheet) 4 (declarationJudged sheet) (p₄ .1) in
+    let p₆ = passes (declared sheet) 5 (nodeJudged sheet) (p₅ .1) in
+    let p₇ = passes (nodesFine sheet) 6 (walkJudged sheet) (p₆ .1) in
+    let p₈ = passes (shaped sheet) 7
+    (unless (rooted sheet) 8 (unless (walkable sheet) 9 (accepted (layoutOf sheet)))) (p₇ .1) in
+    let p₉ = passes (rooted sheet) 8 (unless (walkable sheet) 9 (accepted (layoutOf sheet))) (p₈ .1) in
+    let p₁₀ = passes (walkable sheet) 9 (accepted (layoutOf sheet)) (p₉ .1) in
     record {
       is-versioned = p₁ .0;
       is-filled = p₂ .0;
@@ -75,11 +71,11 @@ all-conditions s a =
       is-walkable = p₁₀ .0;
     }
 
-pub conditions : (s : List ℕ) (l : Layout) → reading s ≡ Accepted l → Conditions s
+pub conditions : (s : List ℕ) (l : Layout) → reading s ≡ accepted l → Conditions s
 conditions s l e = all-conditions s (rw e tt)
 
 -- the layout is the definition's
-pub accepted-layout : (s : List ℕ) (l : Layout) → reading s ≡ Accepted l → l ≡ layoutOf (sheetOf s)
+pub accepted-layout : (s : List ℕ) (l : Layout) → reading s ≡ accepted l → l ≡ layoutOf (sheetOf s)
 unfolding reading
 accepted-layout s l e =
     let k = conditions s l e in
@@ -94,7 +90,7 @@ module _ (sheet : Sheet) where
     where
       go : Dec (k < sortCount sheet) → scope sheet k ≤ 8
       go (yes h) = between-high 1 8 (scope sheet k) (each-at (λ i. between 1 8 (scope sheet i)) (sortCount sheet) e k h)
-      go (no h) = rw (get-past (sheet .sorts) 0 k (omega arith)) (omega arith)
+      go (no h) = rw (List·getD-eq-default (sheet .sorts) 0 {n = k} (omega arith)) (omega arith)
 
   some-scope : scoped sheet ≡ true → (k : ℕ) → k < sortCount sheet → 1 ≤ scope sheet k
   unfolding scoped
@@ -193,7 +189,7 @@ module _ (sheet : Sheet) where
       (each-at (λ i. not (getD (free sheet i) (root sheet) false)) (variableCount sheet)
       (and-right (isFormula (getD (shapes sheet) (root sheet) Ill)) closed e) x h)
 
-pub accepted-facts : (s : List ℕ) (l : Layout) → reading s ≡ Accepted l → Facts (sheetOf s)
+pub accepted-facts : (s : List ℕ) (l : Layout) → reading s ≡ accepted l → Facts (sheetOf s)
 unfolding counted walkable
 accepted-facts s l e =
     let k = conditions s l e in

@@ -6,7 +6,7 @@ use native.Mathlib.Omega.{arith}
 use native.Mathlib.Decide.{ℕ-discrete}
 use lib.ListN.{length, getD, length-append, List·getD-append}
 use lib.Seq.{getD-at}
-use Rattle.sheet.specs.Tables.{table}
+use Rattle.sheet_rules.specs.Tables.{table}
 
 module _ {A : Type 0} (step : ℕ → List A → A) where
   pub table-length : (n : ℕ) → length (table step n) ≡ n

@@ -5,17 +5,14 @@ use Prim.Native.Nat.{ℕ, _+_, _%_}
 use lib.Dec.{eqb, ltb, leb}
 use lib.ListN.{length, getD}
 use Rattle.prelude.specs.Tests.{between, each}
-use Rattle.refusal.specs.declared.Refusal.{Refusal}
 use Rattle.kinds.specs.declared.Field.{Field}
 use Rattle.kinds.specs.declared.Field.the-variants.{Unused, Node, Relation, Variable, Sort}
 use Rattle.shapes.specs.declared.Shape.the-variants.{Ill}
-use Rattle.sheet.specs.declared.Layout.{Layout}
-use Rattle.sheet.specs.declared.Reading.{Reading}
-use Rattle.sheet.specs.declared.Reading.the-variants.{Accepted, Refused}
-use Rattle.sheet.specs.Blocks.{Sheet, byte, blocksEnd, sheetOf, sortCount, scope, variableCount, sortOf, relationCount, columns, multiplicity, firstSort, secondSort, nodeCount, kind, fieldA, fieldB, root}
+use Rattle.sheet_rules.specs.declared.Layout.{Layout}
+use Rattle.sheet_rules.specs.Blocks.{Sheet, byte, blocksEnd, sheetOf, sortCount, scope, variableCount, sortOf, relationCount, columns, multiplicity, firstSort, secondSort, nodeCount, kind, fieldA, fieldB, root}
 use Rattle.kinds.specs.Kinds.{rowOf, isKnown}
 use Rattle.shapes.specs.Shapes.{isFormula, isShaped}
-use Rattle.sheet.specs.Tables.{shapes, free, visits}
+use Rattle.sheet_rules.specs.Tables.{shapes, free, visits}
 
 -- 1 VERSION, unless: "no byte, or byte 0 is not 1" (no byte counts as 0)
 abbrev pub versioned : List ℕ → Bool
@@ -99,33 +96,35 @@ module _ (sheet : Sheet) where
         nodes = record { start = nodes; count = nodeCount sheet };
       }
 
+-- what reading answers: accepted, with where the blocks stand, or the number of a refusal
+pub data Answer : Type 0 where
+  accepted : Layout → Answer
+  refused : ℕ → Answer
+
 -- "Tested in this order, each over all of its input"
-abbrev pub unless : Bool → Refusal → Reading → Reading
-unless true r next = next
-unless false r next = Refused r
+abbrev pub unless : Bool → ℕ → Answer → Answer
+unless true number next = next
+unless false number next = refused number
 
 -- 7 to 9
-abbrev pub walkJudged : Sheet → Reading
-walkJudged sheet =
-    unless (shaped sheet) Refusal.Shape
-    (unless (rooted sheet) Refusal.Root
-    (unless (walkable sheet) Refusal.Walk (Accepted (layoutOf sheet))))
+abbrev pub walkJudged : Sheet → Answer
+walkJudged sheet = unless (shaped sheet) 7 (unless (rooted sheet) 8 (unless (walkable sheet) 9 (accepted (layoutOf sheet))))
 
 -- 6 to 9, 5 to 9, and so on
-abbrev pub nodeJudged : Sheet → Reading
-nodeJudged sheet = unless (nodesFine sheet) Refusal.Node (walkJudged sheet)
+abbrev pub nodeJudged : Sheet → Answer
+nodeJudged sheet = unless (nodesFine sheet) 6 (walkJudged sheet)
 
-abbrev pub declarationJudged : Sheet → Reading
-declarationJudged sheet = unless (declared sheet) Refusal.Declaration (nodeJudged sheet)
+abbrev pub declarationJudged : Sheet → Answer
+declarationJudged sheet = unless (declared sheet) 5 (nodeJudged sheet)
 
-abbrev pub scopeJudged : Sheet → Reading
-scopeJudged sheet = unless (scoped sheet) Refusal.Scope (declarationJudged sheet)
+abbrev pub scopeJudged : Sheet → Answer
+scopeJudged sheet = unless (scoped sheet) 4 (declarationJudged sheet)
 
-abbrev pub countJudged : Sheet → Reading
-countJudged sheet = unless (counted sheet) Refusal.Count (scopeJudged sheet)
+abbrev pub countJudged : Sheet → Answer
+countJudged sheet = unless (counted sheet) 3 (scopeJudged sheet)
 
-abbrev pub wholeJudged : Sheet → Reading
-wholeJudged sheet = unless (whole sheet) Refusal.Length (countJudged sheet)
+abbrev pub wholeJudged : Sheet → Answer
+wholeJudged sheet = unless (whole sheet) 2 (countJudged sheet)
 
-unfoldable pub reading : List ℕ → Reading
-reading s = unless (versioned s) Refusal.Version (unless (filled s) Refusal.Length (wholeJudged (sheetOf s)))
+unfoldable pub reading : List ℕ → Answer
+reading s = unless (versioned s) 1 (unless (filled s) 2 (wholeJudged (sheetOf s)))
