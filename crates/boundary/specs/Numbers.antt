@@ -7,7 +7,7 @@ use Rattle.instance.specs.Answers as checked
 use Rattle.clauses.specs.Answers as counted
 use Rattle.dimacs.specs.Answers as text
 use Rattle.search.specs.Answers as searched
-use Rattle.solve.specs.Answers as back
+use Rattle.solve_rules.specs.Answers as back
 use Rattle.boundary.specs.declared.sheets.CheckAnswer.{CheckAnswer}
 use Rattle.boundary.specs.declared.lists.CountAnswer.{CountAnswer}
 use Rattle.boundary.specs.declared.runs.SearchAnswer.{SearchAnswer}

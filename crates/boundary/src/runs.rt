@@ -2,8 +2,9 @@
 ghost use mathlib.Core.Path.{_≡_};
 ghost use Rattle.search.specs.Answers as searched;
 ghost use Rattle.search.specs.Answers.{outcome};
-ghost use Rattle.solve.specs.Answers as back;
-ghost use Rattle.solve.specs.Finding.{slices, finding};
+ghost use Rattle.solve_rules.specs.Answers as back;
+ghost use Rattle.solve.specs.Answers.{answerOf};
+ghost use Rattle.solve_rules.specs.Finding.{slices, finding};
 ghost use Rattle.boundary.specs.Numbers.{searchNumbers, copyNumbers};
 use search::answer::Search;
 use solve::answer::ReadBack;
@@ -66,7 +67,7 @@ pub struct ReadBackAnswer {
 }
 
 fn copy_numbers(answer: ReadBack) -> ReadBackAnswer
-    ensures { λ r. ⌜ r ≡ copyNumbers (back.answerOf answer) ⌝ }
+    ensures { λ r. ⌜ r ≡ copyNumbers (answerOf answer) ⌝ }
 {
     match answer {
         ReadBack::Copied(cells) => ReadBackAnswer {

@@ -23,8 +23,8 @@ use Rattle.search_rules.specs.Rules.{firstUnit, lowestOpen, wordOf, byteOf, pla
 use Rattle.search_rules.specs.Run.{total, count, run}
 use Rattle.search.specs.Answers.{answerAt, valuesAt, trailAt, outcome}
 use Rattle.dimacs.specs.Text.{digits, decimal, literalText, clauseLine, clauseLines, header, textOf}
-use Rattle.solve.specs.Answers.{readBackAnswer, instanceAfter}
-use Rattle.solve.specs.Finding.{finding}
+use Rattle.solve_rules.specs.Answers.{readBackAnswer, instanceAfter}
+use Rattle.solve_rules.specs.Finding.{finding}
 use Rattle.solve.proofs.Table.{k1, lent, lentList, sheetWith}
 use Rattle.report.specs.Printed.{relationLines, findingText, clauseText}
 

@@ -23,7 +23,7 @@ use Rattle.dimacs.specs.Private.{Put}
 use Rattle.dimacs.proofs.Lines.{text-fits}
 use Rattle.dimacs.proofs.Answers.{write-bytes, after-bytes}
 use Rattle.dimacs.proofs.Puts.{put-length}
-use Rattle.solve.specs.Finding.{Slices}
+use Rattle.solve_rules.specs.Finding.{Slices}
 use Rattle.report.specs.Printed.{endLine, report, findingOf, findingText, slicesAfter, Prints, textAs, clauseText, listLeft}
 use Rattle.report.specs.Private.{PrintsText}
 

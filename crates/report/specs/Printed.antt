@@ -14,7 +14,7 @@ use Rattle.clauses.specs.Answers as clauses
 use Rattle.clauses.specs.Answers.{writeAnswer, listAfter}
 use Rattle.search.specs.Answers.{Answer, found, none, spent, refused}
 use Rattle.dimacs.specs.Text.{digit, decimal, textOf}
-use Rattle.solve.specs.Finding.{Slices, Finding, finding}
+use Rattle.solve_rules.specs.Finding.{Slices, Finding, finding}
 
 -- a cell is 0 or 1
 abbrev pub cellDigit : ℕ → ℕ

@@ -19,8 +19,8 @@ use Rattle.search_rules.specs.Rules.{truthOf, negated, literal, isFalsified, is
 use Rattle.search_rules.specs.Rules.{firstUnit, lowestOpen, wordOf, byteOf, placeOf, valuesOf, trailOf, turn, decide, next}
 use Rattle.search_rules.specs.Run.{total, count, run}
 use Rattle.search.specs.Answers.{answerAt, valuesAt, trailAt, outcome}
-use Rattle.solve.specs.Answers.{readBackAnswer, instanceAfter}
-use Rattle.solve.specs.Finding.{finding}
+use Rattle.solve_rules.specs.Answers.{readBackAnswer, instanceAfter}
+use Rattle.solve_rules.specs.Finding.{finding}
 use Rattle.solve.proofs.Table.{Row, shown, table}
 
 pub cases : map (λ (row : Row). shown (row .sheet) (row .budget)) table ≡ map (λ (row : Row). row .shows) table

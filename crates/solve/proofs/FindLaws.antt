@@ -19,14 +19,14 @@ use Rattle.clauses.specs.Answers.{countAnswer, listAfter}
 use Rattle.clauses.proofs.Answered.{count-fits}
 use Rattle.encoding.proofs.Match.{cells-variables}
 use Rattle.search.specs.Answers.{Answer, found, none, spent, refused, Outcome, outcome}
-use Rattle.solve.specs.Answers.{instanceAfter}
-use Rattle.solve.specs.Finding.{Slices, slices, Finding, decline, haveRoom, instanceFor, findIn, findAfter, finding}
-use Rattle.solve.specs.Demand3.{FitsLimits, FitSlices}
-use Rattle.solve.specs.Finds.{Finds}
+use Rattle.solve_rules.specs.Answers.{instanceAfter}
+use Rattle.solve_rules.specs.Finding.{Slices, slices, Finding, decline, haveRoom, instanceFor, findIn, findAfter, finding}
+use Rattle.solve_rules.specs.Demand3.{FitsLimits, FitSlices}
+use Rattle.solve_rules.specs.Finds.{Finds}
 use Rattle.solve.specs.Private.{Fitting, Left}
-use Rattle.solve.proofs.Demand3.{found-instance}
-use Rattle.solve.proofs.Findings.{Room, has-room, Declined, Ran, is-after, called}
-use Rattle.solve.proofs.Finds.{finds}
+use Rattle.solve_rules.proofs.Demand3.{found-instance}
+use Rattle.solve_rules.proofs.Findings.{Room, has-room, Declined, Ran, is-after, called}
+use Rattle.solve_rules.proofs.Finds.{finds}
 
 module _ (s : List ℕ) (lent : Slices) (budget : ℕ) where
   -- a finding, as it is ensured

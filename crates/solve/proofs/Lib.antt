@@ -1,8 +1,4 @@
-pub mod Calls
-pub mod Demand3
 pub mod ReadBacks
-pub mod Findings
-pub mod Finds
 pub mod FindLaws
 pub mod Table
 pub mod Cases

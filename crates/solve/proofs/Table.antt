@@ -7,9 +7,9 @@ use lib.ListN.{take, replicate}
 use Rattle.clauses.specs.Answers as count
 use Rattle.clauses.specs.Answers.{fits, countAnswer, writeAnswer, listAfter}
 use Rattle.search.specs.Answers.{Answer, found, none, spent, refused, Outcome, outcome}
-use Rattle.solve.specs.Answers as back
-use Rattle.solve.specs.Answers.{readBackAnswer, instanceAfter}
-use Rattle.solve.specs.Finding.{Slices, slices, Finding, finding, decline}
+use Rattle.solve_rules.specs.Answers as back
+use Rattle.solve_rules.specs.Answers.{readBackAnswer, instanceAfter}
+use Rattle.solve_rules.specs.Finding.{Slices, slices, Finding, finding, decline}
 
 -- what is lent: a list of 40 words, as many values and trail words as there are variables, an instance of 10 bytes
 abbrev pub lentList : List ℤ

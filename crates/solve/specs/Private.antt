@@ -11,9 +11,9 @@ use Rattle.relational.specs.Cells.{cellCount}
 use Rattle.clauses.specs.declared.answer.Size.{Size}
 use Rattle.encoding.specs.Whole.{variableTotal, wordTotal}
 use Rattle.search.specs.Answers as searched
-use Rattle.solve.specs.Answers.{Answer, copied, refused, instanceBy}
-use Rattle.solve.specs.Finding.{Slices, finding}
-use Rattle.solve.specs.Demand3.{FitsLimits, FitSlices}
+use Rattle.solve_rules.specs.Answers.{Answer, copied, refused, instanceBy}
+use Rattle.solve_rules.specs.Finding.{Slices, finding}
+use Rattle.solve_rules.specs.Demand3.{FitsLimits, FitSlices}
 
 -- read-back over values of v variables, and so many cells
 abbrev pub cellsAnswer : ℕ → ℕ → List ℕ → ℕ → Answer

@@ -3,8 +3,8 @@ use mathlib.Core.Path.{_≡_, sym, ap, _∙_}
 use borrow.Author.Needs.{needs}
 use Rattle.sheet.specs.Answers as read
 use Rattle.search.specs.Answers.{Answer}
-use Rattle.solve.specs.Finding.{Slices, slices, finding}
-use Rattle.solve.specs.Finds.{Finds}
+use Rattle.solve_rules.specs.Finding.{Slices, slices, finding}
+use Rattle.solve_rules.specs.Finds.{Finds}
 use Rattle.solve.specs.Private.{Left}
 use Rattle.solve.proofs.ReadBacks.{counting-refuses}
 use Rattle.solve.proofs.FindLaws.{counting-declines, means}

@@ -1,6 +1,6 @@
 -- `find_accepted` meets its contract: counting's refusals, and then what follows.
 use borrow.Author.Needs.{needs}
-use Rattle.solve.specs.Finding.{slices}
+use Rattle.solve_rules.specs.Finding.{slices}
 use Rattle.solve.proofs.ReadBacks.{count-refused, count-sized}
 use Rattle.solve.proofs.FindLaws.{counting-declines}
 use Rattle.solve.proofs.find_accepted.Statement.{statement}

@@ -11,7 +11,7 @@ use Rattle.search.proofs.answer.Search.{the-type}
 use Rattle.search.specs.declared.answer.Search.{Search}
 use Rattle.search.specs.declared.answer.Search.the-variants.{Found, None, Spent, Refused}
 use Rattle.search.specs.Answers.{found, answerOf}
-use Rattle.solve.specs.Finding.{Slices, slices}
+use Rattle.solve_rules.specs.Finding.{Slices, slices}
 use Rattle.solve.proofs.FindLaws.{cells-below, leaves-found, leaves-kept}
 use Rattle.solve.proofs.find_in.Statement.{statement}
 use Rattle.solve.proofs.find_in.Tie as tie

@@ -5,9 +5,9 @@ use borrow.Author.Needs.{needs}
 use Rattle.sheet_rules.specs.Blocks.{sheetOf}
 use Rattle.relational.specs.Cells.{cellCount}
 use Rattle.search.specs.Answers.{refused}
-use Rattle.solve.specs.Finding.{Slices, slices}
+use Rattle.solve_rules.specs.Finding.{Slices, slices}
 use Rattle.solve.specs.Private.{Left}
-use Rattle.solve.proofs.Findings.{Room}
+use Rattle.solve_rules.proofs.Findings.{Room}
 use Rattle.solve.proofs.FindLaws.{too-many-words, too-short, fitting}
 use Rattle.solve.proofs.find_sized.Statement.{statement}
 use Rattle.solve.proofs.find_sized.Tie as tie

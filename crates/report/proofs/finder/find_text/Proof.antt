@@ -6,8 +6,8 @@ use lib.ListN.{length}
 use borrow.Author.Needs.{needs}
 use Rattle.sheet_rules.specs.Blocks.{sheetOf}
 use Rattle.dimacs.proofs.Puts.{put-as}
-use Rattle.solve.specs.Finding.{Slices, slices}
-use Rattle.solve.proofs.Findings.{found-fits}
+use Rattle.solve_rules.specs.Finding.{Slices, slices}
+use Rattle.solve_rules.proofs.Findings.{found-fits}
 use Rattle.report.specs.Printed.{report}
 use Rattle.report.proofs.Texts.{prints, counts, long-text, long-slices, short-text, short-slices}
 use Rattle.report.proofs.finder.find_text.Statement.{statement}

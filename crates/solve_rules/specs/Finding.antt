@@ -10,7 +10,7 @@ use Rattle.relational.specs.Cells.{cellCount}
 use Rattle.clauses.specs.Answers as count
 use Rattle.clauses.specs.Answers.{countAnswer, listAfter}
 use Rattle.search.specs.Answers.{Answer, found, none, spent, refused, Outcome, outcome}
-use Rattle.solve.specs.Answers.{instanceAfter}
+use Rattle.solve_rules.specs.Answers.{instanceAfter}
 
 -- the contents of the slices that a caller lends
 pub record Slices : Type 0 where

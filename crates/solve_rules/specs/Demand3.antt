@@ -26,8 +26,8 @@ use Rattle.encoding.specs.Matching.{Solution}
 use Rattle.clauses.specs.Answers.{fits, countAnswer, writeAnswer, listAfter}
 use Rattle.search_rules.specs.Run.{EndedWithin}
 use Rattle.search.specs.Answers.{Outcome, found, none, spent, refused, outcome}
-use Rattle.solve.specs.Answers.{copied, readBackAnswer, instanceAfter}
-use Rattle.solve.specs.Finding.{Slices}
+use Rattle.solve_rules.specs.Answers.{copied, readBackAnswer, instanceAfter}
+use Rattle.solve_rules.specs.Finding.{Slices}
 
 -- "A sheet is accepted when none of 1 to 9 below applies to it. Its clauses fit the limits when neither 10 nor the word limit in 12 applies"
 pub record FitsLimits (s : List ℕ) : Type 0 where

@@ -16,11 +16,11 @@ use Rattle.search_rules.specs.Run.{End, wasNone, wasFound, wasSpent}
 use Rattle.search.specs.Answers.{found, refused, answerAt, searchRun}
 use Rattle.search.proofs.Outcomes.{runs}
 use Rattle.search.proofs.Theorems.{none-unsatisfiable, found-satisfies, spent-exactly}
-use Rattle.solve.specs.Answers.{instanceAfter}
-use Rattle.solve.specs.Finding.{Slices}
-use Rattle.solve.specs.Demand3 as d
-use Rattle.solve.specs.Demand3.{FitsLimits, FitSlices, ReadsBack, ReadsSolution, ReadBackOnce, Answered, Demanded, Demand3}
-use Rattle.solve.proofs.Calls.{counts, writes, writes-words, reads-back, instance-after, same-instance}
+use Rattle.solve_rules.specs.Answers.{instanceAfter}
+use Rattle.solve_rules.specs.Finding.{Slices}
+use Rattle.solve_rules.specs.Demand3 as d
+use Rattle.solve_rules.specs.Demand3.{FitsLimits, FitSlices, ReadsBack, ReadsSolution, ReadBackOnce, Answered, Demanded, Demand3}
+use Rattle.solve_rules.proofs.Calls.{counts, writes, writes-words, reads-back, instance-after, same-instance}
 
 -- the end of a run is no refusal
 no-refusal : (end : End) (number : ℕ) → answerAt end ≡ refused number → ⊥

@@ -17,8 +17,8 @@ use Rattle.encoding.specs.Whole.{words, variableTotal, clauseTotal, wordTotal, 
 use Rattle.clauses.specs.Answers as count
 use Rattle.clauses.specs.Answers.{fits, countAfter, countAnswer, writeAfter, writeAnswer, listAfter}
 use Rattle.clauses.proofs.Answered.{write-fits}
-use Rattle.solve.specs.Answers.{Answer, copied, refused, readBackAfter, readBackAnswer, instanceBy, instanceAfter}
-use Rattle.solve.specs.Demand3.{FitsLimits, ReadsBack}
+use Rattle.solve_rules.specs.Answers.{Answer, copied, refused, readBackAfter, readBackAnswer, instanceBy, instanceAfter}
+use Rattle.solve_rules.specs.Demand3.{FitsLimits, ReadsBack}
 
 module _ (s : List ℕ) (h : FitsLimits s) where
   abbrev size : count.Answer

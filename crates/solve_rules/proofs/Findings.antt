@@ -16,9 +16,9 @@ use Rattle.clauses.specs.Answers as count
 use Rattle.clauses.specs.Answers.{countAnswer}
 use Rattle.clauses.proofs.Answered.{Counted, count-fits}
 use Rattle.search.specs.Answers.{found, refused}
-use Rattle.solve.specs.Finding.{Slices, Finding, decline, haveRoom, findIn, findAfter, finding}
-use Rattle.solve.specs.Demand3.{FitsLimits, FitSlices}
-use Rattle.solve.proofs.Calls.{counts}
+use Rattle.solve_rules.specs.Finding.{Slices, Finding, decline, haveRoom, findIn, findAfter, finding}
+use Rattle.solve_rules.specs.Demand3.{FitsLimits, FitSlices}
+use Rattle.solve_rules.proofs.Calls.{counts}
 
 -- room for all, and what it says
 module _ (w v cells : ℕ) (lent : Slices) where

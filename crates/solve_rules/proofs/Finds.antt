@@ -11,12 +11,12 @@ use Rattle.sheet_rules.specs.Blocks.{sheetOf}
 use Rattle.encoding.specs.Whole.{words, variableTotal, wordTotal}
 use Rattle.search_rules.specs.Run.{EndedWithin}
 use Rattle.search.specs.Answers.{Answer, found, none, spent, refused, Outcome}
-use Rattle.solve.specs.Finding.{Slices, Finding, decline, instanceFor, findIn, finding}
-use Rattle.solve.specs.Demand3.{FitsLimits, FitSlices, written, searched}
-use Rattle.solve.specs.Finds.{Holds, NotEnded, Finds}
-use Rattle.solve.proofs.Calls.{writes-words}
-use Rattle.solve.proofs.Demand3.{answered}
-use Rattle.solve.proofs.Findings.{Declined, Ran, called}
+use Rattle.solve_rules.specs.Finding.{Slices, Finding, decline, instanceFor, findIn, finding}
+use Rattle.solve_rules.specs.Demand3.{FitsLimits, FitSlices, written, searched}
+use Rattle.solve_rules.specs.Finds.{Holds, NotEnded, Finds}
+use Rattle.solve_rules.proofs.Calls.{writes-words}
+use Rattle.solve_rules.proofs.Demand3.{answered}
+use Rattle.solve_rules.proofs.Findings.{Declined, Ran, called}
 
 module _ (s : List ℕ) (lent : Slices) (budget : ℕ) where
   abbrev Means : Finding → Type 0

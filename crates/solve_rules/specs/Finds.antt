@@ -11,8 +11,8 @@ use Rattle.encoding.specs.Whole.{words, variableTotal}
 use Rattle.encoding.specs.Matching.{Solution}
 use Rattle.search_rules.specs.Run.{EndedWithin}
 use Rattle.search.specs.Answers.{Answer, found, none, spent, refused}
-use Rattle.solve.specs.Finding.{Slices}
-use Rattle.solve.specs.Demand3.{FitsLimits, FitSlices}
+use Rattle.solve_rules.specs.Finding.{Slices}
+use Rattle.solve_rules.specs.Demand3.{FitsLimits, FitSlices}
 
 -- an instance within the scopes that satisfies marks and formula stands in front of the slice; what was lent after it is unchanged
 pub record Holds (sheet : Sheet) (lent left : List ℕ) : Type 0 where
