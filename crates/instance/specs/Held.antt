@@ -1,5 +1,5 @@
 -- The answer as the code works it out: by the boolean evaluation (relational, specs/Evaluation).
--- Cited by contracts of private functions only: nothing here needs belief.
+-- No public contract reaches this file: nothing here needs belief.
 use mathlib.Core.Bool.{cond}
 use mathlib.Core.List.{List}
 use Prim.Native.Nat.{ℕ}
