@@ -8,15 +8,16 @@ LABEL = re.compile(rf"([{{;]\s*){NAME}(?=\s+=\s)")
 USE = re.compile(r"(?:(?:ghost|unfoldable|pub) )*use ([^{};\s]+?)(?:\.\{([^}]*)\})?(?: as (\S+?))? ?;?")
 
 
-def names_in(text):
-    """The paths that a text writes. A field (`.x`) is none, nor a label (`x =` in the braces of a record or an argument)."""
-    return {path for dot, path in PATH.findall(LABEL.sub(r"\1", text)) if not dot}
-
-
 def forms(name):
     """How a text writes a name: whole, or by the parts of an operator; `do` is short for two operators."""
-    parts = [part for part in name.split("_") if part] if "_" in name else []
-    return {name, *parts, *(["do"] if name in ("_>>=_", "_>>_") else [])}
+    parts = {part for part in name.split("_") if part}
+    return {name} | parts | ({"do"} if name in ("_>>=_", "_>>_") else set())
+
+
+def names_in(text):
+    """The paths that a text writes. A field (`.x`) is none, nor a label (`x =` in the braces of a record or an argument)."""
+    paths = {path for dot, path in PATH.findall(LABEL.sub(r"\1", text)) if not dot}
+    return paths.union(*(forms(path) for path in paths if "." not in path))  # `_+` of a section is written for `+`
 
 
 class Scope:
