@@ -1,4 +1,5 @@
--- Cited by contracts that no caller of the finder sees: nothing here needs belief.
+-- Scopes within their bound, and the first cell of each relation in an array.
+-- No public contract reaches this file: nothing here needs belief.
 use mathlib.Core.Path.{_≡_}
 use mathlib.Core.List.{List}
 use Prim.Native.Nat.{ℕ, _≤_, _<_}

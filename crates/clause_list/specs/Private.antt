@@ -1,4 +1,5 @@
--- Cited by contracts of private functions only: nothing here needs belief.
+-- The clause in front of a list, as the test of number 12 takes it.
+-- No public contract reaches this file: nothing here needs belief.
 use mathlib.Core.Bool.{Bool, _&&_, cond}
 use mathlib.Core.List.{List, [], _∷_}
 use Prim.Native.Nat.{ℕ, suc}

@@ -1,5 +1,5 @@
 -- The translation of a whole sheet, step by step.
--- Cited by contracts of private functions only: nothing here needs belief.
+-- No public contract reaches this file: nothing here needs belief.
 use mathlib.Core.Path.{_≡_}
 use mathlib.Core.Bool.{cond}
 use mathlib.Core.List.{List, map}

@@ -1,5 +1,5 @@
--- What the code of the clauses does, step by step: cited by contracts of functions that only this project's crates call; nothing here
--- needs belief.
+-- What the code of the clauses does, step by step.
+-- No public contract reaches this file: nothing here needs belief.
 --
 -- Each function takes the list and a tape (next variable, clauses and words so far) and does what one step of a builder asks: `Emits`.
 -- LIMIT: document 01 allows 16,000 variables. Past it (the next variable is over 16,001) no gate is made any more: the step is then given

@@ -1,5 +1,5 @@
 -- What the walk of a node gives, and what it needs of the sheet.
--- Cited by contracts of private functions only: nothing here needs belief.
+-- No public contract reaches this file: nothing here needs belief.
 use mathlib.Core.Bool.{Bool, false, cond}
 use mathlib.Core.List.{List, [], map}
 use Prim.Native.Nat.{ℕ}

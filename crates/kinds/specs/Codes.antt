@@ -1,5 +1,5 @@
 -- The numbers that the constant table of src/lib.rt holds for fields and rules.
--- Cited by contracts of private functions only: nothing here needs belief.
+-- No public contract reaches this file: nothing here needs belief.
 use mathlib.Core.List.{List, [], _∷_}
 use Prim.Native.Nat.{ℕ}
 use lib.ListN.{getD}

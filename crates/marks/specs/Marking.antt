@@ -1,5 +1,5 @@
 -- What the code of the marks takes for granted, and what it adds to the list.
--- Cited by contracts of functions that only this project's crates call: nothing here needs belief.
+-- No public contract reaches this file: nothing here needs belief.
 use mathlib.Core.List.{List, [], _∷_, map}
 use Prim.Native.Nat.{ℕ, _+_, _≤_, _<_}
 use lib.IntN.{ℤ}

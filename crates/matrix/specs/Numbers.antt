@@ -1,5 +1,5 @@
 -- The operators by the numbers of their kinds, as the code picks them (proofs/Symbols: they are those of relational, specs/Evaluation).
--- Cited by contracts of private functions only: nothing here needs belief.
+-- No public contract reaches this file: nothing here needs belief.
 use mathlib.Core.Bool.{Bool, true, false, cond}
 use mathlib.Core.List.{map}
 use Prim.Native.Nat.{ℕ}

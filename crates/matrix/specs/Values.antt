@@ -1,5 +1,5 @@
 -- What a value of the code stands for: a matrix of flags (relational, specs/Matrices), in an array of 64.
--- Cited by contracts of private functions only: nothing here needs belief.
+-- No public contract reaches this file: nothing here needs belief.
 use mathlib.Core.Path.{_≡_}
 use mathlib.Core.Logic.{_⊎_}
 use mathlib.Core.Bool.{Bool, true, false}

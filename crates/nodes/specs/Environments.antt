@@ -1,5 +1,5 @@
 -- Environments by the atoms of the variables.
--- Cited by contracts of functions that only this project's crates call: nothing here needs belief.
+-- No public contract reaches this file: nothing here needs belief.
 use mathlib.Core.List.{List}
 use Prim.Native.Nat.{ℕ}
 use lib.ListN.{getD}

@@ -1,4 +1,5 @@
 -- Elements stored one after the other.
+-- No public contract reaches this file: nothing here needs belief.
 use mathlib.Core.List.{List, [], _∷_}
 use Prim.Native.Nat.{ℕ, _+_}
 use lib.ListN.{set}

@@ -1,5 +1,5 @@
 -- The value of an expression and the truth of a formula in an instance, as the check computes them, operator by operator.
--- Cited by contracts of private functions only: nothing here needs belief (proofs/Evaluates: it agrees with specs/Meaning).
+-- It agrees with specs/Meaning (proofs/Evaluates): it need not be believed.
 use mathlib.Core.Bool.{Bool, true, false, not, _&&_, _||_}
 use mathlib.Core.List.{List, [], _∷_, map}
 use Prim.Native.Nat.{ℕ, zero, suc}

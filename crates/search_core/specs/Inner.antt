@@ -1,4 +1,5 @@
--- Cited by contracts of private functions only: nothing here needs belief.
+-- A state of the rules as slices and a length hold it, and what each step of the code leaves.
+-- No public contract reaches this file: nothing here needs belief.
 use mathlib.Core.Path.{_≡_}
 use mathlib.Core.List.{List, []}
 use Prim.Native.Nat.{ℕ, _≤_}

@@ -1,4 +1,5 @@
--- Cited by contracts of private functions only: nothing here needs belief.
+-- The lists and the states that the code of the search runs on.
+-- No public contract reaches this file: nothing here needs belief.
 use mathlib.Core.Path.{_≡_}
 use mathlib.Core.List.{List, [], _∷_}
 use Prim.Native.Nat.{ℕ, zero, suc, _≤_}

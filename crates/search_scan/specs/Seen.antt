@@ -1,4 +1,5 @@
--- Cited by contracts of private functions only: nothing here needs belief.
+-- What one look over the clauses shows.
+-- No public contract reaches this file: nothing here needs belief.
 use mathlib.Core.Bool.{true, false}
 use mathlib.Core.List.{List}
 use mathlib.Core.Option.{none, some}

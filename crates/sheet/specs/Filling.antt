@@ -1,4 +1,5 @@
--- Arrays that hold a table. Cited by contracts of private functions only: nothing here needs belief.
+-- Arrays that hold a table.
+-- No public contract reaches this file: nothing here needs belief.
 use mathlib.Core.Path.{_≡_}
 use mathlib.Core.List.{List}
 use Prim.Native.Nat.{ℕ, min}

@@ -1,5 +1,5 @@
 -- What an accepted sheet gives the layers above, in one record (proofs/Acceptance).
--- Cited by contracts of private functions only: nothing here needs belief.
+-- No public contract reaches this file: nothing here needs belief.
 use mathlib.Core.Path.{_≡_}
 use mathlib.Core.Logic.{_⊎_}
 use mathlib.Core.Bool.{true, false}

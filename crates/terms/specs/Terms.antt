@@ -1,5 +1,5 @@
 -- The matrices of leaves.
--- Cited by contracts of functions that only this project's crates call: nothing here needs belief.
+-- No public contract reaches this file: nothing here needs belief.
 use mathlib.Core.Path.{_≡_}
 use mathlib.Core.Bool.{Bool}
 use mathlib.Core.List.{List, map}

@@ -1,5 +1,5 @@
 -- What the walk takes for granted, and what it does.
--- Cited by contracts of functions that only this project's crates call: nothing here needs belief.
+-- No public contract reaches this file: nothing here needs belief.
 use mathlib.Core.Path.{_≡_}
 use mathlib.Core.List.{List}
 use Prim.Native.Nat.{ℕ}

@@ -1,0 +1,1 @@
+"""For tests/trusted: the crates as text, and what their public contracts reach."""
