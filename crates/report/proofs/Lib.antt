@@ -1,3 +1,2 @@
 mod Pieces
 mod Texts
-pub mod Cases

@@ -1,3 +1,3 @@
--- What the programs print.
+-- What the finder prints.
 pub mod Printed
 pub mod Private

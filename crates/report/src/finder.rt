@@ -2,19 +2,20 @@
 ghost use mathlib.Core.Path.{_≡_};
 ghost use Prim.Native.Nat.{ℕ, _+_, _≤_};
 ghost use lib.ListN.{length, take};
+ghost use Rattle.text.specs.Texts.{Prints};
+ghost use Rattle.text.specs.Puts.{Put};
 ghost use Rattle.sheet.specs.declared.Reading.the-variants.{Accepted};
 ghost use Rattle.sheet.specs.Blocks.{sheetOf};
 ghost use Rattle.sheet.specs.Reading.{reading};
 ghost use Rattle.search.specs.Answers.{found, answerOf};
-ghost use Rattle.dimacs.specs.Private.{Put};
 ghost use Rattle.solve.specs.Finding.{slices};
 ghost use Rattle.solve.specs.Demand3.{FitsLimits};
-ghost use Rattle.report.specs.Printed.{relationLines, report, findingText, slicesAfter, Prints};
-use super::lines::put_end;
+ghost use Rattle.report.specs.Printed.{relationLines, report, findingText, slicesAfter};
 use super::lines::put_lines;
 use search::answer::Search;
 use sheet::Layout;
 use sheet::Reading;
+use text::put_end;
 
 // Puts the lines of an accepted sheet's relations.
 fn put_relations(text: &mut [u8], at: usize, input: &[u8], layout: Layout, instance: &[u8]) -> usize

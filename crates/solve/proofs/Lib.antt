@@ -4,5 +4,3 @@ pub mod ReadBacks
 pub mod Findings
 pub mod Finds
 pub mod FindLaws
-pub mod Table
-pub mod Cases

@@ -4,12 +4,12 @@ use Prim.Native.Nat.{_≤_}
 use native.Mathlib.Omega.{arith}
 use lib.ListN.{length}
 use borrow.Author.Needs.{needs}
+use Rattle.text.proofs.Puts.{put-as, prints, counts}
 use Rattle.sheet.specs.Blocks.{sheetOf}
-use Rattle.dimacs.proofs.Puts.{put-as}
 use Rattle.solve.specs.Finding.{Slices, slices}
 use Rattle.solve.proofs.Findings.{found-fits}
 use Rattle.report.specs.Printed.{report}
-use Rattle.report.proofs.Texts.{prints, counts, long-text, long-slices, short-text, short-slices}
+use Rattle.report.proofs.Texts.{long-text, long-slices, short-text, short-slices}
 use Rattle.report.proofs.finder.find_text.Statement.{statement}
 use Rattle.report.proofs.finder.find_text.Tie as tie
 

@@ -3,8 +3,8 @@ use mathlib.Core.Path.{_≡_, sym, ap, _∙_}
 use native.Mathlib.Omega.{arith}
 use borrow.Author.Needs.{needs}
 use denote.Enum.Declared.{tagOf}
+use Rattle.text.proofs.Puts.{put-both, put-length}
 use Rattle.sheet.proofs.Reading.{the-type}
-use Rattle.dimacs.proofs.Puts.{put-both, put-length}
 use Rattle.report.proofs.finder.put_found.Statement.{statement}
 use Rattle.report.proofs.finder.put_found.Tie as tie
 

@@ -6,15 +6,15 @@ use lib.ListN.{length, take}
 use lib.Seq.{length-take-le}
 use borrow.Author.Needs.{needs}
 use denote.Enum.Declared.{tagOf}
+use Rattle.refusal.specs.Refusals.{numberOf}
 use Rattle.clause_list.proofs.Laws.{list-most-variables}
-use Rattle.dimacs.proofs.TextSize.{the-type}
 use Rattle.dimacs.specs.declared.TextSize.{TextSize}
 use Rattle.dimacs.specs.declared.TextSize.the-variants.{Bytes, Refused}
-use Rattle.refusal.specs.Refusals.{numberOf}
 use Rattle.dimacs.specs.Answers.{refused, answerOf}
-use Rattle.report.proofs.Texts.{writes-text, not-refused}
-use Rattle.report.proofs.clause_text.put_clauses.Statement.{statement}
-use Rattle.report.proofs.clause_text.put_clauses.Tie as tie
+use Rattle.dimacs.proofs.TextSize.{the-type}
+use Rattle.cnf_text.proofs.Texts.{writes-text, not-refused}
+use Rattle.cnf_text.proofs.put_clauses.Statement.{statement}
+use Rattle.cnf_text.proofs.put_clauses.Tie as tie
 
 -- a refusal has the number of one
 was-refused : (r : TextSize) → tagOf the-type r ≡ 1 → (n : ℕ) × (answerOf r ≡ refused n)

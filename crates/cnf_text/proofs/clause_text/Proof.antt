@@ -1,23 +1,22 @@
 -- `clause_text` meets its contract: what writing ensures, as text.
 use mathlib.Core.Path.{_≡_, sym, ap, _∙_, subst}
-use Prim.Native.Nat.{ℕ, _≤_}
+use Prim.Native.Nat.{_≤_}
 use native.Mathlib.Omega.{arith}
 use lib.ListN.{length, take}
 use borrow.Author.Needs.{needs}
-use Rattle.prelude.specs.Texts.{bytesOf}
-use Rattle.refusal.specs.Refusals.{numberOf}
+use Rattle.text.specs.Texts.{bytesOf, endLine}
+use Rattle.text.proofs.Puts.{put-as, prints, counts}
 use Rattle.sheet.specs.Blocks.{sheetOf}
 use Rattle.clauses.specs.declared.answer.Size.{Size}
-use Rattle.clauses.specs.declared.answer.Count.the-variants.{Fits, Refused}
-use Rattle.clauses.specs.Answers.{fits, answerOf, writeAnswer, listAfter}
+use Rattle.clauses.specs.declared.answer.Count.the-variants.{Fits}
+use Rattle.clauses.specs.Answers.{fits, answerOf, writeAnswer}
 use Rattle.dimacs.specs.Text.{textOf}
-use Rattle.dimacs.proofs.Puts.{put-as}
-use Rattle.report.specs.Printed.{endLine, textAs, clauseText}
-use Rattle.report.specs.Private.{PrintsText}
-use Rattle.report.proofs.Texts.{prints, counts, long-clauses, long-list, short-clauses, short-list, text-counts}
-use Rattle.report.proofs.Texts.{written-room, written-inside, written-listed, written-text}
-use Rattle.report.proofs.clause_text.clause_text.Statement.{statement}
-use Rattle.report.proofs.clause_text.clause_text.Tie as tie
+use Rattle.cnf_text.specs.Private.{PrintsText}
+use Rattle.cnf_text.specs.Printed.{textAs}
+use Rattle.cnf_text.proofs.Texts.{long-clauses, long-list, short-clauses, short-list, text-counts}
+use Rattle.cnf_text.proofs.Texts.{written-room, written-inside, written-listed, written-text}
+use Rattle.cnf_text.proofs.clause_text.Statement.{statement}
+use Rattle.cnf_text.proofs.clause_text.Tie as tie
 
 slice-aggregate-put-end : tie.Need-slice-aggregate-put-end
 slice-aggregate-put-end c = search needs

@@ -1,16 +1,14 @@
 -- `put_end` meets its contract: the word, the number and the end of the line, one after the other.
-use mathlib.Core.Path.{_≡_}
 use mathlib.Core.List.{[], _∷_, _++_}
 use native.Mathlib.Omega.{arith}
 use Prim.Native.Nat.{_≤_}
 use lib.ListN.{length, length-append}
-use Rattle.dimacs.specs.Text.{decimal}
-use Rattle.dimacs.specs.Private.{Room}
-use Rattle.dimacs.proofs.Decimals.{decimal-short}
-use Rattle.dimacs.proofs.Puts.{put-byte, put-length, room-first, Left, left-all, left-room, left-put, left-last}
-use Rattle.report.specs.Printed.{endLine}
-use Rattle.report.proofs.lines.put_end.Statement.{statement}
-use Rattle.report.proofs.lines.put_end.Tie as tie
+use Rattle.text.specs.Texts.{decimal, endLine}
+use Rattle.text.specs.Puts.{Room}
+use Rattle.text.proofs.Decimals.{decimal-short}
+use Rattle.text.proofs.Puts.{put-byte, put-length, room-first, Left, left-all, left-room, left-put, left-last}
+use Rattle.text.proofs.put_end.Statement.{statement}
+use Rattle.text.proofs.put_end.Tie as tie
 
 -- a word of 16 letters, 20 digits and the end of the line
 short : (s : tie.Start) → length (endLine (s .args .word .now) (s .args .n)) ≤ 37

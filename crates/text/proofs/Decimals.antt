@@ -10,7 +10,7 @@ use lib.Dec.{leb}
 use lib.ListN.{length, length-append}
 use borrow.Author.Tests.{leb-true, leb-false, le-leb, lt-leb}
 use Rattle.prelude.proofs.Laws.{decided}
-use Rattle.dimacs.specs.Text.{digit, digits, decimal}
+use Rattle.text.specs.Texts.{digit, digits, decimal}
 
 digits-one : (r n : ℕ) → leb n 9 ≡ true → digits (suc r) n ≡ digit n ∷ []
 unfolding digits

@@ -1,13 +1,16 @@
 -- Pieces of text put one after the other.
 use mathlib.Core.Path.{_≡_, refl, sym, ap, _∙_}
 use mathlib.Core.List.{List, [], _∷_, _++_}
-use Prim.Native.Nat.{ℕ, _+_}
+use Prim.Native.Nat.{ℕ, _+_, _≤_, _<_}
 use native.Mathlib.Nat.{add-zero}
+use native.Mathlib.Numerals.{add-one}
 use native.Mathlib.Omega.{arith}
-use lib.ListN.{length, set, length-append}
+use lib.ListN.{length, getD, set, take, drop, length-append}
+use lib.Seq.{drop-cons, length-take-le}
 use Rattle.prelude.specs.Stores.{putAll}
-use Rattle.prelude.proofs.Stores.{put-none, put-one, put-then, length-put}
-use Rattle.dimacs.specs.Private.{Room, Put}
+use Rattle.prelude.proofs.Stores.{put-none, put-one, put-then, put-front, length-put}
+use Rattle.text.specs.Texts.{Prints}
+use Rattle.text.specs.Puts.{Room, Put}
 
 pub put-nothing : (old : List ℕ) (at : ℕ) → Put old at [] old at
 put-nothing old at = record { ends = sym (add-zero at); holds = sym (put-none old at) }
@@ -18,12 +21,6 @@ put-byte old at b = record { ends = refl; holds = sym (put-one old at b) }
 pub put-two : (old : List ℕ) (at a b : ℕ) → Put old at (a ∷ b ∷ []) (set (set old at a) (at + 1) b) (at + 2)
 unfolding putAll
 put-two old at a b = record { ends = refl; holds = refl }
-
--- the six bytes that a text starts with
-pub put-six : (old : List ℕ) (a b c d e f : ℕ)
-    → Put old 0 (a ∷ b ∷ c ∷ d ∷ e ∷ f ∷ []) (set (set (set (set (set (set old 0 a) 1 b) 2 c) 3 d) 4 e) 5 f) 6
-unfolding putAll
-put-six old a b c d e f = record { ends = refl; holds = refl }
 
 -- one piece, and then another
 pub put-both : {old mid new us ws : List ℕ} {at m end : ℕ} → Put old at us mid m → Put mid m ws new end → Put old at (us ++ ws) new end
@@ -78,3 +75,22 @@ module _ {old whole new : List ℕ} {at end : ℕ} where
 
   pub left-last : {us next : List ℕ} {e : ℕ} → Left old at whole new end us → Put new end us next e → Put old at whole next e
   left-last {us} {next} {e} l p = record { ends = omega (arith, l .ends, p .ends); holds = p .holds ∙ l .holds }
+
+-- the next byte of a piece
+pub left-byte : (piece : List ℕ) (i : ℕ) {old whole new : List ℕ} {at end : ℕ} → i < length piece → Left old at whole new end (drop i piece)
+    → Left old at whole (set new end (getD piece i 0)) (end + 1) (drop (i + 1) piece)
+left-byte piece i {old} {whole} {new} {at} {end} h l =
+    left-as (ap (λ (k : ℕ). drop k piece) (sym (add-one i)))
+    (left-put (left-as (drop-cons piece i 0 h) l) (put-byte new end (getD piece i 0)))
+
+-- a text that was put to the front of a slice is printed there
+module _ {old new piece : List ℕ} {end : ℕ} (p : Put old 0 piece new end) (h : end ≤ length old) where
+  pub prints : Prints piece old new end
+  prints =
+      record { ends = omega (arith, p .ends); stands = p .holds ∙ put-front old piece (omega (arith, p .ends)) }
+
+  -- as many bytes as can be taken from the front
+  pub counts : (end ≤ length new) × (end ≡ length (take end new))
+  counts =
+      let l : end ≤ length new = omega (arith, put-length p) in
+      (l, sym (length-take-le end new l))

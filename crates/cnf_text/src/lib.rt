@@ -3,14 +3,15 @@ ghost use mathlib.Core.Path.{_≡_};
 ghost use mathlib.Core.Bool.{true};
 ghost use Prim.Native.Nat.{_+_, _*_, _≤_};
 ghost use lib.ListN.{length, take};
+ghost use Rattle.text.specs.Texts.{Prints};
 ghost use Rattle.clause_list.specs.ClauseList.{isList};
 ghost use Rattle.dimacs.specs.Text.{textOf};
-ghost use Rattle.report.specs.Printed.{clauseText, listLeft, Prints};
-ghost use Rattle.report.specs.Private.{PrintsText};
-use super::lines::put_end;
+ghost use Rattle.cnf_text.specs.Private.{PrintsText};
+ghost use Rattle.cnf_text.specs.Printed.{clauseText, listLeft};
 use clauses::answer::Count;
 use clauses::answer::Size;
 use dimacs::TextSize;
+use text::put_end;
 
 // The text of a list's first words, which are a list of clauses.
 fn put_clauses(text: &mut [u8], list: &[i32], size: Size) -> usize

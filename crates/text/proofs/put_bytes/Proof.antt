@@ -1,12 +1,10 @@
 -- `put_bytes` meets its contract. The loop's invariant: what is still to be put is the piece from the next byte on.
-use mathlib.Core.Path.{_∙_}
 use Prim.Native.Nat.{_-_, _≤_}
 use native.Mathlib.Omega.{arith}
 use lib.ListN.{length, drop, length-drop, drop-of-length-le}
-use Rattle.dimacs.proofs.Puts.{Left, left-all, left-as, left-room, left-none, put-length}
-use Rattle.report.proofs.Pieces.{left-byte}
-use Rattle.report.proofs.lines.put_bytes.Statement.{statement}
-use Rattle.report.proofs.lines.put_bytes.Tie as tie
+use Rattle.text.proofs.Puts.{Left, left-all, left-as, left-byte, left-room, left-none, put-length}
+use Rattle.text.proofs.put_bytes.Statement.{statement}
+use Rattle.text.proofs.put_bytes.Tie as tie
 
 abbrev Inv-loop : tie.InvT-loop
 Inv-loop text₀ at piece end₀ i₀ text end i = (i ≤ length piece) × Left text₀ at piece text end (drop i piece)

@@ -1,18 +1,18 @@
--- `dimacs::put_decimal` meets its contract: the digits of the tenth, and then the last digit. The number falls at each call.
+-- `put_decimal` meets its contract: the digits of the tenth, and then the last digit. The number falls at each call.
 use mathlib.Core.Path.{sym, _∙_}
 use Prim.Native.Nat.{ℕ, _<_, _%_}
 use native.Mathlib.Omega.{arith}
 use lib.ListN.{length, length-set}
 use borrow.Fn.Kinds.{In}
 use borrow.Fn.PlainCycle.{Measures, is, falls, and}
-use Rattle.dimacs.specs.Text.{digit}
-use Rattle.dimacs.proofs.Decimals.{decimal-one, decimal-more, decimal-some, length-more}
-use Rattle.dimacs.proofs.Puts.{put-byte, put-both, put-as, put-length}
-use Rattle.dimacs.proofs.put_decimal.Reads as put-decimal
-use Rattle.dimacs.proofs.put_decimal.Kinds as put-decimal-kinds
-use Rattle.dimacs.proofs.+put_decimal.Lts-put_decimal as put-decimal-lts
-use Rattle.dimacs.proofs.+put_decimal.{statement}
-use Rattle.dimacs.proofs.+put_decimal.Tie.{close}
+use Rattle.text.specs.Texts.{digit}
+use Rattle.text.proofs.Decimals.{decimal-one, decimal-more, decimal-some, length-more}
+use Rattle.text.proofs.Puts.{put-byte, put-both, put-as, put-length}
+use Rattle.text.proofs.put_decimal.Reads as put-decimal
+use Rattle.text.proofs.put_decimal.Kinds as put-decimal-kinds
+use Rattle.text.proofs.+put_decimal.Lts-put_decimal as put-decimal-lts
+use Rattle.text.proofs.+put_decimal.{statement}
+use Rattle.text.proofs.+put_decimal.Tie.{close}
 
 abbrev μ-put-decimal : Measures 1 put-decimal-kinds.ps ℕ
 μ-put-decimal κs a = a .1 .1 .0
