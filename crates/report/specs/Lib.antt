@@ -1,3 +1,4 @@
 -- What the finder prints.
 pub mod Printed
+pub mod Tells
 pub mod Private

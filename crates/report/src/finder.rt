@@ -11,6 +11,7 @@ ghost use Rattle.search.specs.Answers.{found, answerOf};
 ghost use Rattle.solve.specs.Finding.{slices};
 ghost use Rattle.solve.specs.Demand3.{FitsLimits};
 ghost use Rattle.report.specs.Printed.{relationLines, report, findingText, slicesAfter};
+ghost use Rattle.report.specs.Tells.{Tells};
 use super::lines::put_lines;
 use search::answer::Search;
 use sheet::Layout;
@@ -73,7 +74,7 @@ fn put_report(text: &mut [u8], input: &[u8], ended: Search, instance: &[u8]) -> 
 }
 
 // Reads the input as a sheet, and writes what the finder prints to the front of the text: with 16,384 clause words, and room for all
-// variables and cells that there can be.
+// variables and cells that there can be. `Tells` says of the bytes printed what they mean: demand 3, from the printed word on.
 pub fn find_text(
     input: &[u8],
     list: &mut [i32; 16384],
@@ -88,6 +89,7 @@ pub fn find_text(
         (now (text .entry)) (now (text .exit)) r ⌝ }
     ensures { λ r. ⌜ slices (now (list .exit)) (now (values .exit)) (now (trail .exit)) (now (instance .exit))
         ≡ slicesAfter (now (input .entry)) (slices (now (list .entry)) (now (values .entry)) (now (trail .entry)) (now (instance .entry))) ⌝ }
+    ensures { λ r. ⌜ Tells (now (input .entry)) (take r (now (text .exit))) ⌝ }
 {
     if input.len() > 4096 {
         return put_end(text, b"refused ", 2);
