@@ -1,2 +1,3 @@
 pub mod ClauseList
+pub mod Marked
 pub mod Private

@@ -1,5 +1,5 @@
 // What the programs do: an input is read from a descriptor, and what `report` makes of it is printed on standard output.
-use report::clause_text::clause_text;
+use cnf_text::clause_text;
 use report::finder::find_text;
 
 // The finder of document 01: 16,384 clause words, and room for all variables and cells that there can be. One byte more than the

@@ -11,15 +11,15 @@ use lib.ListN.{length, drop}
 use borrow.Author.Tests.{le-leb, lt-leb}
 use Rattle.prelude.proofs.Laws.{and-not-right, and-both, decided}
 use Rattle.prelude.proofs.Stores.{put-front}
-use Rattle.clause_list.specs.ClauseList.{isList}
-use Rattle.dimacs.proofs.Lines.{text-fits}
-use Rattle.dimacs.specs.Text.{textOf, textRoom}
-use Rattle.dimacs.specs.Answers.{bytes, refused, answerOf, sizeAnswer, writeAnswer, textAfter}
-use Rattle.dimacs.specs.Private.{Put}
-use Rattle.dimacs.specs.declared.TextSize.{TextSize}
-use Rattle.dimacs.specs.declared.TextSize.the-variants.{Bytes, Refused}
 use Rattle.refusal.specs.declared.Refusal.{Refusal}
 use Rattle.refusal.specs.Refusals.{numberOf}
+use Rattle.text.specs.Puts.{Put}
+use Rattle.clause_list.specs.ClauseList.{isList}
+use Rattle.dimacs.specs.Text.{textOf, textRoom}
+use Rattle.dimacs.specs.Answers.{bytes, refused, answerOf, sizeAnswer, writeAnswer, textAfter}
+use Rattle.dimacs.specs.declared.TextSize.{TextSize}
+use Rattle.dimacs.specs.declared.TextSize.the-variants.{Bytes, Refused}
+use Rattle.dimacs.proofs.Lines.{text-fits}
 
 module _ (v : ℕ) (ws : List ℤ) where
   pub size-refused : isList v ws ≡ false → sizeAnswer v ws ≡ refused 12

@@ -11,12 +11,13 @@ use lib.Seq.{drop-cons}
 use borrow.Author.Tests.{lt-ltb}
 use Rattle.prelude.specs.Tests.{all}
 use Rattle.prelude.proofs.Laws.{clash, and-left, and-right}
+use Rattle.text.specs.Texts.{decimal}
+use Rattle.text.proofs.Decimals.{decimal-few, decimal-short}
 use Rattle.literal.specs.Literals.{isLiteral, isPositive}
 use Rattle.literal.proofs.Words.{literal-high}
 use Rattle.clause_list.specs.ClauseList.{clausesOf, wordsOf, isList}
 use Rattle.clause_list.proofs.Laws.{list-clauses, list-literals, list-most-variables}
-use Rattle.dimacs.specs.Text.{decimal, literalText, clauseLine, clauseLines, header, textOf, textRoom}
-use Rattle.dimacs.proofs.Decimals.{decimal-few, decimal-short}
+use Rattle.dimacs.specs.Text.{literalText, clauseLine, clauseLines, header, textOf, textRoom}
 
 -- a literal by its sign
 pub positive-text : (l : ℤ) → isPositive l ≡ true → literalText l ≡ decimal (natAbs l)

@@ -1,29 +1,10 @@
 -- The text of a clause list in the DIMACS CNF format (document 01, "The finder program", case K1).
-use mathlib.Core.Bool.{true, false}
 use mathlib.Core.List.{List, [], _∷_, _++_}
-use Prim.Native.Nat.{ℕ, zero, suc, _+_, _*_, _/_, _%_}
-use lib.Dec.{leb}
+use Prim.Native.Nat.{ℕ, suc, _+_, _*_}
 use lib.IntN.{ℤ, pos, negsuc}
 use lib.ListN.{length}
-use Rattle.prelude.specs.Texts.{bytesOf}
+use Rattle.text.specs.Texts.{bytesOf, decimal}
 use Rattle.clause_list.specs.ClauseList.{clausesOf}
-
--- the byte of a digit: 0 is byte 48
-abbrev pub digit : ℕ → ℕ
-digit d = 48 + d
-
--- a number in decimal: the digits of its tenth, then its last digit, with no leading zero
-unfoldable pub digits : ℕ → ℕ → List ℕ
-digits zero n = []
-digits (suc rounds) n =
-    elim (leb n 9) [
-      | true ↦ digit n ∷ []
-      | false ↦ digits rounds (n / 10) ++ (digit (n % 10) ∷ [])
-    ]
-
--- a number has fewer digits than one more than itself, so that as many rounds give them all
-unfoldable pub decimal : ℕ → List ℕ
-decimal n = digits (suc n) n
 
 -- a literal: its variable, after a minus where it says that the variable is false
 unfoldable pub literalText : ℤ → List ℕ

@@ -1,31 +1,20 @@
 // Clause text in the DIMACS CNF format (document 01): its size, and the text itself.
 use refusal::Refusal;
+use text::put_bytes;
+use text::put_decimal;
 ghost use mathlib.Core.Path.{_≡_};
 ghost use Prim.Native.Nat.{_≤_};
 ghost use lib.IntN.{natAbs};
 ghost use lib.ListN.{length};
+ghost use Rattle.text.specs.Puts.{Room, Put};
 ghost use Rattle.clause_list.specs.ClauseList.{clausesOf};
-ghost use Rattle.dimacs.specs.Text.{decimal, literalText, clauseLine, clauseLines, header};
+ghost use Rattle.dimacs.specs.Text.{literalText, clauseLine, clauseLines, header};
 ghost use Rattle.dimacs.specs.Answers.{answerOf, sizeAnswer, writeAnswer, textAfter};
-ghost use Rattle.dimacs.specs.Private.{Room, Put, Proper, Listed};
+ghost use Rattle.dimacs.specs.Private.{Proper, Listed};
 
 pub enum TextSize {
     Bytes(usize),
     Refused(Refusal),
-}
-
-// Puts a number in decimal, and answers where it ends: the digits of its tenth first, then its last digit.
-pub fn put_decimal(text: &mut [u8], at: usize, n: usize) -> usize
-    requires { ⌜ Room (now text) at (decimal n) ⌝ }
-    ensures { λ r. ⌜ Put (now (text .entry)) at (decimal n) (now (text .exit)) r ⌝ }
-{
-    if n <= 9 {
-        text[at] = 48 + n as u8;
-        return at + 1;
-    }
-    let last = put_decimal(text, at, n / 10);
-    text[last] = 48 + (n % 10) as u8;
-    last + 1
 }
 
 // Puts a literal: a minus where it says that its variable is false, then the variable.
@@ -100,13 +89,8 @@ fn put_header(text: &mut [u8], v: usize, clauses: usize) -> usize
     requires { ⌜ Room (now text) 0 (header v clauses) ⌝ }
     ensures { λ r. ⌜ Put (now (text .entry)) 0 (header v clauses) (now (text .exit)) r ⌝ }
 {
-    text[0] = b'p';
-    text[1] = b' ';
-    text[2] = b'c';
-    text[3] = b'n';
-    text[4] = b'f';
-    text[5] = b' ';
-    let space = put_decimal(text, 6, v);
+    let number = put_bytes(text, 0, b"p cnf ");
+    let space = put_decimal(text, number, v);
     text[space] = b' ';
     let feed = put_decimal(text, space + 1, clauses);
     text[feed] = b'\n';

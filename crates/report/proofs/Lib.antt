@@ -1,3 +1,4 @@
 mod Pieces
 mod Texts
+mod Tells
 pub mod Cases

@@ -4,17 +4,15 @@ use mathlib.Core.List.{List, [], _∷_, _++_}
 use Prim.Native.Nat.{ℕ, zero, suc, _+_, _*_, _≤_, _<_}
 use native.Mathlib.Numerals.{add-one}
 use native.Mathlib.Omega.{arith}
-use lib.ListN.{length, getD, set, drop, length-append}
-use lib.Seq.{drop-cons}
-use Rattle.prelude.specs.Texts.{bytesOf}
+use lib.ListN.{length, length-append}
+use Rattle.text.specs.Puts.{Put}
+use Rattle.text.specs.Texts.{bytesOf, decimal}
+use Rattle.text.proofs.Decimals.{decimal-short}
+use Rattle.text.proofs.Puts.{put-nothing, put-both, put-as, put-length}
 use Rattle.sheet_rules.specs.Blocks.{Sheet, fourBlocks, byte}
 use Rattle.relational.specs.Cells.{rowCount, rowLength, firstCell, cell}
 use Rattle.cells.proofs.Layouts.{Earlier}
 use Rattle.encoding.specs.Whole.{series}
-use Rattle.dimacs.specs.Text.{decimal}
-use Rattle.dimacs.specs.Private.{Put}
-use Rattle.dimacs.proofs.Decimals.{decimal-short}
-use Rattle.dimacs.proofs.Puts.{put-nothing, put-byte, put-both, put-as, put-length, Left, left-as, left-put}
 use Rattle.report.specs.Printed.{cellDigit, rowDigits, relationLine}
 use Rattle.report.specs.Private.{rowFrom, lineFrom, PutLines}
 
@@ -44,13 +42,6 @@ row-length instance first n = omega (arith, bytes-length (λ j. cellDigit (byte 
 -- the number of a relation has at most two digits
 pub number-short : (r : ℕ) → r < 16 → length (decimal r) ≤ 2
 number-short r h = decimal-short 1 r (omega arith)
-
--- the next byte of a piece
-pub left-byte : (piece : List ℕ) (i : ℕ) {old whole new : List ℕ} {at end : ℕ} → i < length piece → Left old at whole new end (drop i piece)
-    → Left old at whole (set new end (getD piece i 0)) (end + 1) (drop (i + 1) piece)
-left-byte piece i {old} {whole} {new} {at} {end} h l =
-    left-as (ap (λ (k : ℕ). drop k piece) (sym (add-one i)))
-    (left-put (left-as (drop-cons piece i 0 h) l) (put-byte new end (getD piece i 0)))
 
 -- a row, and a line, by the sheet's numbers
 row-is : (sheet : Sheet) (instance : List ℕ) (r i : ℕ)

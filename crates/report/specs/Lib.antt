@@ -1,3 +1,4 @@
--- What the programs print.
+-- What the finder prints.
 pub mod Printed
+pub mod Tells
 pub mod Private

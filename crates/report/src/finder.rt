@@ -2,18 +2,20 @@
 ghost use mathlib.Core.Path.{_≡_};
 ghost use Prim.Native.Nat.{ℕ, _+_, _≤_};
 ghost use lib.ListN.{length, take};
+ghost use Rattle.text.specs.Texts.{Prints};
+ghost use Rattle.text.specs.Puts.{Put};
 ghost use Rattle.sheet_rules.specs.Blocks.{sheetOf};
 ghost use Rattle.sheet_rules.specs.Reading.{accepted, reading};
 ghost use Rattle.search.specs.Answers.{found, answerOf};
-ghost use Rattle.dimacs.specs.Private.{Put};
 ghost use Rattle.solve_rules.specs.Finding.{slices};
 ghost use Rattle.solve_rules.specs.Demand3.{FitsLimits};
-ghost use Rattle.report.specs.Printed.{relationLines, report, findingText, slicesAfter, Prints};
-use super::lines::put_end;
+ghost use Rattle.report.specs.Printed.{relationLines, report, findingText, slicesAfter};
+ghost use Rattle.report.specs.Tells.{Tells};
 use super::lines::put_lines;
 use search::answer::Search;
 use sheet::Reading;
 use sheet_rules::Layout;
+use text::put_end;
 
 // Puts the lines of an accepted sheet's relations.
 fn put_relations(text: &mut [u8], at: usize, input: &[u8], layout: Layout, instance: &[u8]) -> usize
@@ -71,7 +73,7 @@ fn put_report(text: &mut [u8], input: &[u8], ended: Search, instance: &[u8]) -> 
 }
 
 // Reads the input as a sheet, and writes what the finder prints to the front of the text: with 16,384 clause words, and room for all
-// variables and cells that there can be.
+// variables and cells that there can be. `Tells` says of the bytes printed what they mean: demand 3, from the printed word on.
 pub fn find_text(
     input: &[u8],
     list: &mut [i32; 16384],
@@ -86,6 +88,7 @@ pub fn find_text(
         (now (text .entry)) (now (text .exit)) r ⌝ }
     ensures { λ r. ⌜ slices (now (list .exit)) (now (values .exit)) (now (trail .exit)) (now (instance .exit))
         ≡ slicesAfter (now (input .entry)) (slices (now (list .entry)) (now (values .entry)) (now (trail .entry)) (now (instance .entry))) ⌝ }
+    ensures { λ r. ⌜ Tells (now (input .entry)) (take r (now (text .exit))) ⌝ }
 {
     if input.len() > 4096 {
         return put_end(text, b"refused ", 2);

@@ -2,43 +2,15 @@
 ghost use mathlib.Core.Path.{_≡_};
 ghost use Prim.Native.Nat.{suc, _+_, _*_, _≤_, _<_};
 ghost use lib.ListN.{length};
-ghost use Rattle.cells.specs.Private.{Scopes};
+ghost use Rattle.text.specs.Puts.{Put};
 ghost use Rattle.sheet_rules.specs.Blocks as blocks;
-ghost use Rattle.dimacs.specs.Private.{Room, Put};
-ghost use Rattle.report.specs.Printed.{endLine, cellDigit};
+ghost use Rattle.cells.specs.Private.{Scopes};
+ghost use Rattle.report.specs.Printed.{cellDigit};
 ghost use Rattle.report.specs.Private.{rowFrom, lineFrom, PutLines};
 use cells::row_count;
 use cells::row_length;
-use dimacs::put_decimal;
 use sheet::bytes::byte;
-
-// Puts a piece of text, and answers where it ends.
-fn put_bytes(text: &mut [u8], at: usize, piece: &[u8]) -> usize
-    requires { ⌜ Room (now text) at (now piece) ⌝ }
-    ensures { λ r. ⌜ Put (now (text .entry)) at (now (piece .entry)) (now (text .exit)) r ⌝ }
-{
-    let mut end = at;
-    let mut i = 0;
-    while i < piece.len() {
-        text[end] = piece[i];
-        end += 1;
-        i += 1;
-    }
-    end
-}
-
-// Puts a word, a number and the end of the line at the start of the text.
-pub(crate) fn put_end(text: &mut [u8], word: &[u8], n: u64) -> usize
-    requires { ⌜ 37 ≤ length (now text) ⌝ }
-    requires { ⌜ length (now word) ≤ 16 ⌝ }
-    ensures { λ r. ⌜ Put (now (text .entry)) 0 (endLine (now (word .entry)) n) (now (text .exit)) r ⌝ }
-    ensures { λ r. ⌜ r ≤ 37 ⌝ }
-{
-    let at = put_bytes(text, 0, word);
-    let feed = put_decimal(text, at, n as usize);
-    text[feed] = b'\n';
-    feed + 1
-}
+use text::put_decimal;
 
 // The digit of cell k.
 fn cell_digit(instance: &[u8], k: usize) -> u8

@@ -5,6 +5,7 @@ use Prim.Native.Nat.{ℕ}
 use lib.IntN.{ℤ, pos, negsuc}
 use Rattle.prelude.specs.Tests.{all, any}
 use Rattle.clause_list.specs.ClauseList.{cut, clausesOf}
+use Rattle.clause_list.specs.Marked.{k1, k2}
 use Rattle.search_rules.specs.Rules.{truthOf, negated, literal, isFalsified, isSatisfied, conflict, openOf, sameLiteral, only, unitOf}
 use Rattle.search_rules.specs.Rules.{firstUnit, lowestOpen, wordOf, byteOf, placeOf, valuesOf, turn, decide, next, propagated, decided}
 use Rattle.search_rules.specs.Run.{Tally, zeros, count, End, wasNone, wasFound, wasSpent, run}
@@ -18,16 +19,6 @@ record Row : Type 0 where
 
 abbrev tally : ℕ → ℕ → ℕ → Tally
 tally p d b = record { propagations = p; decisions = d; backtracks = b }
-
--- (1) (4 -2) (4 -3) (-4 2 3) (4)
-abbrev k1 : List ℤ
-k1 = pos 1 ∷ pos 1 ∷ pos 2 ∷ pos 4 ∷ negsuc 1 ∷ pos 2 ∷ pos 4 ∷ negsuc 2 ∷ pos 3 ∷ negsuc 3 ∷ pos 2 ∷ pos 3 ∷ pos 1 ∷ pos 4 ∷ []
-
--- (1) (-2 -3) (2 3) (4 -2) (4 -3) (-4 2 3) and the root's literal
-abbrev k2 : ℤ → List ℤ
-k2 root =
-    pos 1 ∷ pos 1 ∷ pos 2 ∷ negsuc 1 ∷ negsuc 2 ∷ pos 2 ∷ pos 2 ∷ pos 3 ∷ pos 2 ∷ pos 4 ∷ negsuc 1 ∷ pos 2 ∷ pos 4 ∷ negsuc 2
-    ∷ pos 3 ∷ negsuc 3 ∷ pos 2 ∷ pos 3 ∷ pos 1 ∷ root ∷ []
 
 abbrev rows : List Row
 rows =

@@ -1,4 +1,2 @@
 pub mod ReadBacks
 pub mod FindLaws
-pub mod Table
-pub mod Cases

@@ -7,11 +7,11 @@ use native.Mathlib.Omega.{arith}
 use lib.IntN.{pos}
 use lib.ListN.{length, getD, drop, length-set}
 use borrow.Author.Needs.{needs}
+use Rattle.text.proofs.Puts.{put-byte, put-two, put-length, put-as, room-first}
+use Rattle.text.proofs.Puts.{Left, left-all, left-as, left-room, left-put, left-last}
 use Rattle.literal.proofs.Signs.{back}
 use Rattle.dimacs.specs.Text.{literalText, clauseLine}
 use Rattle.dimacs.proofs.Lines.{line-from, line-end}
-use Rattle.dimacs.proofs.Puts.{put-byte, put-two, put-length, put-as, room-first}
-use Rattle.dimacs.proofs.Puts.{Left, left-all, left-as, left-room, left-put, left-last}
 use Rattle.dimacs.proofs.put_clause.Statement.{statement}
 use Rattle.dimacs.proofs.put_clause.Tie as tie
 

@@ -6,13 +6,13 @@ use native.Mathlib.Omega.{arith}
 use lib.IntN.{pos}
 use lib.ListN.{length, getD, take, drop, drop-of-length-le}
 use borrow.Author.Needs.{needs}
+use Rattle.text.proofs.Puts.{put-as, put-length, room-first, Left, left-all, left-as, left-room, left-put, left-none}
 use Rattle.literal.specs.Literals.{countOf}
 use Rattle.literal.proofs.Signs.{back}
 use Rattle.clause_list.specs.ClauseList.{clausesOf}
 use Rattle.clause_list.proofs.Laws.{ClauseAt, clauses-nil}
 use Rattle.dimacs.specs.Text.{clauseLine, clauseLines}
 use Rattle.dimacs.proofs.Lines.{lines-none, lines-more}
-use Rattle.dimacs.proofs.Puts.{put-as, put-length, room-first, Left, left-all, left-as, left-room, left-put, left-none}
 use Rattle.dimacs.proofs.Walks.{At, at-start, here, next, part, proper}
 use Rattle.dimacs.proofs.put_clauses.Statement.{statement}
 use Rattle.dimacs.proofs.put_clauses.Tie as tie

@@ -1,132 +1,108 @@
--- `dimacs::put_header` meets its contract: the header's pieces, one after the other.
-use mathlib.Core.Path.{_≡_}
-use mathlib.Core.List.{_∷_, [], _++_, append-assoc}
-use Prim.Native.Nat.{_+_, _≤_}
+-- `dimacs::put_header` meets its contract: the pieces of the header, one after the other.
+use mathlib.Core.List.{List, [], _∷_, _++_}
+use Prim.Native.Nat.{ℕ, _+_}
 use native.Mathlib.Omega.{arith}
-use lib.ListN.{length, set, length-set}
-use Rattle.prelude.specs.Texts.{bytesOf}
-use Rattle.dimacs.specs.Text.{decimal, header}
-use Rattle.dimacs.specs.Private.{Put}
-use Rattle.dimacs.proofs.Lines.{header-length}
-use Rattle.dimacs.proofs.Puts.{put-byte, put-six, put-both, put-as, put-length}
+use lib.ListN.{set}
+use borrow.Author.Needs.{needs}
+use Rattle.text.specs.Texts.{bytesOf, decimal}
+use Rattle.text.proofs.Puts.{put-byte, put-length, room-first, Left, left-all, left-room, left-put, left-last}
+use Rattle.dimacs.specs.Text.{header}
 use Rattle.dimacs.proofs.put_header.Statement.{statement}
 use Rattle.dimacs.proofs.put_header.Tie as tie
 
-room : (c : tie.Start) → length (decimal (c .args .v)) + length (decimal (c .args .clauses)) + 8 ≤ length (c .args .text .now)
-room c = omega (arith, c .pre, header-length (c .args .v) (c .args .clauses))
+slice-aggregate-put-bytes : tie.Need-slice-aggregate-put-bytes
+slice-aggregate-put-bytes c = search needs
 
-slice-write-text : tie.Need-slice-write-text
-slice-write-text c = omega (arith, room (c .before))
+-- what is left of the header after each piece
+abbrev after-word : tie.Start → List ℕ
+after-word s = decimal (s .args .v) ++ (32 ∷ (decimal (s .args .clauses) ++ (10 ∷ [])))
 
-slice-write-text-2 : tie.Need-slice-write-text-2
-slice-write-text-2 c = simp length-set (omega (arith, room (c .before)))
+abbrev Rest : tie.Start → List ℕ → ℕ → List ℕ → Type 0
+Rest s new end rest = Left (s .args .text .now) 0 (header (s .args .v) (s .args .clauses)) new end rest
 
-slice-write-text-3 : tie.Need-slice-write-text-3
-slice-write-text-3 c = simp length-set (omega (arith, room (c .before)))
+at-start : (s : tie.Start) → Rest s (s .args .text .now) 0 (bytesOf "p cnf " ++ after-word s)
+unfolding header
+at-start s = left-all (s .args .text .now) 0 (header (s .args .v) (s .args .clauses))
 
-slice-write-text-4 : tie.Need-slice-write-text-4
-slice-write-text-4 c = simp length-set (omega (arith, room (c .before)))
+put-bytes-requires : tie.Need-put-bytes-requires
+put-bytes-requires c κs =
+    let s = c .before .before .before in
+    room-first (s .args .text .now) 0 (bytesOf "p cnf ") (after-word s) (left-room (s .pre) (at-start s))
 
-slice-write-text-5 : tie.Need-slice-write-text-5
-slice-write-text-5 c = simp length-set (omega (arith, room (c .before)))
+abbrev start : tie.After-put-bytes → tie.Start
+start c = c .before .before .before .before
 
-slice-write-text-6 : tie.Need-slice-write-text-6
-slice-write-text-6 c = simp length-set (omega (arith, room (c .before)))
+word-put : (c : tie.After-put-bytes) → Rest (start c) (c .put-bytes .last .0) (c .put-bytes .result) (after-word (start c))
+word-put c = left-put (at-start (start c)) (c .put-bytes .ensures)
 
 put-decimal-requires : tie.Need-put-decimal-requires
-put-decimal-requires c κs = omega (arith, room (c .before .before), put-length (put-six (c .before .before .args .text .now) 112 32 99 110 102 32))
+put-decimal-requires c κs =
+    let k = c .before .before .before in
+    let s = start k in
+    room-first (k .put-bytes .last .0) (k .put-bytes .result) (decimal (s .args .v)) (32 ∷ (decimal (s .args .clauses) ++ (10 ∷ [])))
+    (left-room (s .pre) (word-put k))
 
--- up to the number of variables
-first : (c : tie.After-put-decimal)
-    → Put (c .before .before .before .args .text .now) 0 (bytesOf "p cnf " ++ decimal (c .before .before .before .args .v))
-    (c .put-decimal .last .0) (c .put-decimal .result)
-first c = put-both (put-six (c .before .before .before .args .text .now) 112 32 99 110 102 32) (c .put-decimal .ensures)
+abbrev first : tie.After-put-decimal → tie.Start
+first c = start (c .before .before .before .before)
 
-slice-write-text-7 : tie.Need-slice-write-text-7
-slice-write-text-7 c =
-    let p = first (c .before .before) in
-    omega (arith, room (c .before .before .before .before .before), p .ends, put-length p)
+variables-put : (c : tie.After-put-decimal)
+    → Rest (first c) (c .put-decimal .last .0) (c .put-decimal .result) (32 ∷ (decimal (first c .args .clauses) ++ (10 ∷ [])))
+variables-put c = left-put (word-put (c .before .before .before .before)) (c .put-decimal .ensures)
+
+slice-write-text : tie.Need-slice-write-text
+slice-write-text c = let k = c .before .before in omega (arith, left-room (first k .pre) (variables-put k))
 
 add-put-decimal : tie.Need-add-put-decimal
 add-put-decimal c =
-    let start = c .before .before .before .before .before .before in
-    omega (arith, room start, first (c .before .before .before) .ends, start .good .0 .0)
+    let k = c .before .before .before in
+    omega (arith, left-room (first k .pre) (variables-put k), variables-put k .same, first k .good .0 .0)
+
+space-put : (c : tie.After-put-decimal)
+    → Rest (first c) (set (c .put-decimal .last .0) (c .put-decimal .result) 32) (c .put-decimal .result + 1)
+    (decimal (first c .args .clauses) ++ (10 ∷ []))
+space-put c = left-put (variables-put c) (put-byte (c .put-decimal .last .0) (c .put-decimal .result) 32)
 
 put-decimal-requires-2 : tie.Need-put-decimal-requires-2
 put-decimal-requires-2 c κs =
-    let call = c .before .before .before .put-decimal in
-    let p = first (c .before .before .before) in
-    omega (
-      arith,
-      room (c .before .before .before .before .before .before),
-      p .ends,
-      put-length p,
-      length-set (call .last .0) (call .result) 32,
-    )
+    let k = c .before .before .before in
+    let call = k .put-decimal in
+    room-first (set (call .last .0) (call .result) 32) (call .result + 1) (decimal (first k .args .clauses)) (10 ∷ [])
+    (left-room (first k .pre) (space-put k))
 
--- up to the number of clauses
-second : (c : tie.After-put-decimal2)
-    → Put (c .before .before .before .before .before .before .before .args .text .now) 0
-    (((bytesOf "p cnf " ++ decimal (c .before .before .before .before .before .before .before .args .v)) ++ (32 ∷ []))
-    ++ decimal (c .before .before .before .before .before .before .before .args .clauses))
-    (c .put-decimal2 .last .0) (c .put-decimal2 .result)
-second c =
-    let call = c .before .before .before .before .put-decimal in
-    put-both (put-both (first (c .before .before .before .before)) (put-byte (call .last .0) (call .result) 32)) (c .put-decimal2 .ensures)
+abbrev second : tie.After-put-decimal2 → tie.After-put-decimal
+second c = c .before .before .before .before
 
-ends : (c : tie.After-put-decimal2)
-    → c .put-decimal2 .result
-    ≡ length (decimal (c .before .before .before .before .before .before .before .args .v))
-    + length (decimal (c .before .before .before .before .before .before .before .args .clauses)) + 7
-ends c = omega (arith, first (c .before .before .before .before) .ends, c .put-decimal2 .ensures .ends)
+clauses-put : (c : tie.After-put-decimal2) → Rest (first (second c)) (c .put-decimal2 .last .0) (c .put-decimal2 .result) (10 ∷ [])
+clauses-put c = left-put (space-put (second c)) (c .put-decimal2 .ensures)
 
-slice-write-text-8 : tie.Need-slice-write-text-8
-slice-write-text-8 c =
-    omega (
-      arith,
-      room (c .before .before .before .before .before .before .before .before .before),
-      ends (c .before .before),
-      put-length (second (c .before .before)),
-    )
+slice-write-text-2 : tie.Need-slice-write-text-2
+slice-write-text-2 c = let k = c .before .before in omega (arith, left-room (first (second k) .pre) (clauses-put k))
 
 add-result : tie.Need-add-result
 add-result c =
-    let start = c .before .before .before .before .before .before .before .before .before in
-    omega (arith, room start, ends (c .before .before), start .good .0 .0)
-
-whole : (c : tie.After-slice-known3)
-    → Put (c .before .before .before .before .before .before .before .before .before .args .text .now) 0
-    (header
-    (c .before .before .before .before .before .before .before .before .before .args .v)
-    (c .before .before .before .before .before .before .before .before .before .args .clauses))
-    (set (c .before .before .put-decimal2 .last .0) (c .before .before .put-decimal2 .result) 10)
-    (c .before .before .put-decimal2 .result + 1)
-unfolding header
-whole c =
-    let call = c .before .before .put-decimal2 in
-    put-as (simp append-assoc) (put-both (second (c .before .before)) (put-byte (call .last .0) (call .result) 10))
-
-same-length : tie.Need-same-length
-same-length c = put-length (whole c)
+    let k = c .before .before in
+    let s = first (second k) in
+    omega (arith, left-room (s .pre) (clauses-put k), clauses-put k .same, s .good .0 .0)
 
 returns : tie.Need-returns
-returns c = whole c
+returns c =
+    let k = c .before .before in
+    left-last (clauses-put k) (put-byte (k .put-decimal2 .last .0) (k .put-decimal2 .result) 10)
+
+same-length : tie.Need-same-length
+same-length c = put-length (returns c)
 
 pub put-header-spec : {M : Type 1} → statement M
 put-header-spec =
     tie.close
     (tie.spec
-    slice-write-text
-    slice-write-text-2
-    slice-write-text-3
-    slice-write-text-4
-    slice-write-text-5
-    slice-write-text-6
+    slice-aggregate-put-bytes
+    put-bytes-requires
     put-decimal-requires
-    slice-write-text-7
+    slice-write-text
     add-put-decimal
     put-decimal-requires-2
-    slice-write-text-8
+    slice-write-text-2
     add-result
     same-length
     returns)

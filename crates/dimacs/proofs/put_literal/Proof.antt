@@ -5,11 +5,12 @@ use native.Mathlib.Omega.{arith}
 use lib.IntN.{natAbs}
 use lib.ListN.{length, length-set}
 use borrow.Author.Needs.{needs}
+use Rattle.text.specs.Texts.{decimal}
+use Rattle.text.proofs.Puts.{put-byte, put-both, put-as, put-length}
 use Rattle.literal.specs.Literals.{isPositive}
 use Rattle.literal.proofs.Signs.{back}
-use Rattle.dimacs.specs.Text.{literalText, decimal}
+use Rattle.dimacs.specs.Text.{literalText}
 use Rattle.dimacs.proofs.Lines.{positive-text, negative-text}
-use Rattle.dimacs.proofs.Puts.{put-byte, put-both, put-as, put-length}
 use Rattle.dimacs.proofs.put_literal.Statement.{statement}
 use Rattle.dimacs.proofs.put_literal.Tie as tie
 

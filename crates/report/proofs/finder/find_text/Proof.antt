@@ -4,12 +4,13 @@ use Prim.Native.Nat.{_≤_}
 use native.Mathlib.Omega.{arith}
 use lib.ListN.{length}
 use borrow.Author.Needs.{needs}
+use Rattle.text.proofs.Puts.{put-as, prints, counts}
 use Rattle.sheet_rules.specs.Blocks.{sheetOf}
-use Rattle.dimacs.proofs.Puts.{put-as}
 use Rattle.solve_rules.specs.Finding.{Slices, slices}
 use Rattle.solve_rules.proofs.Findings.{found-fits}
 use Rattle.report.specs.Printed.{report}
-use Rattle.report.proofs.Texts.{prints, counts, long-text, long-slices, short-text, short-slices}
+use Rattle.report.proofs.Tells.{printed-tells}
+use Rattle.report.proofs.Texts.{long-text, long-slices, short-text, short-slices}
 use Rattle.report.proofs.finder.find_text.Statement.{statement}
 use Rattle.report.proofs.finder.find_text.Tie as tie
 
@@ -29,7 +30,8 @@ returns c =
     let h = c .before .before .before .if1 .taken in
     let p = put-as (sym (long-text (s .args .input .now) (lent s) h)) (c .put-end .ensures .0) in
     let l : c .put-end .result ≤ length (s .args .text .now) = omega (arith, c .put-end .ensures .1) in
-    (counts p l, (prints p l, sym (long-slices (s .args .input .now) (lent s) h)))
+    let shown = prints p l in
+    (counts p l, (shown, (sym (long-slices (s .args .input .now) (lent s) h), printed-tells (s .args .input .now) (lent s) shown)))
 
 find-requires : tie.Need-find-requires
 find-requires c κs = search needs
@@ -47,10 +49,11 @@ returns-2 c =
     let input = s .args .input .now in
     let h = k .before .before .before .before .before .if1 .left in
     let e = k .find .ensures in
-    let shown = (λ i. report (e .0 i) (sheetOf input) (e .1 .0 i .instance)) ∙ sym (short-text input (lent s) h) in
-    let p = put-as shown (c .put-report .ensures .0) in
+    let same = (λ i. report (e .0 i) (sheetOf input) (e .1 .0 i .instance)) ∙ sym (short-text input (lent s) h) in
+    let p = put-as same (c .put-report .ensures .0) in
     let l : c .put-report .result ≤ length (s .args .text .now) = omega (arith, c .put-report .ensures .1) in
-    (counts p l, (prints p l, e .1 .0 ∙ sym (short-slices input (lent s) h)))
+    let shown = prints p l in
+    (counts p l, (shown, (e .1 .0 ∙ sym (short-slices input (lent s) h), printed-tells input (lent s) shown)))
 
 pub find-text-spec : {M : Type 1} → statement M
 find-text-spec =

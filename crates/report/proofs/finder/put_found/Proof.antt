@@ -1,11 +1,22 @@
 -- `put_found` meets its contract: the line of `found`, and then the lines of the relations.
 use mathlib.Core.Path.{_≡_, sym, ap, _∙_}
+use Prim.Native.Nat.{ℕ}
 use native.Mathlib.Omega.{arith}
 use borrow.Author.Needs.{needs}
+use denote.Enum.Declared.{tagOf}
+use Rattle.text.proofs.Puts.{put-both, put-length}
+use Rattle.sheet_rules.specs.declared.Layout.{Layout}
+use Rattle.sheet_rules.specs.Reading.{accepted}
+use Rattle.sheet.specs.declared.Reading.{Reading}
+use Rattle.sheet.specs.declared.Reading.the-variants.{Accepted, Refused}
 use Rattle.sheet.specs.Answers.{answerOf}
-use Rattle.dimacs.proofs.Puts.{put-both, put-length}
+use Rattle.sheet.proofs.Reading.{the-type}
 use Rattle.report.proofs.finder.put_found.Statement.{statement}
 use Rattle.report.proofs.finder.put_found.Tie as tie
+
+was-accepted : (r : Reading) (l : Layout) → answerOf r ≡ accepted l → tagOf the-type r ≡ 0
+was-accepted (Accepted k) l e = λ i. 0
+was-accepted (Refused n) l e = absurd (let z : _≡_ {A = ℕ} 0 1 = cc in omega arith)
 
 slice-aggregate-put-end : tie.Need-slice-aggregate-put-end
 slice-aggregate-put-end c = search needs
@@ -37,7 +48,7 @@ returns : tie.Need-returns
 returns c =
     let k = c .before .before in
     let s = k .before .before .before .before .before .before .before .before .before in
-    let e : tagOf the-type (k .read .result) ≡ 0 = ap (tagOf the-type) (k .read .ensures ∙ s .pre .1 .accepted) in
+    let e = was-accepted (k .read .result) _ (k .read .ensures ∙ s .pre .1 .accepted) in
     absurd (omega (arith, c .before .match .keys1))
 
 same-length-2 : tie.Need-same-length-2

@@ -3,11 +3,11 @@ use mathlib.Core.Path.{_≡_, sym, ap}
 use Prim.Native.Nat.{_≤_}
 use native.Mathlib.Omega.{arith}
 use borrow.Author.Needs.{needs}
+use Rattle.text.proofs.Puts.{put-as}
 use Rattle.sheet_rules.specs.Blocks.{sheetOf, relationCount}
 use Rattle.sheet_rules.proofs.Acceptance.{accepted-facts, accepted-layout}
 use Rattle.cells.proofs.Blocks.{Placed, placed, part-is}
 use Rattle.encoding.specs.Whole.{series}
-use Rattle.dimacs.proofs.Puts.{put-as}
 use Rattle.report.specs.Printed.{relationLine, relationLines}
 use Rattle.report.proofs.finder.put_relations.Statement.{statement}
 use Rattle.report.proofs.finder.put_relations.Tie as tie

@@ -1,16 +1,16 @@
 -- `put_report` meets its contract: the line of each end.
-use mathlib.Core.Path.{_≡_, sym, ap, _∙_}
+use mathlib.Core.Path.{_≡_, sym, ap}
 use mathlib.Core.List.{List}
 use Prim.Native.Nat.{ℕ}
 use native.Mathlib.Omega.{arith}
 use borrow.Author.Needs.{needs}
-use Rattle.prelude.specs.Texts.{bytesOf}
+use Rattle.text.specs.Puts.{Put}
+use Rattle.text.specs.Texts.{bytesOf, endLine}
+use Rattle.text.proofs.Puts.{put-as}
+use Rattle.sheet_rules.specs.Blocks.{sheetOf}
 use Rattle.search.specs.declared.answer.Search.{Search}
 use Rattle.search.specs.Answers.{answerOf}
-use Rattle.sheet_rules.specs.Blocks.{sheetOf}
-use Rattle.dimacs.specs.Private.{Put}
-use Rattle.dimacs.proofs.Puts.{put-as}
-use Rattle.report.specs.Printed.{report, endLine}
+use Rattle.report.specs.Printed.{report}
 use Rattle.report.proofs.finder.put_report.Statement.{statement}
 use Rattle.report.proofs.finder.put_report.Tie as tie
 

@@ -1,5 +1,4 @@
 -- `cell_digit` meets its contract.
-use mathlib.Core.Path.{ap}
 use borrow.Author.Needs.{needs}
 use borrow.Author.Tests.{eq-eqb, ne-eqb}
 use Rattle.report.proofs.lines.cell_digit.Statement.{statement}

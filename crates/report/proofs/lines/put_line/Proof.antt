@@ -4,11 +4,11 @@ use mathlib.Core.List.{List, [], _∷_, _++_}
 use Prim.Native.Nat.{ℕ, _+_, _*_, _-_, _≤_}
 use native.Mathlib.Omega.{arith}
 use lib.ListN.{length, set, length-set}
+use Rattle.text.specs.Puts.{Put}
+use Rattle.text.specs.Texts.{decimal}
+use Rattle.text.proofs.Puts.{put-byte, put-both, put-as, put-length}
 use Rattle.cells.proofs.Layouts.{square}
 use Rattle.encoding.specs.Whole.{series}
-use Rattle.dimacs.specs.Text.{decimal}
-use Rattle.dimacs.specs.Private.{Put}
-use Rattle.dimacs.proofs.Puts.{put-byte, put-both, put-as, put-length}
 use Rattle.report.specs.Private.{rowFrom, lineFrom}
 use Rattle.report.proofs.Pieces.{put-none-of, put-more, row-length, number-short}
 use Rattle.report.proofs.lines.put_line.Statement.{statement}

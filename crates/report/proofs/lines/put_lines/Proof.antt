@@ -1,8 +1,7 @@
 -- `put_lines` meets its contract. The loop's invariant: the lines of the relations passed were put, and the next one's first cell is known.
-use mathlib.Core.Path.{_≡_, ap}
+use mathlib.Core.Path.{_≡_}
 use Prim.Native.Nat.{_-_, _*_, _≤_}
 use native.Mathlib.Omega.{arith}
-use lib.ListN.{length}
 use borrow.Author.Needs.{needs}
 use Rattle.cells.proofs.Layouts.{Earlier, earlier-none, earlier-more, count-most, width-most, cells-most}
 use Rattle.report.specs.Private.{PutLines}

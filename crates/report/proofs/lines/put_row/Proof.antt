@@ -1,14 +1,14 @@
 -- `put_row` meets its contract. The loop's invariant: the digits of the cells passed were put after the space.
-use mathlib.Core.Path.{_≡_, sym, ap, _∙_}
+use mathlib.Core.Path.{_≡_, ap, _∙_}
 use mathlib.Core.List.{List, [], _∷_}
 use Prim.Native.Nat.{ℕ, _+_, _-_, _≤_}
 use native.Mathlib.Omega.{arith}
-use lib.ListN.{length, set, length-set}
+use lib.ListN.{length, length-set}
 use borrow.Author.Needs.{needs}
+use Rattle.text.specs.Puts.{Put}
+use Rattle.text.proofs.Puts.{put-byte, put-both, put-as, put-length}
 use Rattle.sheet_rules.specs.Blocks.{byte}
 use Rattle.encoding.specs.Whole.{series}
-use Rattle.dimacs.specs.Private.{Put}
-use Rattle.dimacs.proofs.Puts.{put-byte, put-both, put-as, put-length}
 use Rattle.report.specs.Printed.{cellDigit}
 use Rattle.report.specs.Private.{rowFrom}
 use Rattle.report.proofs.Pieces.{put-none-of, put-more, bytes-length}

@@ -1,0 +1,90 @@
+-- What `cnf` prints, by the length of the input, and the text of a list that was written.
+use mathlib.Core.Path.{_≡_, sym, ap, _∙_}
+use mathlib.Core.Bool.{true}
+use mathlib.Core.List.{List}
+use Prim.Native.Nat.{ℕ, _+_, _*_, _≤_, _<_}
+use native.Mathlib.Omega.{arith}
+use lib.IntN.{ℤ}
+use lib.ListN.{length, take, drop, length-append}
+use lib.Seq.{length-take-le}
+use borrow.Author.Tests.{le-leb, lt-leb}
+use Rattle.text.specs.Texts.{bytesOf, endLine}
+use Rattle.clause_list.specs.ClauseList.{isList}
+use Rattle.sheet_rules.specs.Blocks.{sheetOf}
+use Rattle.encoding.specs.Whole.{words, wordTotal}
+use Rattle.encoding.proofs.Theorems.{listed}
+use Rattle.clauses.specs.Answers.{fits, writeAnswer, listAfter}
+use Rattle.clauses.proofs.Answered.{count-fits, write-fits}
+use Rattle.dimacs.specs.Text.{textOf, textRoom}
+use Rattle.dimacs.specs.Answers as dimacs
+use Rattle.dimacs.specs.Answers.{bytes, textAfter}
+use Rattle.dimacs.proofs.Lines.{text-fits}
+use Rattle.dimacs.proofs.Answers.{write-bytes, after-bytes}
+use Rattle.cnf_text.specs.Private.{PrintsText}
+use Rattle.cnf_text.specs.Printed.{textAs, clauseText, listLeft}
+
+module _ (input : List ℕ) (list : List ℤ) where
+  pub long-clauses : 4096 < length input → clauseText input list ≡ endLine (bytesOf "refused ") 2
+  unfolding clauseText
+  long-clauses h = rw (lt-leb (length input) 4096 h)
+
+  pub long-list : 4096 < length input → listLeft input list ≡ list
+  unfolding listLeft
+  long-list h = rw (lt-leb (length input) 4096 h)
+
+  pub short-clauses : length input ≤ 4096 → clauseText input list ≡ textAs (writeAnswer input list) (sheetOf input)
+  unfolding clauseText
+  short-clauses h = rw (le-leb (length input) 4096 h)
+
+  pub short-list : length input ≤ 4096 → listLeft input list ≡ listAfter input list
+  unfolding listLeft
+  short-list h = rw (le-leb (length input) 4096 h)
+
+  -- the list that was written
+  module _ (v c w : ℕ) (e : writeAnswer input list ≡ fits v c w) where
+    pub written-room : w ≤ length list
+    written-room = write-fits input list v c w e .room
+
+    pub written-inside : w ≤ length (listAfter input list)
+    written-inside =
+        let l = write-fits input list v c w e in
+        let d = count-fits input v c w (l .counted) in
+        omega (arith, d .words, ap length (l .list), length-append (words (sheetOf input)) (drop (wordTotal (sheetOf input)) list))
+
+    pub written-listed : length list ≤ 2147483647 → isList v (take w (listAfter input list)) ≡ true
+    written-listed h =
+        let l = write-fits input list v c w e in
+        let d = count-fits input v c w (l .counted) in
+        rw (l .front, d .variables) (listed input (d .layout) (d .accepted) (d .small) (omega (arith, d .words, l .room)))
+
+    pub written-text : length input ≤ 4096 → textOf v (take w (listAfter input list)) ≡ clauseText input list
+    written-text h =
+        ap (textOf v) (write-fits input list v c w e .front) ∙ ap (λ a. textAs a (sheetOf input)) (sym e) ∙ sym (short-clauses h)
+
+-- a text that was printed with room for it
+module _ {text lent left : List ℕ} {end : ℕ} (p : PrintsText text lent left end) where
+  pub text-counts : (end ≤ length left) × (end ≡ length (take end left))
+  text-counts =
+      let e = p .prints in
+      let l : end ≤ length left = omega (arith, e .ends, ap length (e .stands), length-append text (drop (length text) lent)) in
+      (l, sym (length-take-le end left l))
+
+-- `dimacs::write` of a list that is one, where there is room
+module _ (v : ℕ) (ws : List ℤ) (lent left : List ℕ) (e : isList v ws ≡ true) (h : 7 * length ws + 32 ≤ length lent) where
+  room : textRoom ws ≤ length lent
+  unfolding textRoom
+  room = h
+
+  pub writes-text : left ≡ textAfter v ws lent → (n : ℕ) → bytes n ≡ dimacs.writeAnswer v ws lent → PrintsText (textOf v ws) lent left n
+  writes-text l n a =
+      let k : bytes n ≡ bytes (length (textOf v ws)) = a ∙ write-bytes v ws lent e room in
+      record {
+        room = omega (arith, text-fits v ws e, room);
+        prints = record { ends = cc; stands = l ∙ after-bytes v ws lent e room };
+      }
+
+  pub not-refused : (n : ℕ) → dimacs.refused n ≡ dimacs.writeAnswer v ws lent → ⊥
+  not-refused n a =
+      let k : dimacs.refused n ≡ bytes (length (textOf v ws)) = a ∙ write-bytes v ws lent e room in
+      let z : _≡_ {A = ℕ} 0 1 = cc in
+      omega arith

@@ -1,0 +1,44 @@
+-- K1 to K10 of document 01: the definitions give every row of the joint table, by computation.
+use mathlib.Core.Path.{_≡_, refl}
+use mathlib.Core.List.{map}
+use Rattle.prelude.specs.Tests.{each, all, any}
+use Rattle.text.specs.Texts.{digits, decimal}
+use Rattle.clause_list.specs.ClauseList.{cut, wordsOf, wellCut, isList}
+use Rattle.kinds.specs.Kinds.{rowOf}
+use Rattle.sheet_rules.specs.Tables as tables
+use Rattle.sheet_rules.specs.Tables.{shapeStep, freeStep, visitsStep}
+use Rattle.sheet_rules.specs.Reading.{counted, scoped, declared, nodesFine, shaped, rooted, walkable, reading}
+use Rattle.relational.specs.Trees.{symbolOf, treeStep}
+use Rattle.relational.specs.Cells.{firstCell, withinScopes}
+use Rattle.relational.specs.Matrices.{rounds}
+use Rattle.relational.specs.Evaluation as evaluation
+use Rattle.relational.specs.Evaluation.{valueOf, marksHold, holds}
+use Rattle.instance.specs.Held.{heldAnswer, checkAnswer}
+use Rattle.encoding.specs.Builder as builder
+use Rattle.encoding.specs.Gates.{or, inputClauses, gatesClauses}
+use Rattle.encoding.specs.Translation.{afterRounds, translate}
+use Rattle.encoding.specs.Whole.{series, markClauses, rootWalk, clauses, words, variableTotal}
+use Rattle.clauses.specs.Answers.{countAnswer, writeAnswer, listAfter}
+use Rattle.dimacs.specs.Text.{literalText, clauseLine, clauseLines, header, textOf, textRoom}
+use Rattle.dimacs.specs.Answers as text
+use Rattle.search_rules.specs.Rules.{truthOf, negated, literal, isFalsified, isSatisfied, conflict, openOf, sameLiteral, only, unitOf}
+use Rattle.search_rules.specs.Rules.{firstUnit, lowestOpen, wordOf, byteOf, placeOf, valuesOf, trailOf, turn, decide, next}
+use Rattle.search_rules.specs.Run.{total, count, run}
+use Rattle.search.specs.Answers.{answerAt, valuesAt, trailAt, outcome}
+use Rattle.solve_rules.specs.Answers.{readBackAnswer, instanceAfter}
+use Rattle.solve_rules.specs.Finding.{finding}
+use Rattle.report.specs.Printed.{relationLines, findingText, slicesAfter}
+use Rattle.cnf_text.specs.Printed.{clauseText, listLeft}
+use Rattle.marked.specs.Table.{Row, table}
+use Rattle.marked.specs.Shown.{shown, inFull}
+
+pub cases : map shown table ≡ map (λ (row : Row). inFull (row .stated)) table
+unfolding rowOf each all any digits decimal tables.table shapeStep freeStep visitsStep
+    counted scoped declared nodesFine shaped rooted walkable reading symbolOf treeStep firstCell withinScopes rounds
+    valueOf evaluation.truthOf marksHold holds heldAnswer checkAnswer builder.each or inputClauses gatesClauses afterRounds translate
+    series markClauses rootWalk clauses words wordsOf variableTotal countAnswer writeAnswer listAfter cut wellCut isList
+    literalText clauseLine clauseLines header textOf textRoom text.sizeAnswer text.writeAnswer text.textAfter
+    truthOf negated literal isFalsified isSatisfied conflict openOf sameLiteral only unitOf firstUnit lowestOpen
+    wordOf byteOf placeOf valuesOf trailOf turn decide next total count run answerAt valuesAt trailAt outcome
+    readBackAnswer instanceAfter finding relationLines findingText slicesAfter clauseText listLeft
+cases = refl

@@ -1,0 +1,116 @@
+-- What the finder prints tells what `find` found: the words that a text starts with differ in their first letters.
+use mathlib.Core.Path.{_≡_, refl, sym, ap, _∙_, subst}
+use mathlib.Core.Bool.{false}
+use mathlib.Core.Logic.{⊎-elim}
+use mathlib.Core.List.{List, [], _∷_, _++_}
+use Prim.Native.Nat.{ℕ, zero, suc, _+_, _≤_, _<_}
+use native.Mathlib.Nat.{not-suc-le-zero, mul-le-mul-right}
+use native.Mathlib.Omega.{arith}
+use lib.Dec.{eqb, leb}
+use lib.ListN.{length, getD, take, drop, List·getD-append}
+use lib.Seq.{take-at}
+use borrow.Author.Tests.{eqb-true, leb-true, leb-false}
+use Rattle.prelude.proofs.Laws.{and-left, decided}
+use Rattle.text.specs.Texts.{bytesOf, decimal, endLine, Prints}
+use Rattle.sheet_rules.specs.Blocks.{Sheet, sheetOf, byte, relationCount}
+use Rattle.relational.specs.Cells.{rowCount, rowLength, cellsOf, firstCell, cellCount, cell, withinScopes}
+use Rattle.encoding.specs.Whole.{series}
+use Rattle.encoding.specs.Matching.{Solution}
+use Rattle.search.specs.Answers.{Answer, found, none, spent, refused}
+use Rattle.solve_rules.specs.Finding.{Slices}
+use Rattle.solve_rules.specs.Finds.{Holds, Finds}
+use Rattle.solve_rules.proofs.Finds.{finds}
+use Rattle.report.specs.Printed.{cellDigit, rowDigits, relationLine, relationLines, report, findingOf, findingText}
+use Rattle.report.specs.Tells.{ShowsSolution, Tells}
+use Rattle.report.proofs.Texts.{long-text, short-text}
+
+-- a series by its members
+same-series : (n : ℕ) (f g : ℕ → List ℕ) → ((i : ℕ) → i < n → f i ≡ g i) → series n f ≡ series n g
+unfolding series
+same-series zero f g e = refl
+same-series (suc n) f g e = λ k. same-series n f g (λ i h. e i (omega arith)) k ++ e n (omega arith) k
+
+-- the cells of a relation stand before those of the next
+first-up : (sheet : Sheet) (r n : ℕ) → r < n → firstCell sheet r + cellsOf sheet r ≤ firstCell sheet n
+unfolding firstCell
+first-up sheet r zero h = absurd (not-suc-le-zero h)
+first-up sheet r (suc n) h =
+    ⊎-elim
+    (λ e. omega (arith, first-up sheet r n (leb-true (suc r) n e)))
+    (λ (e : leb (suc r) n ≡ false). let q : r ≡ n = omega (arith, leb-false (suc r) n e) in rw q (omega arith))
+    (decided (leb (suc r) n))
+
+cell-inside : (sheet : Sheet) (r i j : ℕ) → r < relationCount sheet → i < rowCount sheet r → j < rowLength sheet r
+    → cell sheet r i j < cellCount sheet
+cell-inside sheet r i j h k l =
+    omega (arith, first-up sheet r (relationCount sheet) h, mul-le-mul-right (rowLength sheet r) k)
+
+-- only the cells are printed: a row, a line, all lines
+module _ (sheet : Sheet) (instance rest : List ℕ) (e : length instance ≡ cellCount sheet) where
+  row-of : (r i : ℕ) → r < relationCount sheet → i < rowCount sheet r → rowDigits sheet (instance ++ rest) r i ≡ rowDigits sheet instance r i
+  row-of r i h k =
+      same-series (rowLength sheet r) (λ j. cellDigit (byte (instance ++ rest) (cell sheet r i j)) ∷ [])
+      (λ j. cellDigit (byte instance (cell sheet r i j)) ∷ []) λ j l.
+      ap (λ (b : ℕ). cellDigit b ∷ [])
+      (List·getD-append instance rest 0 (cell sheet r i j) (omega (arith, cell-inside sheet r i j h k l)))
+
+  line-of : (r : ℕ) → r < relationCount sheet → relationLine sheet (instance ++ rest) r ≡ relationLine sheet instance r
+  line-of r h =
+      ap (λ (rows : List ℕ). bytesOf "r" ++ (decimal r ++ (rows ++ bytesOf "\n")))
+      (same-series (rowCount sheet r) (λ i. bytesOf " " ++ rowDigits sheet (instance ++ rest) r i)
+      (λ i. bytesOf " " ++ rowDigits sheet instance r i) λ i k. ap (λ (ds : List ℕ). bytesOf " " ++ ds) (row-of r i h k))
+
+  lines-of : relationLines sheet (instance ++ rest) ≡ relationLines sheet instance
+  unfolding relationLines
+  lines-of = same-series (relationCount sheet) (relationLine sheet (instance ++ rest)) (relationLine sheet instance) line-of
+
+solution-size : (sheet : Sheet) (instance : List ℕ) → Solution sheet instance → length instance ≡ cellCount sheet
+unfolding withinScopes
+solution-size sheet instance p = eqb-true (length instance) (cellCount sheet) (and-left (eqb (length instance) (cellCount sheet)) _ (p .within))
+
+shows : (sheet : Sheet) (lent left : List ℕ) (n : ℕ) → Holds sheet lent left → ShowsSolution sheet (report (found n) sheet left)
+shows sheet lent left n h =
+    record {
+      steps = n;
+      instance = h .instance;
+      solves = h .solves;
+      shows =
+          ap (λ (ls : List ℕ). endLine (bytesOf "found ") n ++ ls)
+          (ap (relationLines sheet) (h .stands)
+          ∙ lines-of sheet (h .instance) (drop (length (h .instance)) lent) (solution-size sheet (h .instance) (h .solves)));
+    }
+
+abbrev first : List ℕ → ℕ
+first text = getD text 0 0
+
+module _ (input : List ℕ) (lent : Slices) where
+  -- a text whose first letter is neither n nor f
+  silent : (letter : ℕ) (rest : List ℕ) → (letter ≡ 110 → ⊥) → (letter ≡ 102 → ⊥) → Tells input (letter ∷ rest)
+  silent letter rest n f = record {
+    none-only = λ s. absurd (n (sym (ap first (s .parts))));
+    found-only = λ s. absurd (f (sym (ap first (s .parts))));
+  }
+
+  told : (a : Answer) (left : Slices) → Finds input lent 1000000 a left → Tells input (report a (sheetOf input) (left .instance))
+  told (found n) left f = record {
+    none-only = λ s. absurd (omega (arith, ap first (s .parts)));
+    found-only = λ s. shows (sheetOf input) (lent .instance) (left .instance) n (f .found-only n refl);
+  }
+  told (none n) left f = record { none-only = λ s. f .none-only n refl; found-only = λ s. absurd (omega (arith, ap first (s .parts))) }
+  told (spent n) left f = silent 115 _ (λ e. omega arith) (λ e. omega arith)
+  told (refused n) left f = silent 114 _ (λ e. omega arith) (λ e. omega arith)
+
+  tells : Tells input (findingText input lent)
+  tells =
+      ⊎-elim
+      (λ h. subst (Tells input) (sym (short-text input lent (leb-true (length input) 4096 h)))
+      (told (findingOf input lent .answer) (findingOf input lent .left) (finds input lent 1000000)))
+      (λ h. subst (Tells input) (sym (long-text input lent (leb-false (length input) 4096 h)))
+      (silent 114 _ (λ e. omega arith) (λ e. omega arith)))
+      (decided (leb (length input) 4096))
+
+  -- exactly the bytes printed
+  pub printed-tells : {before after : List ℕ} {end : ℕ} → Prints (findingText input lent) before after end → Tells input (take end after)
+  printed-tells {before} {after} {end} p =
+      let text = findingText input lent in
+      subst (Tells input) (sym (ap (take end) (p .stands) ∙ take-at text (drop (length text) before) end (sym (p .ends)))) tells

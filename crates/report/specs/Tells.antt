@@ -1,0 +1,27 @@
+-- What a printed text tells of the instances of the sheet that was read: demand 3, from the printed word on.
+use mathlib.Core.Path.{_≡_}
+use mathlib.Core.List.{List, _++_}
+use Prim.Native.Nat.{ℕ}
+use Prim.Native.String.{String}
+use Rattle.text.specs.Texts.{bytesOf, endLine}
+use Rattle.sheet_rules.specs.Blocks.{Sheet, sheetOf}
+use Rattle.encoding.specs.Matching.{Solution}
+use Rattle.report.specs.Printed.{relationLines}
+
+-- the bytes printed start with a word
+pub record StartsWith (word : String) (text : List ℕ) : Type 0 where
+  pub rest : List ℕ
+  pub parts : bytesOf word ++ rest ≡ text
+
+-- the text is the line `found N` and the digits of an instance within the scopes that satisfies marks and formula
+pub record ShowsSolution (sheet : Sheet) (text : List ℕ) : Type 0 where
+  pub steps : ℕ
+  pub instance : List ℕ
+  pub solves : Solution sheet instance
+  pub shows : text ≡ endLine (bytesOf "found ") steps ++ relationLines sheet instance
+
+pub record Tells (input text : List ℕ) : Type 0 where
+  -- "none" only if no instance within the scopes satisfies marks and formula
+  pub none-only : StartsWith "none" text → (instance : List ℕ) → Solution (sheetOf input) instance → ⊥
+  -- "found" only with one that does
+  pub found-only : StartsWith "found" text → ShowsSolution (sheetOf input) text

@@ -1,0 +1,3 @@
+mod Cases
+pub mod Decimals
+pub mod Puts
