@@ -6,7 +6,7 @@ use Rattle.sheet.specs.declared.Layout.{Layout}
 use Rattle.sheet.specs.declared.Reading.{Reading}
 use Rattle.sheet.specs.declared.Reading.the-variants as r
 use Rattle.sheet.specs.Blocks.{sheetOf}
-use Rattle.sheet.specs.Reading.{reading}
+use Rattle.sheet.specs.Reading as sheet
 use Rattle.instance.specs.Answers as check
 use Rattle.instance.specs.Held.{heldAnswer}
 
@@ -18,8 +18,8 @@ abbrev pub answerOf : Reading → Answer
 answerOf (r.Accepted layout) = accepted layout
 answerOf (r.Refused refusal) = refused (numberOf refusal)
 
-abbrev pub readAnswer : List ℕ → Answer
-readAnswer s = answerOf (reading s)
+abbrev pub reading : List ℕ → Answer
+reading s = answerOf (sheet.reading s)
 
 -- "The check takes 1 to 9 and 11": those of reading, then 11, then whether marks and formula hold
 abbrev pub checkAfter : Answer → List ℕ → List ℕ → check.Answer
@@ -27,4 +27,4 @@ checkAfter (accepted layout) s instance = heldAnswer (sheetOf s) instance
 checkAfter (refused n) s instance = check.refused n
 
 abbrev pub checkAnswer : List ℕ → List ℕ → check.Answer
-checkAnswer s instance = checkAfter (readAnswer s) s instance
+checkAnswer s instance = checkAfter (reading s) s instance

@@ -16,7 +16,7 @@ use Rattle.solve.specs.Answers.{readBackAnswer, instanceAfter}
 use Rattle.solve.specs.Finding.{Slices, slices, Finding, finding, decline}
 use Rattle.report.specs.Printed.{findingText, slicesAfter}
 use Rattle.cnf_text.specs.Printed.{clauseText, listLeft}
-use Rattle.marked.specs.Numbers.{Answer, accepted, refused, readAnswer, checkAnswer}
+use Rattle.marked.specs.Numbers.{Answer, accepted, refused, reading, checkAnswer}
 use Rattle.marked.specs.Table as table
 use Rattle.marked.specs.Table.{Stated, Row}
 
@@ -54,7 +54,7 @@ pub record ListCalls : Type 0 where
 pub data Shown : Type 0 where
   -- a sheet that fits, and its clauses
   fitting : Calls → ListCalls → Shown
-  -- a sheet that is refused, with the list that `cnf` leaves and the slices that the finder leaves
+  -- a sheet that is refused, so that there is no list to search, with the list that `cnf` leaves and the slices that the finder leaves
   declining : Calls → List ℤ → Slices → Shown
 
 -- the calls of a row, where read-back gets some values
@@ -62,7 +62,7 @@ abbrev pub calls : Row → List ℕ → Calls
 calls row values =
     let s = row .sheet in
     record {
-      reading = readAnswer s;
+      reading = reading s;
       checking = checkAnswer s (row .checked);
       counting = countAnswer s;
       writing = writeAnswer s (lent .list);
