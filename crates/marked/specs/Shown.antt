@@ -55,7 +55,7 @@ pub record ListCalls : Type 0 where
 pub data Shown : Type 0 where
   -- a sheet that fits, and its clauses
   fitting : Calls → ListCalls → Shown
-  -- a sheet that is refused, with the list that `cnf` leaves and the slices that the finder leaves
+  -- a sheet that is refused, so that there is no list to search, with the list that `cnf` leaves and the slices that the finder leaves
   declining : Calls → List ℤ → Slices → Shown
 
 -- the calls of a row, where read-back gets some values

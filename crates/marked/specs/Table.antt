@@ -59,7 +59,7 @@ k1 =
     ∷ 0x00 ∷ 0x06 ∷ 0x01 ∷ 0x00 ∷ 0x00 ∷ 0x16 ∷ 0x00 ∷ 0x00
     ∷ []
 
--- K1 with another scope, another mark, and other nodes after that of the set
+-- K1 with another scope, another mark and other nodes
 abbrev pub oneSet : ℕ → ℕ → List ℕ → List ℕ
 oneSet scope mark nodes = 1 ∷ 0 ∷ 1 ∷ scope ∷ 0 ∷ 0 ∷ 0 ∷ 4 ∷ 1 ∷ mark ∷ 0 ∷ 0 ∷ 0 ∷ length nodes ∷ nodes
 

@@ -84,12 +84,9 @@ abbrev first : List ℕ → ℕ
 first text = getD text 0 0
 
 module _ (input : List ℕ) (lent : Slices) where
-  -- a text whose first letter is neither n nor f
-  silent : (letter : ℕ) (rest : List ℕ) → (letter ≡ 110 → ⊥) → (letter ≡ 102 → ⊥) → Tells input (letter ∷ rest)
-  silent letter rest n f = record {
-    none-only = λ s. absurd (n (sym (ap first (s .parts))));
-    found-only = λ s. absurd (f (sym (ap first (s .parts))));
-  }
+  -- a text whose first letter is neither n, byte 110, nor f, byte 102
+  silent : (text : List ℕ) → (110 ≡ first text → ⊥) → (102 ≡ first text → ⊥) → Tells input text
+  silent text n f = record { none-only = λ s. absurd (n (ap first (s .parts))); found-only = λ s. absurd (f (ap first (s .parts))) }
 
   told : (a : Answer) (left : Slices) → Finds input lent 1000000 a left → Tells input (report a (sheetOf input) (left .instance))
   told (found n) left f = record {
@@ -97,8 +94,8 @@ module _ (input : List ℕ) (lent : Slices) where
     found-only = λ s. shows (sheetOf input) (lent .instance) (left .instance) n (f .found-only n refl);
   }
   told (none n) left f = record { none-only = λ s. f .none-only n refl; found-only = λ s. absurd (omega (arith, ap first (s .parts))) }
-  told (spent n) left f = silent 115 _ (λ e. omega arith) (λ e. omega arith)
-  told (refused n) left f = silent 114 _ (λ e. omega arith) (λ e. omega arith)
+  told (spent n) left f = silent _ (λ e. omega arith) (λ e. omega arith)
+  told (refused n) left f = silent _ (λ e. omega arith) (λ e. omega arith)
 
   tells : Tells input (findingText input lent)
   tells =
@@ -106,7 +103,7 @@ module _ (input : List ℕ) (lent : Slices) where
       (λ h. subst (Tells input) (sym (short-text input lent (leb-true (length input) 4096 h)))
       (told (findingOf input lent .answer) (findingOf input lent .left) (finds input lent 1000000)))
       (λ h. subst (Tells input) (sym (long-text input lent (leb-false (length input) 4096 h)))
-      (silent 114 _ (λ e. omega arith) (λ e. omega arith)))
+      (silent _ (λ e. omega arith) (λ e. omega arith)))
       (decided (leb (length input) 4096))
 
   -- exactly the bytes printed
