@@ -12,7 +12,7 @@ fn find(name: &[u8]) {
     io::write_all(1, name);
     io::write_all(1, b"\n");
     let fd = open(name);
-    console::find(fd);
+    console_finder::find(fd);
     libc::close(fd);
 }
 
@@ -21,7 +21,7 @@ fn clauses(name: &[u8]) {
     io::write_all(1, name);
     io::write_all(1, b"\n");
     let fd = open(name);
-    console::print_clauses(fd);
+    console_cnf::print_clauses(fd);
     libc::close(fd);
 }
 

@@ -1,4 +1,4 @@
 // A sheet on standard input, its clause text in the DIMACS CNF format on standard output, for any solver.
 fn main() {
-    console::print_clauses(0);
+    console_cnf::print_clauses(0);
 }
