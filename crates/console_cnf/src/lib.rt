@@ -1,4 +1,5 @@
 // The program `cnf`: a sheet is read from a descriptor, and its clause text is printed on standard output.
+ghost use Rattle.io.specs.Counts.{Counts};
 use clauses::answer::Count;
 use report::clause_text::clause_text;
 
@@ -18,12 +19,17 @@ fn say_short(input: &[u8]) {
     }
 }
 
+// Prints the first n bytes of a text.
+fn print_text(text: &[u8], n: usize) -> bool
+    requires { ⌜ Counts n (now text) ⌝ }
+{
+    console::print(&text[..n], b"cnf: writing standard output")
+}
+
 // Prints the clause text of an input.
-fn answer(input: &[u8]) -> bool {
-    let mut list = [0i32; WORDS];
-    let mut text = [0u8; 1835040];
-    let k = clause_text(input, &mut list, &mut text);
-    if !console::print(&text[..k], b"cnf: writing standard output") {
+fn answer(input: &[u8], list: &mut [i32; 262144], text: &mut [u8; 1835040]) -> bool {
+    let k = clause_text(input, list, text);
+    if !print_text(text, k) {
         return false;
     }
     // `refused`, and no clause text, starts with an r
@@ -35,18 +41,18 @@ fn answer(input: &[u8]) -> bool {
 
 // Reads an input, prints its clause text, and answers whether both went well. One byte more than the longest input is read, so that
 // a longer one is seen.
-pub fn print_clauses(fd: i32) -> bool {
+pub fn print_clauses(fd: i32, list: &mut [i32; 262144], text: &mut [u8; 1835040]) -> bool {
     let mut input = [0u8; 4097];
     let read = console::read_input(fd, &mut input, b"cnf: reading standard input");
     if read.failed {
         return false;
     }
     let n = read.bytes;
-    answer(&input[..n])
+    answer(&input[..n], list, text)
 }
 
-// The program's exit status: 0, or 1 where reading or printing failed.
+// The program's exit status: 0, or 1 where reading or printing failed. The caller lends what is too large for a stack.
 #[no_mangle]
-pub extern "C" fn fawnloom_cnf() -> i32 {
-    if print_clauses(0) { 0 } else { 1 }
+pub extern "C" fn fawnloom_cnf(list: &mut [i32; 262144], text: &mut [u8; 1835040]) -> i32 {
+    if print_clauses(0, list, text) { 0 } else { 1 }
 }
