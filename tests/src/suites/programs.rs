@@ -105,7 +105,7 @@ fn is_long(bytes: &[u8]) -> bool {
 const WORDS: usize = 262_144;
 
 /// What `cnf` prints: the clause text, or the refusal in the finder's form.
-fn clause_text(bytes: &[u8]) -> String {
+pub fn clause_text(bytes: &[u8]) -> String {
     let sheet = if bytes.len() > BYTES { Err(LENGTH) } else { read(bytes) };
     let clauses = sheet.and_then(|sheet| translate(&sheet));
     let few = clauses.and_then(|clauses| if clauses.words().len() > WORDS { Err(SHORT) } else { Ok(clauses) });
