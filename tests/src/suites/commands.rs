@@ -1,6 +1,7 @@
 //! `./find` and `./cnf`: the status of the program is theirs, and a refusal is said in words.
 
 use super::{agree, hex};
+use reference::clauses::count;
 use reference::deep::sheets;
 use reference::random_sheet::{gates_of, walk_of};
 use std::fs::File;
@@ -49,9 +50,15 @@ pub fn run() -> Result<String, String> {
         let (printed, said, status) = command("find", sheet, file)?;
         let asked = || format!("./find, sheet {}", hex(sheet));
         agree((printed.as_str(), status), (format!("refused {number}\n").as_str(), Some(0)), asked)?;
-        agree(said.contains(word) && said.contains(&format!("refused {number}, ")), true, || format!("{}: {said}", asked()))?;
+        agree(said.contains(word) && said.contains(&format!("refused {number}, ")), true, || {
+            format!("{}: {said}", asked())
+        })?;
     }
-    let (printed, said, status) = command("cnf", &refused[11].2, file)?;
+    let long = &refused[11].2;
+    let words = count(long).map_err(|number| format!("{number}"))?.words;
+    let (_, said, _) = command("find", long, file)?;
+    agree(said.contains(&format!("{words} words, and there is room for 16384")), true, || format!("./find: {said}"))?;
+    let (printed, said, status) = command("cnf", long, file)?;
     agree((&printed[..6], said.as_str(), status), ("p cnf ", "", Some(0)), || "./cnf".to_string())?;
     let full = File::options().write(true).open("/dev/full").map_err(|error| error.to_string())?;
     let mut find = Command::new("./find");

@@ -118,12 +118,19 @@ pub fn clause_text(bytes: &[u8]) -> String {
 /// Runs a program of the library on an input.
 fn program(name: &str, input: &[u8]) -> Result<String, String> {
     let mut command = Command::new(format!("target/bin/{name}"));
-    let mut child =
-        command.stdin(Stdio::piped()).stdout(Stdio::piped()).spawn().map_err(|error| format!("{name}: {error}"))?;
+    let mut child = command
+        .stdin(Stdio::piped())
+        .stdout(Stdio::piped())
+        .stderr(Stdio::null())
+        .spawn()
+        .map_err(|error| format!("{name}: {error}"))?;
     let mut stdin = child.stdin.take().expect("a pipe");
     // a program may stop reading where the input is too long
     let _ = stdin.write_all(input);
     drop(stdin);
     let output = child.wait_with_output().map_err(|error| error.to_string())?;
+    if !output.status.success() {
+        return Err(format!("{name}: {}, sheet {}", output.status, hex(input)));
+    }
     String::from_utf8(output.stdout).map_err(|error| error.to_string())
 }

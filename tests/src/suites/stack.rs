@@ -133,6 +133,7 @@ pub fn run(_: &Run) -> Outcome {
             agree(program(program_name, stated, &bytes)?, want, || format!("{program_name}, {asked}"))?;
         }
     }
-    let seen: Vec<String> = CALLS.iter().zip(depths).map(|((name, _), depth)| format!("{name} {}", depth.div_ceil(1_024))).collect();
+    let seen: Vec<String> =
+        CALLS.iter().zip(depths).map(|((name, _), depth)| format!("{name} {}", depth.div_ceil(1_024))).collect();
     Ok(format!("{} sheets of 200 nodes within the stated stacks; KB taken: {}", sheets.len(), seen.join(", ")))
 }
