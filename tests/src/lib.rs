@@ -4,6 +4,7 @@
 
 pub mod brute;
 pub mod clauses;
+pub mod deep;
 pub mod dimacs;
 pub mod every_kind;
 pub mod finder;

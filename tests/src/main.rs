@@ -3,6 +3,8 @@
 
 #[cfg(any(on = "read", on = "check", on = "count", on = "search", on = "dimacs", on = "solve"))]
 mod library;
+#[cfg(on = "stack")]
+mod painted;
 mod solver;
 mod suites;
 

@@ -12,7 +12,7 @@ fn find(name: &[u8]) {
     io::write_all(1, name);
     io::write_all(1, b"\n");
     let fd = open(name);
-    console::find(fd);
+    console_finder::find(fd);
     libc::close(fd);
 }
 
@@ -21,7 +21,9 @@ fn clauses(name: &[u8]) {
     io::write_all(1, name);
     io::write_all(1, b"\n");
     let fd = open(name);
-    console::print_clauses(fd);
+    let mut list = [0i32; 262144];
+    let mut text = [0u8; 1835040];
+    console_cnf::print_clauses(fd, &mut list, &mut text);
     libc::close(fd);
 }
 

@@ -1,34 +1,75 @@
-// What the programs do: an input is read from a descriptor, and what `report` makes of it is printed on standard output.
-use cnf_text::clause_text;
-use report::finder::find_text;
+// Reading and printing for the programs. A read or a write that fails is told on standard error, and never passes for the end of
+// the input or for a text that was printed.
+ghost use Rattle.io.specs.Counts.{Counts};
+use libc::STDERR_FILENO;
+use libc::STDOUT_FILENO;
 
-// The finder of document 01: 16,384 clause words, and room for all variables and cells that there can be. One byte more than the
-// longest input is read, so that a longer one is seen.
-pub fn find(fd: i32) {
-    let mut input = [0u8; 4097];
-    let n = io::read_full(fd, &mut input);
-    let mut list = [0i32; 16384];
-    let mut values = [0u8; 16000];
-    let mut trail = [0i32; 16000];
-    let mut instance = [0u8; 1024];
-    let mut text = [0u8; 2048];
-    let k = find_text(
-        &input[..n],
-        &mut list,
-        &mut values,
-        &mut trail,
-        &mut instance,
-        &mut text,
-    );
-    io::write_all(1, &text[..k]);
+// What reading came to: the bytes that were read, and whether a read failed after them.
+pub struct Input {
+    pub bytes: usize,
+    pub failed: bool,
 }
 
-// The clause text of a sheet, of up to 262,144 clause words.
-pub fn print_clauses(fd: i32) {
-    let mut input = [0u8; 4097];
-    let n = io::read_full(fd, &mut input);
-    let mut list = [0i32; 262144];
-    let mut text = [0u8; 1835040];
-    let k = clause_text(&input[..n], &mut list, &mut text);
-    io::write_all(1, &text[..k]);
+// One read: the bytes that came, 0 at the end of the input.
+fn read_some(fd: i32, part: &mut [u8]) -> Input
+    ensures { λ r. ⌜ Counts (r .bytes) (now (part .exit)) ⌝ }
+{
+    let got = libc::read(fd, part);
+    let bytes = io::count(got, part);
+    Input {
+        bytes,
+        failed: got < 0,
+    }
+}
+
+// Reads until buf is full, the input ends or a read fails.
+fn fill(fd: i32, buf: &mut [u8]) -> Input
+    ensures { λ r. ⌜ Counts (r .bytes) (now (buf .exit)) ⌝ }
+{
+    let mut done: usize = 0;
+    while done < buf.len() {
+        let some = read_some(fd, &mut buf[done..]);
+        let n = some.bytes;
+        if n == 0 {
+            return Input {
+                bytes: done,
+                failed: some.failed,
+            };
+        }
+        done += n;
+    }
+    Input {
+        bytes: done,
+        failed: false,
+    }
+}
+
+// Reads an input from a descriptor. A failure is said as that of `what`, with the system's reason.
+pub fn read_input(fd: i32, buf: &mut [u8], what: &[u8]) -> Input
+    ensures { λ r. ⌜ Counts (r .bytes) (now (buf .exit)) ⌝ }
+{
+    let input = fill(fd, buf);
+    if input.failed {
+        os::fail(what);
+    }
+    input
+}
+
+// Prints a text on standard output, and answers whether all of it was written.
+pub fn print(text: &[u8], what: &[u8]) -> bool {
+    let is_written = io::write_all(STDOUT_FILENO, text);
+    if !is_written {
+        os::fail(what);
+    }
+    is_written
+}
+
+// Says on standard error how many words a list has, and how many there is room for.
+pub fn say_words(name: &[u8], words: usize, room: usize) {
+    io::write_all(STDERR_FILENO, name);
+    io::write_all(STDERR_FILENO, b": the clauses have ");
+    io::print_decimal(STDERR_FILENO, words as u64);
+    io::write_all(STDERR_FILENO, b" words, and there is room for ");
+    io::print_decimal(STDERR_FILENO, room as u64);
+    io::write_all(STDERR_FILENO, b"\n");
 }

@@ -5,11 +5,15 @@ use std::fmt::Debug;
 
 #[cfg(on = "check")]
 mod check;
+#[cfg(on = "failures")]
+mod commands;
 #[cfg(on = "count")]
 mod count;
 #[cfg(on = "dimacs")]
 mod dimacs;
-#[cfg(on = "programs")]
+#[cfg(on = "failures")]
+mod failures;
+#[cfg(any(on = "programs", on = "failures", on = "stack"))]
 mod programs;
 #[cfg(on = "read")]
 mod read;
@@ -18,6 +22,8 @@ mod search;
 #[cfg(on = "solve")]
 mod solve;
 mod solvers;
+#[cfg(on = "stack")]
+mod stack;
 
 type Suite = fn(&Run) -> Outcome;
 
@@ -39,6 +45,10 @@ pub fn all() -> Vec<(&'static str, Suite)> {
         ("solve", solve::run),
         #[cfg(on = "programs")]
         ("programs", programs::run),
+        #[cfg(on = "failures")]
+        ("failures", failures::run),
+        #[cfg(on = "stack")]
+        ("stack", stack::run),
     ]
 }
 

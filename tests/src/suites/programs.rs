@@ -105,7 +105,7 @@ fn is_long(bytes: &[u8]) -> bool {
 const WORDS: usize = 262_144;
 
 /// What `cnf` prints: the clause text, or the refusal in the finder's form.
-fn clause_text(bytes: &[u8]) -> String {
+pub fn clause_text(bytes: &[u8]) -> String {
     let sheet = if bytes.len() > BYTES { Err(LENGTH) } else { read(bytes) };
     let clauses = sheet.and_then(|sheet| translate(&sheet));
     let few = clauses.and_then(|clauses| if clauses.words().len() > WORDS { Err(SHORT) } else { Ok(clauses) });
@@ -118,12 +118,19 @@ fn clause_text(bytes: &[u8]) -> String {
 /// Runs a program of the library on an input.
 fn program(name: &str, input: &[u8]) -> Result<String, String> {
     let mut command = Command::new(format!("target/bin/{name}"));
-    let mut child =
-        command.stdin(Stdio::piped()).stdout(Stdio::piped()).spawn().map_err(|error| format!("{name}: {error}"))?;
+    let mut child = command
+        .stdin(Stdio::piped())
+        .stdout(Stdio::piped())
+        .stderr(Stdio::null())
+        .spawn()
+        .map_err(|error| format!("{name}: {error}"))?;
     let mut stdin = child.stdin.take().expect("a pipe");
     // a program may stop reading where the input is too long
     let _ = stdin.write_all(input);
     drop(stdin);
     let output = child.wait_with_output().map_err(|error| error.to_string())?;
+    if !output.status.success() {
+        return Err(format!("{name}: {}, sheet {}", output.status, hex(input)));
+    }
     String::from_utf8(output.stdout).map_err(|error| error.to_string())
 }

@@ -1,0 +1,15 @@
+/* The entry of cnf, whose exit status is what the proved function answers. It lends that function the two arrays that
+   are too large for a stack; their sizes are those of the function's types (crates/console_cnf/src/lib.rt). */
+#include <signal.h>
+#include <stdint.h>
+
+int32_t fawnloom_cnf(int32_t list[262144], uint8_t text[1835040]);
+
+static int32_t list[262144];
+static uint8_t text[1835040];
+
+int main(void) {
+    /* a reader that went away is a write that fails, and is told, and not a signal */
+    signal(SIGPIPE, SIG_IGN);
+    return fawnloom_cnf(list, text);
+}

@@ -1,0 +1,11 @@
+/* The entry of the finder, whose exit status is what the proved function answers. */
+#include <signal.h>
+#include <stdint.h>
+
+int32_t fawnloom_finder(void);
+
+int main(void) {
+    /* a reader that went away is a write that fails, and is told, and not a signal */
+    signal(SIGPIPE, SIG_IGN);
+    return fawnloom_finder();
+}

@@ -1,0 +1,139 @@
+//! The deepest sheets through every call and both programs: the answers are the reference's, and no more stack is taken
+//! than docs/ARCHITECTURE.md states.
+
+use super::programs::clause_text;
+use super::{agree, hex};
+use crate::library;
+use crate::painted::depth_of;
+use crate::{Outcome, Run};
+use reference::deep::sheets;
+use reference::finder::finder;
+use reference::sheet::Sheet;
+use std::io::Write;
+use std::process::{Command, Stdio};
+
+/// The stated stacks in KB (docs/ARCHITECTURE.md, "Stack").
+const CALLS: [(&str, usize); 9] = [
+    ("read", 64),
+    ("check", 512),
+    ("count", 1_024),
+    ("write", 1_024),
+    ("read_back", 1_024),
+    ("find", 1_024),
+    ("search", 64),
+    ("text_size", 64),
+    ("text", 64),
+];
+const PROGRAMS: [(&str, usize); 2] = [("finder", 1_024), ("cnf", 1_024)];
+
+/// How deep a call went so far: its place in `CALLS`.
+type Depths = [usize; CALLS.len()];
+
+/// Runs a call on a painted stack, and again in a thread with the stated stack, and holds both answers to the wanted one.
+fn call<T>(depths: &mut Depths, at: usize, work: impl Fn() -> T + Sync, want: T, asked: &str) -> Result<(), String>
+where
+    T: PartialEq + std::fmt::Debug + Send,
+{
+    let (name, stated) = CALLS[at];
+    let mut got = None;
+    let depth = depth_of(&mut || got = Some(work()));
+    depths[at] = depths[at].max(depth);
+    agree(got.as_ref(), Some(&want), || format!("{name}, {asked}"))?;
+    if depth > stated * 1_024 {
+        return Err(format!("{name} took {depth} bytes of stack, {stated} KB are stated; {asked}"));
+    }
+    let again = std::thread::scope(|scope| {
+        let thread = std::thread::Builder::new().stack_size(stated * 1_024);
+        thread.spawn_scoped(scope, &work).expect("a thread").join().expect("its answer")
+    });
+    agree(again, want, || format!("{name} in {stated} KB, {asked}"))
+}
+
+/// The steps that are waited for.
+const BUDGET: u64 = 100;
+
+/// Every call on a sheet.
+fn calls(depths: &mut Depths, sheet: &Sheet, asked: &str) -> Result<(), String> {
+    let bytes = sheet.bytes();
+    call(depths, 0, || library::read(&bytes), reference::sheet::read(&bytes).map(|_| ()), asked)?;
+    let cells = vec![1; sheet.cells()];
+    call(depths, 1, || library::check(&bytes, &cells), reference::meaning::check(&bytes, &cells), asked)?;
+    let counted = reference::clauses::count(&bytes);
+    call(depths, 2, || library::count(&bytes), counted, asked)?;
+    let (v, words) = counted.map_or((0, 0), |size| (size.variables as usize, size.words as usize));
+    let written = |write: &dyn Fn(&mut [i32]) -> Result<_, u32>| {
+        let mut list = vec![0; words];
+        (write(&mut list), list)
+    };
+    let want = written(&|list| reference::clauses::write(&bytes, list));
+    let list = want.1.clone();
+    call(depths, 3, || written(&|list| library::write(&bytes, list)), want, asked)?;
+    let found = |find: Find| {
+        let (mut list, mut values, mut trail, mut instance) = (vec![0; words], vec![0; v], vec![0; v], vec![0; v]);
+        let answer = find(&bytes, &mut list, &mut values, &mut trail, &mut instance, BUDGET);
+        (answer.map(|answer| (answer.end, answer.steps)), values, trail, instance)
+    };
+    call(depths, 5, || found(library::find), found(reference::finder::find), asked)?;
+    if counted.is_err() {
+        return Ok(());
+    }
+    let values = vec![1; v];
+    let copied = |copy: fn(&[u8], &[u8], &mut [u8]) -> Result<usize, u32>| {
+        let mut instance = vec![0; v];
+        (copy(&bytes, &values, &mut instance), instance)
+    };
+    call(depths, 4, || copied(library::read_back), copied(reference::finder::read_back), asked)?;
+    list_calls(depths, &list, v as u32, asked)
+}
+
+type Find = fn(&[u8], &mut [i32], &mut [u8], &mut [i32], &mut [u8], u64) -> Result<reference::search::Answer, u32>;
+
+/// The calls on a clause list.
+fn list_calls(depths: &mut Depths, list: &[i32], v: u32, asked: &str) -> Result<(), String> {
+    let searched = |search: fn(&[i32], u32, &mut [u8], &mut [i32], u64) -> Result<reference::search::Answer, u32>| {
+        let (mut values, mut trail) = (vec![0; v as usize], vec![0; v as usize]);
+        let answer = search(list, v, &mut values, &mut trail, BUDGET);
+        (answer.map(|answer| (answer.end, answer.steps)), values, trail)
+    };
+    call(depths, 6, || searched(library::search), searched(reference::search::search), asked)?;
+    call(depths, 7, || library::text_size(list, v), reference::dimacs::size(list, v), asked)?;
+    let printed = |text: fn(&[i32], u32, &mut [u8]) -> Result<u64, u32>| {
+        let mut bytes = vec![0; 7 * list.len() + 32];
+        (text(list, v, &mut bytes), bytes)
+    };
+    call(depths, 8, || printed(library::text), printed(reference::dimacs::write), asked)
+}
+
+/// What a program prints that is started with the stated stack.
+fn program(name: &str, stated: usize, input: &[u8]) -> Result<String, String> {
+    let script = format!("ulimit -s {stated} && exec target/bin/{name}");
+    let mut command = Command::new("bash");
+    command.args(["-c", &script]).stdin(Stdio::piped()).stdout(Stdio::piped()).stderr(Stdio::null());
+    let mut child = command.spawn().map_err(|error| error.to_string())?;
+    let mut stdin = child.stdin.take().expect("a pipe");
+    let input = input.to_vec();
+    let writer = std::thread::spawn(move || stdin.write_all(&input));
+    let output = child.wait_with_output().map_err(|error| error.to_string())?;
+    let _ = writer.join();
+    if !output.status.success() {
+        return Err(format!("{name} with a stack of {stated} KB: {}", output.status));
+    }
+    String::from_utf8(output.stdout).map_err(|error| error.to_string())
+}
+
+pub fn run(_: &Run) -> Outcome {
+    let mut depths = [0; CALLS.len()];
+    let sheets = sheets();
+    for (name, sheet) in &sheets {
+        let bytes = sheet.bytes();
+        let asked = format!("{name}, sheet {}", hex(&bytes));
+        calls(&mut depths, sheet, &asked)?;
+        for (program_name, stated) in PROGRAMS {
+            let want = if program_name == "finder" { finder(&bytes) } else { clause_text(&bytes) };
+            agree(program(program_name, stated, &bytes)?, want, || format!("{program_name}, {asked}"))?;
+        }
+    }
+    let seen: Vec<String> =
+        CALLS.iter().zip(depths).map(|((name, _), depth)| format!("{name} {}", depth.div_ceil(1_024))).collect();
+    Ok(format!("{} sheets of 200 nodes within the stated stacks; KB taken: {}", sheets.len(), seen.join(", ")))
+}
