@@ -99,7 +99,7 @@ fn comprehension(
     let mut cells = [false; 64];
     let mut k: usize = 0;
     while k < n {
-        let bound = bind(env, x, k);
+        let inner = bind(env, x, k);
         cells[k] = formula(
             sorts,
             variables,
@@ -107,7 +107,7 @@ fn comprehension(
             nodes,
             instance,
             starts,
-            bound,
+            inner,
             body,
         );
         k += 1;

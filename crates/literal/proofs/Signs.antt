@@ -7,7 +7,7 @@ use native.Mathlib.Omega.{arith}
 use lib.Dec.{T}
 use lib.IntN.{ℤ, pos, negsuc, negℤ, natAbs, _-ℤ_, +ℤ-idl}
 use lib.Signed.{ltZ, nonNeg}
-use mir.Syntax.{w32}
+use mir.Syntax.{w32, w64}
 use mir.Val.{SFits, Fits, toZ, ofZ}
 use mir.ValLaws.{toZ-ofZ, toZ-pos}
 use borrow.Author.Tests.{ltb-true}
@@ -56,6 +56,13 @@ abs-fits (pos n) f = record { fits = wide n (f .sfits) }
 abs-fits (negsuc n) f = record { fits = wide n (f .sfits) }
   where
     wide : (n : ℕ) → n < 2147483648 → suc n < 2 ^ 32
+    wide n h = omega arith
+
+-- 32 bits in 64
+pub widened : {n : ℕ} → Fits w32 n → Fits w64 n
+widened {n} f = record { fits = wide n (f .fits) }
+  where
+    wide : (n : ℕ) → n < 2 ^ 32 → n < 2 ^ 64
     wide n h = omega arith
 
 pub above-lowest : (l : ℤ) → SFits w32 l → (ofZ w32 l ≡ 2147483648 → ⊥) → natAbs l < 2147483648

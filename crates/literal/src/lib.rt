@@ -1,8 +1,8 @@
-// 32-bit literals (document 01, "Clauses"): every step that depends on the width and the sign of a word is here.
-// Each function takes every word; the lowest number, which has no opposite, is set aside before any negation.
+// 32-bit literals (document 01, "Clauses"): a word is negated, its sign tested and its width changed here alone.
+// A function that asks nothing takes every word, and sets the lowest number, which has no opposite, aside before any negation.
 ghost use mathlib.Core.Path.{_≡_};
-ghost use Prim.Native.Nat.{min};
-ghost use lib.IntN.{natAbs};
+ghost use Prim.Native.Nat.{min, _-_, _≤_};
+ghost use lib.IntN.{pos, natAbs};
 ghost use Rattle.literal.specs.Literals.{isLiteral, isPositive, oppositeWord, positiveWord, countOf, lastVariable};
 
 const LOWEST: i32 = -2147483648;
@@ -30,6 +30,17 @@ pub fn variable(l: i32) -> u32
     l as u32
 }
 
+// The place of a literal's variable, counted from 0. The word is known to be a literal: nothing is tested.
+pub fn place(l: i32) -> usize
+    requires { ⌜ (1 ≤ natAbs l) × (natAbs l ≤ lastVariable) ⌝ }
+    ensures { λ r. ⌜ r ≡ natAbs l - 1 ⌝ }
+{
+    if l < 0 {
+        return (-l) as u32 as usize - 1;
+    }
+    l as u32 as usize - 1
+}
+
 // Whether a literal says that its variable is true.
 pub fn is_positive(l: i32) -> bool
     ensures { λ r. ⌜ r ≡ isPositive l ⌝ }
@@ -55,6 +66,14 @@ pub fn count(w: i32) -> u32
         return 0;
     }
     w as u32
+}
+
+// The count that a word gives. The word is known to be a count: nothing is tested.
+pub fn known_count(w: i32) -> usize
+    requires { ⌜ w ≡ pos (countOf w) ⌝ }
+    ensures { λ r. ⌜ r ≡ countOf w ⌝ }
+{
+    w as u32 as usize
 }
 
 // Whether a word is a literal of the variables 1 to v. The lowest number is none, so v counts up to 2^31 - 1.

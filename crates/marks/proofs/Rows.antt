@@ -15,8 +15,7 @@ use Rattle.encoding.specs.Whole.{pairClause, rowClauses}
 use Rattle.emission.specs.declared.Tape.{Tape}
 use Rattle.emission.specs.Emission.{Inside, AllInside, literalsOf}
 use Rattle.emission.proofs.Ranges.{literal-at}
-use Rattle.marks.specs.declared.Demand.{Demand}
-use Rattle.marks.specs.Marking.{Members, Adds, pairsWith, demandMost, demandClauses}
+use Rattle.marks.specs.Marking.{Members, Adds, pairsWith}
 use Rattle.marks.proofs.Adding.{adds-none, adds-as, adds-most, adds-then}
 
 -- ---- the pairs with one first member
@@ -122,8 +121,3 @@ pub whole-row : (ws : List ℤ) → 1 ≤ length ws
     → _≡_ {A = List Literal} (literalOf (getD ws 0 (pos 0)) ∷ literalsOf (take (length ws - 1) (drop 1 ws))) (literalsOf ws)
 whole-row [] h = absurd (omega arith)
 whole-row (w ∷ ws) h = ap (λ (l : List ℤ). literalOf w ∷ literalsOf l) (part-is 1 (w ∷ ws))
-
--- a demand by name
-pub demanded : {kind demand : Demand} (row : List Literal) {old new : List ℤ} {a b : Tape} → kind ≡ demand
-    → Adds (demandMost demand) (demandClauses demand row) old a new b → Adds (demandMost kind) (demandClauses kind row) old a new b
-demanded row e p = rw e p

@@ -1,6 +1,6 @@
 -- What the code of the marks takes for granted, and what it adds to the list.
 -- No public contract reaches this file: nothing here needs belief.
-use mathlib.Core.List.{List, [], _∷_, map}
+use mathlib.Core.List.{List, [], map}
 use Prim.Native.Nat.{ℕ, _+_, _≤_, _<_}
 use lib.IntN.{ℤ}
 use lib.ListN.{length}
@@ -10,12 +10,9 @@ use Rattle.cells.specs.Private.{Scopes}
 use Rattle.relational.specs.Cells.{rowCount, rowLength}
 use Rattle.encoding.specs.Gates.{Clause}
 use Rattle.encoding.specs.Translation.{Two}
-use Rattle.relational.specs.Matrices.{pairs}
-use Rattle.encoding.specs.Whole.{series, pairClause, rowClauses, rowLiterals}
+use Rattle.encoding.specs.Whole.{series, rowClauses, rowLiterals}
 use Rattle.emission.specs.declared.Tape.{Tape}
 use Rattle.emission.specs.Emission.{AllInside, literalsOf, Appends}
-use Rattle.marks.specs.declared.Demand.{Demand}
-use Rattle.marks.specs.declared.Demand.the-variants.{AtMostOne, AtLeastOne}
 
 -- clauses and words so far
 pub record Small (most : ℕ) (tape : Tape) : Type 0 where
@@ -48,15 +45,6 @@ pub record Declared (sheet : Sheet) : Type 0 where
 -- the pairs with one first member
 abbrev pub pairsWith : Literal → List Literal → List Two
 pairsWith p qs = map {B = Two} (λ q. (p, q)) qs
-
--- the clauses of each demand, and a limit for their words
-abbrev pub demandMost : Demand → ℕ
-demandMost AtMostOne = 168
-demandMost AtLeastOne = 9
-
-abbrev pub demandClauses : Demand → List Literal → List Clause
-demandClauses AtMostOne row = map pairClause (pairs row)
-demandClauses AtLeastOne row = row ∷ []
 
 -- a row of a relation, and all rows of it
 abbrev pub rowMarks : Sheet → List Literal → ℕ → ℕ → List Clause

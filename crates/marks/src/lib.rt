@@ -1,12 +1,12 @@
 // The clauses of the marks (document 01, "Clauses"): relation by relation, row by row.
-ghost use mathlib.Core.List.{[], _∷_, map};
+ghost use mathlib.Core.List.{map};
 ghost use Prim.Native.Nat.{_<_};
 ghost use Rattle.literal.specs.Literals.{literalOf};
 ghost use Rattle.sheet_rules.specs.Blocks.{relationCount};
 ghost use Rattle.relational.specs.Matrices.{pairs};
 ghost use Rattle.encoding.specs.Whole.{pairClause, rowClauses, markClauses};
 ghost use Rattle.emission.specs.Emission.{Inside, AllInside, literalsOf};
-ghost use Rattle.marks.specs.Marking.{Small, Members, Some, Adds, Declared, blocks, pairsWith, demandMost, demandClauses, relationClauses};
+ghost use Rattle.marks.specs.Marking.{Small, Members, Some, Adds, Declared, blocks, pairsWith, relationClauses};
 use cells::first_cell;
 use cells::row_count;
 use cells::row_length;
@@ -14,12 +14,6 @@ use emission::Tape;
 use emission::list::emit_clause;
 use sheet::bytes::byte;
 use terms::leaves::copied;
-
-// What a mark demands of a row: at most one of its literals, at least one of them.
-pub enum Demand {
-    AtMostOne,
-    AtLeastOne,
-}
 
 // (-p, -q) for each q of the others, in order.
 fn pairs_with(list: &mut [i32], tape: Tape, p: i32, others: &[i32]) -> Tape
@@ -58,30 +52,6 @@ fn row_pairs(list: &mut [i32], tape: Tape, row: &[i32]) -> Tape
     after
 }
 
-// "the whole row"
-fn whole_row(list: &mut [i32], tape: Tape, row: &[i32]) -> Tape
-    requires { ⌜ Small 70000 tape ⌝ }
-    requires { ⌜ Members 8 (now row) ⌝ }
-    requires { ⌜ Some (now row) ⌝ }
-    ensures { λ r. ⌜ Adds 9 (literalsOf (now (row .entry)) ∷ []) (now (list .entry)) tape (now (list .exit)) r ⌝ }
-{
-    let p = row[0];
-    emit_clause(list, tape, p, &row[1..])
-}
-
-fn row_demand(list: &mut [i32], tape: Tape, kind: Demand, row: &[i32]) -> Tape
-    requires { ⌜ Small 70000 tape ⌝ }
-    requires { ⌜ Members 8 (now row) ⌝ }
-    requires { ⌜ Some (now row) ⌝ }
-    ensures { λ r. ⌜ Adds (demandMost kind) (demandClauses kind (literalsOf (now (row .entry))))
-        (now (list .entry)) tape (now (list .exit)) r ⌝ }
-{
-    match kind {
-        Demand::AtMostOne => row_pairs(list, tape, row),
-        Demand::AtLeastOne => whole_row(list, tape, row),
-    }
-}
-
 // "(-p, -q) for each pair in order, then for mark 2 the whole row"
 fn row_marks(list: &mut [i32], tape: Tape, mark: usize, row: &[i32]) -> Tape
     requires { ⌜ Small 60000 tape ⌝ }
@@ -92,11 +62,12 @@ fn row_marks(list: &mut [i32], tape: Tape, mark: usize, row: &[i32]) -> Tape
     if mark == 0 {
         return tape;
     }
+    let after = row_pairs(list, tape, row);
     if mark == 1 {
-        return row_demand(list, tape, Demand::AtMostOne, row);
+        return after;
     }
-    let after = row_demand(list, tape, Demand::AtMostOne, row);
-    row_demand(list, after, Demand::AtLeastOne, row)
+    let p = row[0];
+    emit_clause(list, after, p, &row[1..])
 }
 
 // The rows of relation r.

@@ -3,14 +3,12 @@ use mathlib.Core.Path.{_≡_, refl, sym, _∙_, ap}
 use mathlib.Core.List.{List, [], _∷_, _++_}
 use Prim.Native.Nat.{ℕ, zero, suc, _+_, _-_, _<_, _≤_}
 use native.Mathlib.Omega.{arith}
-use native.Mathlib.Nat.{zero-add}
 use native.Mathlib.Numerals.{add-one}
-use lib.IntN.{ℤ, pos, negsuc, _-ℤ_}
+use lib.IntN.{ℤ, pos, negsuc, negℤ}
 use lib.ListN.{length, getD, take, set, replicate, length-set, length-replicate, getD-replicate}
 use lib.Seq.{getD-set-same, getD-set-other, set-set, set-getD, take-suc-set, take-all}
-use mir.Syntax.{w32}
-use mir.Val.{SFits}
-use Rattle.literal.specs.Literals.{lastVariable}
+use Rattle.literal.specs.Literals.{lastVariable, oppositeWord, positiveWord}
+use Rattle.literal.proofs.Words.{opposite-is, positive-is}
 use Rattle.search_rules.specs.Inner.{InRange, WasOpen}
 use Rattle.search_core.specs.Inner.{Stored, Turned}
 use Rattle.search_rules.specs.Rules.{Entry, propagated, decided, State, wordOf, byteOf, placeOf, valuesOf, trailOf}
@@ -239,15 +237,16 @@ went-none v state values trail n w h = by (w .now-at) (w .stored) (w .alike)
         rw (← e) (turn-nil v values trail s)
     by (x ∷ s) i e = absurd (let l : n ≡ suc (length s) = i .length-is in omega arith)
 
--- the opposite of a decision's word, as the machine has it
-pub opposite : (v : ℕ) (e : Entry) (z : ℤ) → v ≤ lastVariable → InRange v (wordOf e) → byteOf e ≡ 3 → z ≡ wordOf e
-    → SFits w32 (pos 0 -ℤ z) × (pos 0 -ℤ z ≡ pos (suc (placeOf (wordOf e))))
-opposite v e z k r b q =
-    let w : wordOf e ≡ negsuc (placeOf (wordOf e)) = decided-word e (three e b) in
-    by (placeOf (wordOf e)) (q ∙ w) (rw w at (r .1))
-  where
-    by : (i : ℕ) → z ≡ negsuc i → suc i ≤ v → SFits w32 (pos 0 -ℤ z) × (pos 0 -ℤ z ≡ pos (suc i))
-    by i p g = rw p (record { sfits = omega arith }, ap pos (zero-add (suc i)))
+-- the opposite of a decision's word
+pub turned-word : (v : ℕ) (e : Entry) → v ≤ lastVariable → InRange v (wordOf e) → byteOf e ≡ 3
+    → oppositeWord (wordOf e) ≡ pos (suc (placeOf (wordOf e)))
+turned-word v e k r b =
+    let h = r .1 in
+    opposite-is (wordOf e) (omega arith) ∙ ap negℤ (decided-word e (three e b))
+
+-- the word of a decision
+pub denial : (i : ℕ) → i < lastVariable → oppositeWord (positiveWord (i + 1)) ≡ negsuc i
+denial i h = ap oppositeWord (positive-is (i + 1) (omega arith)) ∙ ap (λ n. negℤ (pos n)) (add-one i)
 
 -- a slice filled with one element
 module _ {A : Type 0} (a : A) where

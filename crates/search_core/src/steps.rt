@@ -10,7 +10,6 @@ ghost use Rattle.search_rules.specs.Rules.{State, lowestOpen, propagated, byteO
 ghost use Rattle.search_rules.specs.Inner.{InRange, Fine};
 ghost use Rattle.search_core.specs.Inner.{Stored, SomeStored, Turned, Stepped};
 use search_scan::Seen;
-use search_scan::place;
 use search_scan::scan;
 
 pub enum StepKind {
@@ -51,10 +50,10 @@ pub fn back(values: &mut [u8], trail: &mut [i32], length: usize) -> usize
     while n > 0 {
         let top = n - 1;
         let l = trail[top];
-        let at = place(l);
+        let at = literal::place(l);
         if values[at] == 3 {
             values[at] = 1;
-            trail[top] = -l;
+            trail[top] = literal::opposite(l);
             return n;
         }
         values[at] = 2;
@@ -72,9 +71,9 @@ fn propagate(values: &mut [u8], trail: &mut [i32], length: usize, l: i32)
     ensures { λ r. ⌜ now (values .exit) ≡ set (now (values .entry)) (placeOf l) (byteOf (propagated l)) ⌝ }
     ensures { λ r. ⌜ now (trail .exit) ≡ set (now (trail .entry)) length l ⌝ }
 {
-    let at = place(l);
+    let at = literal::place(l);
     let mut b: u8 = 0;
-    if l > 0 {
+    if literal::is_positive(l) {
         b = 1;
     }
     values[at] = b;
@@ -88,8 +87,9 @@ fn decide(values: &mut [u8], trail: &mut [i32], length: usize, i: usize)
     ensures { λ r. ⌜ now (values .exit) ≡ set (now (values .entry)) i 3 ⌝ }
     ensures { λ r. ⌜ now (trail .exit) ≡ set (now (trail .entry)) length (negsuc i) ⌝ }
 {
+    let l = literal::positive(i as u32 + 1);
     values[i] = 3;
-    trail[length] = -(i as i32 + 1);
+    trail[length] = literal::opposite(l);
 }
 
 // One step of the rules, or their end.

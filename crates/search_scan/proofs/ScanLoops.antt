@@ -7,14 +7,13 @@ use Prim.Native.Nat.{ℕ, zero, suc, _+_, _-_, _<_, _≤_}
 use native.Mathlib.Omega.{arith}
 use native.Mathlib.Nat.{zero-add, suc-add}
 use native.Mathlib.Numerals.{add-one}
-use lib.Dec.{T}
 use lib.IntN.{ℤ, pos, natAbs}
 use lib.ListN.{length, getD, take, drop, length-drop, drop-of-length-le}
 use lib.Seq.{drop-cons, drop-drop, slice, slice-cons, slice-empty, take-nil}
-use lib.Signed.{nonNeg}
-use mir.Syntax.{w32, w64}
-use mir.Val.{SFits, Fits, toZ, ofZ}
-use mir.Facts.{toZ-ofZ, fits-natAbs}
+use mir.Syntax.{w32}
+use mir.Val.{SFits, toZ, ofZ}
+use mir.Facts.{toZ-ofZ}
+use Rattle.literal.specs.Literals.{countOf}
 use Rattle.literal.proofs.Signs.{same-word}
 use Rattle.clause_list.specs.ClauseList.{cut, clausesOf}
 use Rattle.search_rules.specs.Inner.{InRange, AllIn, FineIn, Fine}
@@ -353,12 +352,17 @@ module _ (ws : List ℤ) (vs : List ℕ) (at u n : ℕ) (h : Head ws vs at u n) 
   on-open several q p d = on-several q
   on-open isHeld q p d = on-held q
 
-  pub head-cast : (z : ℤ) → z ≡ getD ws at (pos 0) → SFits w32 z → T (nonNeg z) × Fits w64 (natAbs z)
-  head-cast z e f = (rw (e ∙ h .head) tt, fits-natAbs tt f)
+pub head-at : (ws : List ℤ) (vs : List ℕ) (at u : ℕ) → Outer ws vs at u → at < length ws → (n : ℕ) → n ≡ countOf (getD ws at (pos 0))
+    → Head ws vs at u n
+head-at ws vs at u o b n e =
+    let h = head-of ws vs at u o b in
+    rw (e ∙ ap countOf (h .head)) h
 
-pub head-at : (ws : List ℤ) (vs : List ℕ) (at u : ℕ) → Outer ws vs at u → at < length ws → (z : ℤ) → z ≡ getD ws at (pos 0)
-    → Head ws vs at u (natAbs z)
-head-at ws vs at u o b z e = rw e (head-of ws vs at u o b)
+pub head-counts : (ws : List ℤ) (vs : List ℕ) (at u : ℕ) → Outer ws vs at u → at < length ws
+    → getD ws at (pos 0) ≡ pos (countOf (getD ws at (pos 0)))
+head-counts ws vs at u o b =
+    let e = head-of ws vs at u o b .head in
+    e ∙ ap (λ z. pos (countOf z)) (sym e)
 
 -- the list is done
 pub end-none : (ws : List ℤ) (vs : List ℕ) (at u : ℕ) → Outer ws vs at u → length ws ≤ at → (s : Sight) × (s ≡ seen vs (clausesOf ws)) × Kept s u

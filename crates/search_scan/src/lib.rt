@@ -4,7 +4,7 @@ ghost use Prim.Native.Nat.{_≤_};
 ghost use lib.ListN.{length};
 ghost use Rattle.clause_list.specs.ClauseList.{clausesOf};
 ghost use Rattle.literal.specs.Literals.{lastVariable};
-ghost use Rattle.search_rules.specs.Rules.{placeOf, literal};
+ghost use Rattle.search_rules.specs.Rules.{literal};
 ghost use Rattle.search_rules.specs.Inner.{InRange, Fine};
 ghost use Rattle.search_scan.specs.Seen.{truthCode, seenAs, seen};
 
@@ -15,30 +15,18 @@ pub enum Seen {
     Neither,
 }
 
-// The place of a literal's variable among the values.
-pub fn place(l: i32) -> usize
-    requires { ⌜ InRange lastVariable l ⌝ }
-    ensures { λ r. ⌜ r ≡ placeOf l ⌝ }
-{
-    if l > 0 {
-        l as usize - 1
-    } else {
-        (-l) as usize - 1
-    }
-}
-
 // What the values say of a literal: 0 false, 1 true, 2 open.
 fn truth(values: &[u8], l: i32) -> u8
     requires { ⌜ InRange (length (now values)) l ⌝ }
     requires { ⌜ length (now values) ≤ lastVariable ⌝ }
     ensures { λ r. ⌜ r ≡ truthCode (literal (now (values .entry)) l) ⌝ }
 {
-    let at = place(l);
+    let at = literal::place(l);
     let x = values[at];
     if x == 2 {
         return 2;
     }
-    if l > 0 {
+    if literal::is_positive(l) {
         if x == 1 { 1 } else { 0 }
     } else {
         if x == 1 { 0 } else { 1 }
@@ -55,7 +43,8 @@ pub fn scan(list: &[i32], values: &[u8]) -> Seen
     let mut at: usize = 0;
     let mut unit: i32 = 0;
     'clauses: while at < list.len() {
-        let count = list[at] as usize;
+        let head = list[at];
+        let count = literal::known_count(head);
         let mut i = at + 1;
         at = i + count;
         let mut open: i32 = 0;

@@ -1,17 +1,19 @@
 -- `search_scan::scan` meets its contract. Assumes nothing.
-use mathlib.Core.Path.{_≡_, refl}
+use mathlib.Core.Path.{_≡_, refl, ap, _∙_}
 use mathlib.Core.Logic.{⊎-elim}
 use Prim.Native.Nat.{_-_}
 use native.Mathlib.Omega.{arith}
 use lib.ListN.{length, getD}
-use lib.IntN.{pos, natAbs}
+use lib.IntN.{ℤ, pos}
 use mir.Syntax.{w32}
 use mir.Val.{toZ, ofZ}
 use mir.Facts.{toZ-ofZ}
 use borrow.Author.Needs.{sfits-of, scaled-fits}
+use Rattle.literal.specs.Literals.{countOf}
+use Rattle.literal.proofs.Signs.{read, back}
 use Rattle.search_rules.specs.Rules.{literal}
 use Rattle.search_scan.specs.Seen.{truthCode}
-use Rattle.search_scan.proofs.ScanLoops.{Outer, Inner, Head, start, head-at, head-cast, enter, literal-in, is-true, is-false}
+use Rattle.search_scan.proofs.ScanLoops.{Outer, Inner, Head, start, head-at, head-counts, enter, literal-in, is-true, is-false}
 use Rattle.search_scan.proofs.ScanLoops.{is-open, meets-first, meets-other, meets-same, done, on-held, on-skip, on-open, is-several}
 use Rattle.search_scan.proofs.ScanLoops.{not-conflict, was-none, over-conflict, over-new, end-none, ends-neither, ends-unit}
 use Rattle.search_scan.proofs.ScanLoops.{code-true, code-false, code-open}
@@ -19,10 +21,10 @@ use Rattle.search_scan.proofs.scan.Statement.{statement}
 use Rattle.search_scan.proofs.scan.Tie as tie
 
 abbrev Inv-loop : tie.InvT-loop
-Inv-loop list values at unit count i₀ open₀ i «open» = Inner list values i₀ at i «open» unit
+Inv-loop list values at unit head count i₀ open₀ i «open» = Inner list values i₀ at i «open» unit
 
 abbrev μ-loop : tie.MeasureT-loop
-μ-loop list values at unit count i₀ open₀ i «open» = at - i
+μ-loop list values at unit head count i₀ open₀ i «open» = at - i
 
 abbrev Inv-clauses : tie.InvT-clauses
 Inv-clauses list values at₀ unit₀ at unit = Outer list values at unit
@@ -30,37 +32,43 @@ Inv-clauses list values at₀ unit₀ at unit = Outer list values at unit
 abbrev μ-clauses : tie.MeasureT-clauses
 μ-clauses list values at₀ unit₀ at unit = length list - at
 
-module _ (c : tie.After-count Inv-loop μ-loop Inv-clauses μ-clauses) where
-  word-is : toZ w32 (ofZ w32 (getD (c .before .before .before .before .args .list .now) (c .before .before .clauses .at) (pos 0)))
-      ≡ getD (c .before .before .before .before .args .list .now) (c .before .before .clauses .at) (pos 0)
-  word-is = toZ-ofZ (sfits-of (c .count .given))
+module _ (c : tie.After-head Inv-loop μ-loop Inv-clauses μ-clauses) where
+  abbrev word : ℤ
+  word = getD (c .before .before .before .before .args .list .now) (c .before .before .clauses .at) (pos 0)
 
-  head : Head (c .before .before .before .before .args .list .now) (c .before .before .before .before .args .values .now)
-      (c .before .before .clauses .at) (c .before .before .clauses .unit)
-      (natAbs (toZ w32 (ofZ w32 (getD (c .before .before .before .before .args .list .now) (c .before .before .clauses .at) (pos 0)))))
-  head = head-at _ _ _ _ (c .before .before .clauses .inv) (c .before .clauses-test .taken) _ word-is
+  word-is : read word ≡ word
+  word-is = back word (sfits-of (c .head .given))
+
+module _ (c : tie.After-known-count Inv-loop μ-loop Inv-clauses μ-clauses) where
+  head : Head (c .before .before .before .before .before .args .list .now) (c .before .before .before .before .before .args .values .now)
+      (c .before .before .before .clauses .at) (c .before .before .before .clauses .unit) (c .known-count .result)
+  head = head-at _ _ _ _ (c .before .before .before .clauses .inv) (c .before .before .clauses-test .taken) _
+      (c .known-count .ensures ∙ ap countOf (word-is (c .before)))
 
 module _ (c : tie.After-l Inv-loop μ-loop Inv-clauses μ-clauses) where
-  lit-is : toZ w32 (ofZ w32 (getD (c .before .before .before .before .before .before .before .args .list .now) (c .before .before .loop .i)
-      (pos 0))) ≡ getD (c .before .before .before .before .before .before .before .args .list .now) (c .before .before .loop .i) (pos 0)
+  lit-is : toZ w32 (ofZ w32 (getD (c .before .before .before .before .before .before .before .before .args .list .now)
+      (c .before .before .loop .i) (pos 0)))
+      ≡ getD (c .before .before .before .before .before .before .before .before .args .list .now) (c .before .before .loop .i) (pos 0)
   lit-is = toZ-ofZ (sfits-of (c .l .given))
 
 module _ (c : tie.After-truth Inv-loop μ-loop Inv-clauses μ-clauses) where
-  says : c .truth .result ≡ truthCode (literal (c .before .before .before .before .before .before .before .before .args .values .now)
-      (getD (c .before .before .before .before .before .before .before .before .args .list .now) (c .before .before .before .loop .i) (pos 0)))
+  says : c .truth .result ≡ truthCode (literal (c .before .before .before .before .before .before .before .before .before .args .values .now)
+      (getD (c .before .before .before .before .before .before .before .before .before .args .list .now) (c .before .before .before .loop .i)
+      (pos 0)))
   says = rw (lit-is (c .before)) at (c .truth .ensures)
 
 clauses-holds : tie.Need-clauses-holds Inv-loop μ-loop Inv-clauses μ-clauses
 clauses-holds c = start _ _ (c .before .pre .0)
 
-mul-count : tie.Need-mul-count Inv-loop μ-loop Inv-clauses μ-clauses
-mul-count c = scaled-fits _ _ _ (c .clauses-test .taken) (c .before .before .before .good .0 .1)
+mul-head : tie.Need-mul-head Inv-loop μ-loop Inv-clauses μ-clauses
+mul-head c = scaled-fits _ _ _ (c .clauses-test .taken) (c .before .before .before .good .0 .1)
 
-shared-slice-copy-out-count : tie.Need-shared-slice-copy-out-count Inv-loop μ-loop Inv-clauses μ-clauses
-shared-slice-copy-out-count c = c .clauses-test .taken
+shared-slice-copy-out-head : tie.Need-shared-slice-copy-out-head Inv-loop μ-loop Inv-clauses μ-clauses
+shared-slice-copy-out-head c = c .clauses-test .taken
 
-cast-count : tie.Need-cast-count Inv-loop μ-loop Inv-clauses μ-clauses
-cast-count c = head-cast _ _ _ _ _ (head c) _ (word-is c) (rw (word-is c) (sfits-of (c .count .given)))
+known-count-requires : tie.Need-known-count-requires Inv-loop μ-loop Inv-clauses μ-clauses
+known-count-requires c κs =
+    rw (word-is c) (head-counts _ _ _ _ (c .before .before .clauses .inv) (c .before .clauses-test .taken))
 
 add-i : tie.Need-add-i Inv-loop μ-loop Inv-clauses μ-clauses
 add-i c = omega arith
@@ -72,8 +80,9 @@ loop-holds : tie.Need-loop-holds Inv-loop μ-loop Inv-clauses μ-clauses
 loop-holds c = enter _ _ _ _ _ (head c)
 
 mul-l : tie.Need-mul-l Inv-loop μ-loop Inv-clauses μ-clauses
-mul-l c = scaled-fits _ (length (c .before .before .before .before .before .before .args .list .now)) _
-    (omega (arith, head (c .before .before) .within)) (c .before .before .before .before .before .before .good .0 .1)
+mul-l c =
+    let s = c .before .before .before .before .before .before .before in
+    scaled-fits _ (length (s .args .list .now)) _ (omega (arith, head (c .before .before) .within)) (s .good .0 .1)
 
 shared-slice-copy-out-l : tie.Need-shared-slice-copy-out-l Inv-loop μ-loop Inv-clauses μ-clauses
 shared-slice-copy-out-l c = omega (arith, head (c .before .before) .within)
@@ -82,7 +91,7 @@ truth-requires : tie.Need-truth-requires Inv-loop μ-loop Inv-clauses μ-clauses
 truth-requires c κs = (
   rw (lit-is c) (literal-in _ _ _ _ _ (head (c .before .before .before) .within) (c .before .loop-test .taken) _ _
       (c .before .before .loop .inv)),
-  c .before .before .before .before .before .before .before .pre .1,
+  c .before .before .before .before .before .before .before .before .pre .1,
 )
 
 clauses-less : tie.Need-clauses-less Inv-loop μ-loop Inv-clauses μ-clauses
@@ -162,6 +171,6 @@ pub scan-spec : {M : Type 1} → statement M
 scan-spec =
     tie.close
     (tie.spec Inv-loop μ-loop Inv-clauses μ-clauses
-    clauses-holds mul-count shared-slice-copy-out-count cast-count add-i add-at loop-holds mul-l shared-slice-copy-out-l
+    clauses-holds mul-head shared-slice-copy-out-head known-count-requires add-i add-at loop-holds mul-l shared-slice-copy-out-l
     truth-requires clauses-less clauses-again clauses-less-2 clauses-again-2 clauses-less-3 clauses-again-3 add-i-2 loop-less
     loop-again returns clauses-less-4 clauses-again-4 returns-2 returns-3)

@@ -8,10 +8,12 @@ use lib.ListN.{getD, length-set}
 use mir.Syntax.{w32, w64}
 use mir.Val.{Fits, toZ, ofZ}
 use mir.Facts.{toZ-ofZ}
-use borrow.Author.Needs.{sfits-of, scaled-fits}
+use borrow.Author.Needs.{needs, sfits-of, scaled-fits}
+use Rattle.literal.specs.Literals.{oppositeWord}
+use Rattle.search_scan.proofs.Words.{place-of}
 use Rattle.search_core.specs.Inner.{Stored, SomeStored}
 use Rattle.search_rules.specs.Rules.{State, wordOf, byteOf, placeOf}
-use Rattle.search_core.proofs.Slices.{Went, Top, top-of, off-top, turn-top, turn-on, opposite, went-none, size-values, size-trail}
+use Rattle.search_core.proofs.Slices.{Went, Top, top-of, off-top, turn-top, turn-on, turned-word, went-none, size-values, size-trail}
 use Rattle.search_core.proofs.steps.back.Statement.{statement}
 use Rattle.search_core.proofs.steps.back.Tie as tie
 
@@ -85,7 +87,7 @@ place-requires c κs =
 
 module _ (c : tie.After-place Inv-loop μ-loop) where
   at-is : (state : State) (i : Held (s (c .before .before)) state) → c .place .result ≡ placeOf (wordOf (topped (c .before .before) state i .e))
-  at-is state i = c .place .ensures ∙ ap placeOf (word-is (c .before) ∙ topped (c .before .before) state i .the-word)
+  at-is state i = c .place .ensures ∙ place-of _ ∙ ap placeOf (word-is (c .before) ∙ topped (c .before .before) state i .the-word)
 
   in-values : c .place .result < lib.ListN.length (c .before .before .before .loop .values)
   in-values =
@@ -103,32 +105,31 @@ is-three : (c : tie.Then1 Inv-loop μ-loop) (state : State) (i : Held (s (c .bef
 is-three c state i =
     sym (topped (c .before .before .before .before) state i .the-byte) ∙ (rw (at-is (c .before .before) state i) at (c .if1 .taken))
 
-sub-trail : tie.Need-sub-trail Inv-loop μ-loop
-sub-trail c =
-    let h = held (s (c .before .before .before .before)) in
-    let t = topped (c .before .before .before .before) (h .state) (h .stored) in
-    opposite _ (t .e) _ (s (c .before .before .before .before) .pre .0) (t .range) (is-three c (h .state) (h .stored))
-    (word-is (c .before .before .before) ∙ t .the-word) .0
+opposite-requires : tie.Need-opposite-requires Inv-loop μ-loop
+opposite-requires c κs = search needs
 
 mul-t16 : tie.Need-mul-t16 Inv-loop μ-loop
-mul-t16 c = scaled (c .before .before .before .before)
+mul-t16 c = scaled (c .before .before .before .before .before)
 
 slice-set-from-trail : tie.Need-slice-set-from-trail Inv-loop μ-loop
-slice-set-from-trail c = slice-copy-out-l (c .before .before .before .before)
+slice-set-from-trail c = slice-copy-out-l (c .before .before .before .before .before)
 
 same-length : tie.Need-same-length Inv-loop μ-loop
-same-length c = simp length-set (wide (c .before .before .before .before))
+same-length c = simp length-set (wide (c .before .before .before .before .before))
 
 same-length-2 : tie.Need-same-length-2 Inv-loop μ-loop
-same-length-2 c = let q = c .before .before .before .before in simp length-set (deep q ∙ sym (long (s q)))
+same-length-2 c = let q = c .before .before .before .before .before in simp length-set (deep q ∙ sym (long (s q)))
 
 returns : tie.Need-returns Inv-loop μ-loop
 returns c state i =
-    let q = c .before .before .before .before in
+    let q = c .before .before .before .before .before in
     let t = topped q state i in
-    let b = is-three c state i in
-    let o = opposite _ (t .e) _ (s q .pre .0) (t .range) b (word-is (c .before .before .before) ∙ t .the-word) in
-    rw (← went q state i .alike, at-is (c .before .before) state i) (turn-top _ _ _ _ _ t _ b (toZ-ofZ (o .0) ∙ o .1))
+    let b = is-three (c .before) state i in
+    let o : c .opposite .result ≡ oppositeWord (wordOf (t .e)) =
+    c .opposite .ensures ∙ ap oppositeWord (word-is (c .before .before .before .before) ∙ t .the-word)
+    in
+    rw (← went q state i .alike, at-is (c .before .before .before) state i)
+    (turn-top _ _ _ _ _ t _ b (toZ-ofZ (record { sfits = c .opposite .ok }) ∙ o ∙ turned-word _ (t .e) (s q .pre .0) (t .range) b))
 
 slice-write-values-2 : tie.Need-slice-write-values-2 Inv-loop μ-loop
 slice-write-values-2 c = in-values (c .before .before)
@@ -171,5 +172,5 @@ pub back-spec : {M : Type 1} → statement M
 back-spec =
     tie.close
     (tie.spec Inv-loop μ-loop loop-holds sub-top mul-l slice-copy-out-l place-requires slice-read-if1 slice-write-values
-    sub-trail mul-t16 slice-set-from-trail same-length same-length-2 returns slice-write-values-2 mul-trail
+    opposite-requires mul-t16 slice-set-from-trail same-length same-length-2 returns slice-write-values-2 mul-trail
     slice-set-of-trail loop-less loop-again same-length-3 same-length-4 returns-2)
