@@ -3,7 +3,7 @@
 #include <signal.h>
 #include <stdint.h>
 
-int32_t fawnloom_cnf(int32_t list[262144], uint8_t text[1835040]);
+uint32_t fawnloom_cnf(int32_t list[262144], uint8_t text[1835040]);
 
 static int32_t list[262144];
 static uint8_t text[1835040];
@@ -11,5 +11,5 @@ static uint8_t text[1835040];
 int main(void) {
     /* a reader that went away is a write that fails, and is told, and not a signal */
     signal(SIGPIPE, SIG_IGN);
-    return fawnloom_cnf(list, text);
+    return (int)fawnloom_cnf(list, text);
 }

@@ -2,10 +2,10 @@
 #include <signal.h>
 #include <stdint.h>
 
-int32_t fawnloom_finder(void);
+uint32_t fawnloom_finder(void);
 
 int main(void) {
     /* a reader that went away is a write that fails, and is told, and not a signal */
     signal(SIGPIPE, SIG_IGN);
-    return fawnloom_finder();
+    return (int)fawnloom_finder();
 }

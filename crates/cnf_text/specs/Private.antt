@@ -1,4 +1,5 @@
--- Cited by the contract of a private function only: nothing here needs belief.
+-- What the function that writes the clause text promises of it.
+-- No public contract reaches this file: nothing here needs belief.
 use mathlib.Core.List.{List}
 use Prim.Native.Nat.{ℕ, _≤_}
 use lib.ListN.{length}

@@ -1,23 +1,10 @@
 // The program `cnf`: a sheet is read from a descriptor, and its clause text is printed on standard output.
+ghost use Prim.Native.Nat.{_≤_};
 ghost use Rattle.io.specs.Counts.{Counts};
-use clauses::answer::Count;
 use cnf_text::clause_text;
 
 // The clause words of `cnf`.
 const WORDS: usize = 262144;
-
-// Says why a refused input was too large, where it was a list of more words than there are.
-fn say_short(input: &[u8]) {
-    if input.len() > 4096 {
-        return;
-    }
-    let counted = clauses::count(input);
-    if let Count::Fits(size) = counted {
-        if size.words > WORDS {
-            console::say_words(b"cnf", size.words, WORDS);
-        }
-    }
-}
 
 // Prints the first n bytes of a text.
 fn print_text(text: &[u8], n: usize) -> bool
@@ -34,7 +21,7 @@ fn answer(input: &[u8], list: &mut [i32; 262144], text: &mut [u8; 1835040]) -> b
     }
     // `refused`, and no clause text, starts with an r
     if text[0] == b'r' {
-        say_short(input);
+        console::say_short(b"cnf", input, WORDS);
     }
     true
 }
@@ -53,6 +40,8 @@ pub fn print_clauses(fd: i32, list: &mut [i32; 262144], text: &mut [u8; 1835040]
 
 // The program's exit status: 0, or 1 where reading or printing failed. The caller lends what is too large for a stack.
 #[no_mangle]
-pub extern "C" fn fawnloom_cnf(list: &mut [i32; 262144], text: &mut [u8; 1835040]) -> i32 {
+pub extern "C" fn fawnloom_cnf(list: &mut [i32; 262144], text: &mut [u8; 1835040]) -> u32
+    ensures { λ r. ⌜ r ≤ 1 ⌝ }
+{
     if print_clauses(0, list, text) { 0 } else { 1 }
 }

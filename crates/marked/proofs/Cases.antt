@@ -1,6 +1,5 @@
 -- K1 to K10 of document 01: the definitions give every row of the joint table, by computation.
-use mathlib.Core.Path.{_≡_, refl}
-use mathlib.Core.List.{map}
+use mathlib.Core.Path.{refl}
 use Rattle.prelude.specs.Tests.{each, all, any}
 use Rattle.text.specs.Texts.{digits, decimal}
 use Rattle.clause_list.specs.ClauseList.{cut, wordsOf, wellCut, isList}
@@ -29,10 +28,9 @@ use Rattle.solve_rules.specs.Answers.{readBackAnswer, instanceAfter}
 use Rattle.solve_rules.specs.Finding.{finding}
 use Rattle.report.specs.Printed.{relationLines, findingText, slicesAfter}
 use Rattle.cnf_text.specs.Printed.{clauseText, listLeft}
-use Rattle.marked.specs.Table.{Row, table}
-use Rattle.marked.specs.Shown.{shown, inFull}
+use Rattle.marked.specs.Shown.{Marked}
 
-pub cases : map shown table ≡ map (λ (row : Row). inFull (row .stated)) table
+pub cases : Marked
 unfolding rowOf each all any digits decimal tables.table shapeStep freeStep visitsStep
     counted scoped declared nodesFine shaped rooted walkable reading symbolOf treeStep firstCell withinScopes rounds
     valueOf evaluation.truthOf marksHold holds heldAnswer checkAnswer builder.each or inputClauses gatesClauses afterRounds translate

@@ -1,4 +1,5 @@
--- Cited by contracts of private functions only: nothing here needs belief.
+-- Lines of relations, as the code puts them.
+-- No public contract reaches this file: nothing here needs belief.
 use mathlib.Core.Path.{_≡_}
 use mathlib.Core.List.{List, [], _∷_, _++_}
 use Prim.Native.Nat.{ℕ, _+_, _*_, _≤_}

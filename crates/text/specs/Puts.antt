@@ -1,4 +1,5 @@
--- Room for a piece of text, and a piece that was put. Cited by contracts that only this project's crates call: nothing here needs belief.
+-- Room for a piece of text, and a piece that was put.
+-- No public contract reaches this file: nothing here needs belief.
 use mathlib.Core.Path.{_≡_}
 use mathlib.Core.List.{List}
 use Prim.Native.Nat.{ℕ, _+_, _≤_}
