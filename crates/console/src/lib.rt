@@ -1,6 +1,7 @@
 // Reading and printing for the programs. A read or a write that fails is told on standard error, and never passes for the end of
 // the input or for a text that was printed.
 ghost use Rattle.io.specs.Counts.{Counts};
+use clauses::answer::Count;
 use libc::STDERR_FILENO;
 use libc::STDOUT_FILENO;
 
@@ -65,11 +66,24 @@ pub fn print(text: &[u8], what: &[u8]) -> bool {
 }
 
 // Says on standard error how many words a list has, and how many there is room for.
-pub fn say_words(name: &[u8], words: usize, room: usize) {
+fn say_words(name: &[u8], words: usize, room: usize) {
     io::write_all(STDERR_FILENO, name);
     io::write_all(STDERR_FILENO, b": the clauses have ");
     io::print_decimal(STDERR_FILENO, words as u64);
     io::write_all(STDERR_FILENO, b" words, and there is room for ");
     io::print_decimal(STDERR_FILENO, room as u64);
     io::write_all(STDERR_FILENO, b"\n");
+}
+
+// Says of a refused input whether its list has more words than the program has room for. An input of over 4,096 bytes has none.
+pub fn say_short(name: &[u8], input: &[u8], room: usize) {
+    if input.len() > 4096 {
+        return;
+    }
+    let counted = clauses::count(input);
+    if let Count::Fits(size) = counted {
+        if size.words > room {
+            say_words(name, size.words, room);
+        }
+    }
 }

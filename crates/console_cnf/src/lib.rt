@@ -1,23 +1,11 @@
 // The program `cnf`: a sheet is read from a descriptor, and its clause text is printed on standard output.
 ghost use Rattle.io.specs.Counts.{Counts};
-use clauses::answer::Count;
 use report::clause_text::clause_text;
 
-// The clause words of `cnf`.
+// The clause words of `cnf`, and the bytes of their text.
 const WORDS: usize = 262144;
 
-// Says why a refused input was too large, where it was a list of more words than there are.
-fn say_short(input: &[u8]) {
-    if input.len() > 4096 {
-        return;
-    }
-    let counted = clauses::count(input);
-    if let Count::Fits(size) = counted {
-        if size.words > WORDS {
-            console::say_words(b"cnf", size.words, WORDS);
-        }
-    }
-}
+const BYTES: usize = 1835040;
 
 // Prints the first n bytes of a text.
 fn print_text(text: &[u8], n: usize) -> bool
@@ -27,21 +15,21 @@ fn print_text(text: &[u8], n: usize) -> bool
 }
 
 // Prints the clause text of an input.
-fn answer(input: &[u8], list: &mut [i32; 262144], text: &mut [u8; 1835040]) -> bool {
+fn answer(input: &[u8], list: &mut [i32; WORDS], text: &mut [u8; BYTES]) -> bool {
     let k = clause_text(input, list, text);
     if !print_text(text, k) {
         return false;
     }
     // `refused`, and no clause text, starts with an r
     if text[0] == b'r' {
-        say_short(input);
+        console::say_short(b"cnf", input, WORDS);
     }
     true
 }
 
 // Reads an input, prints its clause text, and answers whether both went well. One byte more than the longest input is read, so that
 // a longer one is seen.
-pub fn print_clauses(fd: i32, list: &mut [i32; 262144], text: &mut [u8; 1835040]) -> bool {
+pub fn print_clauses(fd: i32, list: &mut [i32; WORDS], text: &mut [u8; BYTES]) -> bool {
     let mut input = [0u8; 4097];
     let read = console::read_input(fd, &mut input, b"cnf: reading standard input");
     if read.failed {
@@ -53,6 +41,6 @@ pub fn print_clauses(fd: i32, list: &mut [i32; 262144], text: &mut [u8; 1835040]
 
 // The program's exit status: 0, or 1 where reading or printing failed. The caller lends what is too large for a stack.
 #[no_mangle]
-pub extern "C" fn fawnloom_cnf(list: &mut [i32; 262144], text: &mut [u8; 1835040]) -> i32 {
+pub extern "C" fn fawnloom_cnf(list: &mut [i32; WORDS], text: &mut [u8; BYTES]) -> i32 {
     if print_clauses(0, list, text) { 0 } else { 1 }
 }

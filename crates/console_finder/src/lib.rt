@@ -1,22 +1,8 @@
 // The finder program: a sheet is read from a descriptor, and what `report` makes of it is printed on standard output.
-use clauses::answer::Count;
 use report::finder::find_text;
 
 // The clause words of the finder.
 const WORDS: usize = 16384;
-
-// Says why a refused input was too large, where it was a list of more words than there are.
-fn say_short(input: &[u8]) {
-    if input.len() > 4096 {
-        return;
-    }
-    let counted = clauses::count(input);
-    if let Count::Fits(size) = counted {
-        if size.words > WORDS {
-            console::say_words(b"finder", size.words, WORDS);
-        }
-    }
-}
 
 // Prints the answer to an input, with room for all variables and cells that there can be.
 fn answer(input: &[u8]) -> bool {
@@ -38,7 +24,7 @@ fn answer(input: &[u8]) -> bool {
     }
     // `refused` is the only answer that starts with an r
     if text[0] == b'r' {
-        say_short(input);
+        console::say_short(b"finder", input, WORDS);
     }
     true
 }
