@@ -75,7 +75,7 @@ fn say_words(name: &[u8], words: usize, room: usize) {
     io::write_all(STDERR_FILENO, b"\n");
 }
 
-// Says of a refused input why it was too large, where its list has more words than there is room for.
+// Says of a refused input whether its list has more words than the program has room for. An input of over 4,096 bytes has none.
 pub fn say_short(name: &[u8], input: &[u8], room: usize) {
     if input.len() > 4096 {
         return;

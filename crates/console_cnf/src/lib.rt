@@ -3,8 +3,10 @@ ghost use Prim.Native.Nat.{_≤_};
 ghost use Rattle.io.specs.Counts.{Counts};
 use cnf_text::clause_text;
 
-// The clause words of `cnf`.
+// The clause words of `cnf`, and the bytes of their text.
 const WORDS: usize = 262144;
+
+const BYTES: usize = 1835040;
 
 // Prints the first n bytes of a text.
 fn print_text(text: &[u8], n: usize) -> bool
@@ -14,7 +16,7 @@ fn print_text(text: &[u8], n: usize) -> bool
 }
 
 // Prints the clause text of an input.
-fn answer(input: &[u8], list: &mut [i32; 262144], text: &mut [u8; 1835040]) -> bool {
+fn answer(input: &[u8], list: &mut [i32; WORDS], text: &mut [u8; BYTES]) -> bool {
     let k = clause_text(input, list, text);
     if !print_text(text, k) {
         return false;
@@ -28,7 +30,7 @@ fn answer(input: &[u8], list: &mut [i32; 262144], text: &mut [u8; 1835040]) -> b
 
 // Reads an input, prints its clause text, and answers whether both went well. One byte more than the longest input is read, so that
 // a longer one is seen.
-pub fn print_clauses(fd: i32, list: &mut [i32; 262144], text: &mut [u8; 1835040]) -> bool {
+pub fn print_clauses(fd: i32, list: &mut [i32; WORDS], text: &mut [u8; BYTES]) -> bool {
     let mut input = [0u8; 4097];
     let read = console::read_input(fd, &mut input, b"cnf: reading standard input");
     if read.failed {
@@ -40,7 +42,7 @@ pub fn print_clauses(fd: i32, list: &mut [i32; 262144], text: &mut [u8; 1835040]
 
 // The program's exit status: 0, or 1 where reading or printing failed. The caller lends what is too large for a stack.
 #[no_mangle]
-pub extern "C" fn fawnloom_cnf(list: &mut [i32; 262144], text: &mut [u8; 1835040]) -> u32
+pub extern "C" fn fawnloom_cnf(list: &mut [i32; WORDS], text: &mut [u8; BYTES]) -> u32
     ensures { λ r. ⌜ r ≤ 1 ⌝ }
 {
     if print_clauses(0, list, text) { 0 } else { 1 }
