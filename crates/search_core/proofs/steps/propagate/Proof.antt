@@ -42,7 +42,10 @@ byte-is c =
     let e = toZ-ofZ (s .fits .l) in
     let r = s .pre .1 .0 in
     let q = sym (c .before .is-positive .ensures) in
-    ⊎-elim (λ w. w .1 ∙ sym (byte-above _ _ _ e r (q ∙ w .0 .taken))) (λ w. w .1 ∙ sym (byte-below _ _ _ e r (q ∙ w .0 .left))) (c .if1 .came)
+    ⊎-elim
+    (λ w. w .1 ∙ sym (byte-above _ _ _ e r (q ∙ w .0 .taken)))
+    (λ w. w .1 ∙ sym (byte-below _ _ _ e r (q ∙ w .0 .left)))
+    (c .if1 .came)
 
 returns : tie.Need-returns
 returns c = (rw (at-is (c .before .before), byte-is c), rw (toZ-ofZ (c .before .before .before .before .fits .l)))
