@@ -39,4 +39,4 @@ unfolding rowOf each all any digits decimal tables.table shapeStep freeStep visi
     truthOf negated literal isFalsified isSatisfied conflict openOf sameLiteral only unitOf firstUnit lowestOpen
     wordOf byteOf placeOf valuesOf trailOf turn decide next total count run answerAt valuesAt trailAt outcome
     readBackAnswer instanceAfter finding relationLines findingText slicesAfter clauseText listLeft
-cases = refl
+cases = (refl, (refl, (refl, (refl, (refl, (refl, (refl, (refl, (refl, (refl, (refl, tt)))))))))))

@@ -1,6 +1,6 @@
 -- What is shown of a row of the table: what each public call and both programs answer, and what they leave in every slice that is lent.
 use mathlib.Core.Path.{_≡_}
-use mathlib.Core.List.{List, [], _++_, map}
+use mathlib.Core.List.{List, [], _∷_, _++_}
 use Prim.Native.Nat.{ℕ, _+_, _*_}
 use lib.IntN.{ℤ, pos}
 use lib.ListN.{length, take, drop, replicate}
@@ -147,6 +147,11 @@ inFull (table.refusing n prints) =
     (lent .list)
     finderLent
 
+-- every row shows what it states
+abbrev pub Each : List Row → Type 0
+Each [] = Unit {0}
+Each (row ∷ rows) = (shown row ≡ inFull (row .stated)) × Each rows
+
 -- "These ten are shown in a joint table with one theorem over all its rows."
 abbrev pub Marked : Type 0
-Marked = map shown table.table ≡ map (λ (row : Row). inFull (row .stated)) table.table
+Marked = Each table.table
