@@ -12,4 +12,5 @@ pub mod Bytes
 pub mod Match
 pub mod Accepted
 pub mod Listed
+pub mod Series
 pub mod Theorems

@@ -6,9 +6,9 @@ use Rattle.literal.specs.Literals.{Literal}
 use Rattle.sheet_rules.specs.Blocks.{Sheet, multiplicity}
 use Rattle.relational.specs.Cells.{rowCount, rowLength, cellsOf, firstCell}
 use Rattle.relational.specs.Matrices.{from}
-use Rattle.encoding.specs.Gates.{Clause}
 use Rattle.encoding.specs.Translation.{literalAt}
-use Rattle.encoding.specs.Whole.{series, rowClauses, markClauses}
+use Rattle.encoding.specs.Whole.{rowClauses, markClauses}
+use Rattle.encoding.proofs.Series.{same-series}
 use Rattle.marks.specs.Marking.{blocks, relationClauses}
 
 module _ (sheet : Sheet) where
@@ -20,17 +20,12 @@ module _ (sheet : Sheet) where
   same-cells zero = refl
   same-cells (suc r) = ap (λ (n : ℕ). n + cellsOf sheet r) (same-cells r)
 
-  series-same : (n : ℕ) (f g : ℕ → List Clause) → ((r : ℕ) → f r ≡ g r) → series n f ≡ series n g
-  unfolding series
-  series-same zero f g h = refl
-  series-same (suc n) f g h = rw (series-same n f g h, h n)
-
   same-relation : (cells : List Literal) (r : ℕ) → relationClauses only cells r ≡ relationClauses sheet cells r
   same-relation cells r =
-      series-same (rowCount sheet r) _ _
-      λ i. ap (λ (first : ℕ). rowClauses (multiplicity sheet r)
+      same-series (rowCount sheet r) _ _
+      λ i h. ap (λ (first : ℕ). rowClauses (multiplicity sheet r)
       (map (literalAt sheet cells) (from (first + (i * rowLength sheet r + 0)) (rowLength sheet r)))) (same-cells r)
 
   pub same-marks : (cells : List Literal) → markClauses only cells ≡ markClauses sheet cells
   unfolding markClauses
-  same-marks cells = series-same _ _ _ (same-relation cells)
+  same-marks cells = same-series _ _ _ λ r h. same-relation cells r

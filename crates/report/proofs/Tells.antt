@@ -14,8 +14,8 @@ use Rattle.prelude.proofs.Laws.{and-left, decided}
 use Rattle.text.specs.Texts.{bytesOf, decimal, endLine, Prints}
 use Rattle.sheet_rules.specs.Blocks.{Sheet, sheetOf, byte, relationCount}
 use Rattle.relational.specs.Cells.{rowCount, rowLength, cellsOf, firstCell, cellCount, cell, withinScopes}
-use Rattle.encoding.specs.Whole.{series}
 use Rattle.encoding.specs.Matching.{Solution}
+use Rattle.encoding.proofs.Series.{same-series}
 use Rattle.search.specs.Answers.{Answer, found, none, spent, refused}
 use Rattle.solve_rules.specs.Finding.{Slices}
 use Rattle.solve_rules.specs.Finds.{Holds, Finds}
@@ -23,12 +23,6 @@ use Rattle.solve_rules.proofs.Finds.{finds}
 use Rattle.report.specs.Printed.{cellDigit, rowDigits, relationLine, relationLines, report, findingOf, findingText}
 use Rattle.report.specs.Tells.{ShowsSolution, Tells}
 use Rattle.report.proofs.Texts.{long-text, short-text}
-
--- a series by its members
-same-series : (n : ℕ) (f g : ℕ → List ℕ) → ((i : ℕ) → i < n → f i ≡ g i) → series n f ≡ series n g
-unfolding series
-same-series zero f g e = refl
-same-series (suc n) f g e = λ k. same-series n f g (λ i h. e i (omega arith)) k ++ e n (omega arith) k
 
 -- the cells of a relation stand before those of the next
 first-up : (sheet : Sheet) (r n : ℕ) → r < n → firstCell sheet r + cellsOf sheet r ≤ firstCell sheet n

@@ -15,10 +15,13 @@ use Rattle.kinds.specs.Kinds.{rowOf, isKnown}
 use Rattle.sheet_rules.specs.declared.Layout.{Layout}
 use Rattle.shapes.specs.declared.Shape.{Shape}
 use Rattle.shapes.specs.declared.Shape.the-variants.{Ill, Formula, SetOf, RelationOf}
-use Rattle.sheet_rules.specs.Blocks.{Sheet, byte, sheetOf, sortCount, scope, variableCount, sortOf, relationCount, columns, multiplicity, firstSort, secondSort, nodeCount, kind, fieldA, fieldB, root}
+use Rattle.sheet_rules.specs.Blocks.{Sheet, byte, sheetOf, sortCount, scope, variableCount, sortOf, relationCount}
+use Rattle.sheet_rules.specs.Blocks.{columns, multiplicity, firstSort, secondSort, nodeCount, kind, fieldA, fieldB, root}
 use Rattle.shapes.specs.Shapes.{isShaped, isFormula}
 use Rattle.sheet_rules.specs.Tables.{shapes, free, visits}
-use Rattle.sheet_rules.specs.Reading.{versioned, filled, whole, counted, scoped, isSort, relationDeclared, declared, fieldFine, nodeFine, nodesFine, shaped, rooted, walkable, layoutOf, Answer, accepted, refused, unless, walkJudged, nodeJudged, declarationJudged, scopeJudged, countJudged, wholeJudged, reading}
+use Rattle.sheet_rules.specs.Reading.{versioned, filled, whole, counted, scoped, isSort, relationDeclared, declared, fieldFine}
+use Rattle.sheet_rules.specs.Reading.{nodeFine, nodesFine, shaped, rooted, walkable, layoutOf, Answer, accepted, refused, unless}
+use Rattle.sheet_rules.specs.Reading.{walkJudged, nodeJudged, declarationJudged, scopeJudged, countJudged, wholeJudged, reading}
 use Rattle.sheet_rules.specs.Facts.{Counts, Facts}
 use Rattle.sheet_rules.proofs.Counts.{counts}
 
