@@ -12,7 +12,7 @@ use Rattle.sheet_rules.specs.declared.Layout.{Layout}
 use Rattle.sheet_rules.specs.Blocks.{Sheet, sheetOf}
 use Rattle.sheet_rules.specs.Reading as sheets
 use Rattle.sheet_rules.specs.Reading.{reading}
-use Rattle.encoding.specs.Whole.{words, variableTotal, clauseTotal, wordTotal}
+use Rattle.clauses_rules.specs.Whole.{words, variableTotal, clauseTotal, wordTotal}
 use Rattle.clauses.specs.Answers.{Answer, fits, refused, countAfter, countAnswer, writeAfter, writeAnswer, listBy, listAfter}
 
 isFits : Answer → Bool

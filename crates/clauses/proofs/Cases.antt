@@ -12,11 +12,11 @@ use Rattle.sheet_rules.specs.Reading.{counted, scoped, declared, nodesFine, sha
 use Rattle.relational.specs.Trees.{symbolOf, treeStep, closure}
 use Rattle.relational.specs.Cells.{firstCell}
 use Rattle.relational.specs.Matrices.{Matrix, rounds}
-use Rattle.encoding.specs.Builder as b
-use Rattle.encoding.specs.Builder.{return}
-use Rattle.encoding.specs.Gates.{or, inputClauses, gatesClauses}
-use Rattle.encoding.specs.Translation.{afterRounds, translate, translateUnary}
-use Rattle.encoding.specs.Whole.{series, markClauses, rootWalk, clauses, words, variableTotal}
+use Rattle.clauses_rules.specs.Builder as b
+use Rattle.clauses_rules.specs.Builder.{return}
+use Rattle.clauses_rules.specs.Gates.{or, inputClauses, gatesClauses}
+use Rattle.clauses_rules.specs.Translation.{afterRounds, translate, translateUnary}
+use Rattle.clauses_rules.specs.Whole.{series, markClauses, rootWalk, clauses, words, variableTotal}
 use Rattle.clauses.specs.Answers.{fits, countAnswer}
 
 -- K6: "closure at scope 1: the matrix itself"

@@ -12,9 +12,9 @@ use Rattle.literal.specs.Literals.{Literal, positive, literalOf, positiveWord}
 use Rattle.literal.proofs.Words.{positive-is}
 use Rattle.relational.specs.Matrices.{upto}
 use Rattle.relational.proofs.Places.{map-append, upto-suc, upto-at, length-map-from}
-use Rattle.encoding.specs.Translation.{absent}
-use Rattle.emission.specs.Emission.{Inside, AllInside, literalsOf}
-use Rattle.emission.proofs.Ranges.{inside-absent}
+use Rattle.clauses_rules.specs.Translation.{absent}
+use Rattle.clauses_emission.specs.Emission.{Inside, AllInside, literalsOf}
+use Rattle.clauses_emission.proofs.Ranges.{inside-absent}
 use Rattle.clauses.specs.Translating.{CellWords}
 
 abbrev cell-literal : ℕ → Literal

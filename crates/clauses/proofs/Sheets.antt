@@ -14,7 +14,7 @@ use Rattle.sheet_rules.proofs.Acceptance.{accepted-facts}
 use Rattle.relational.specs.Cells.{cellCount}
 use Rattle.relational.specs.Matrices.{upto}
 use Rattle.nodes.proofs.Roots.{root-formula}
-use Rattle.encoding.proofs.Accepted.{accepted-rows}
+use Rattle.clauses_rules.proofs.Accepted.{accepted-rows}
 use Rattle.clauses.specs.Translating.{CellWords, Translatable}
 
 module _ (s : List ℕ) (l : Layout) (taken : reading s ≡ accepted l) where

@@ -10,18 +10,18 @@ use Rattle.literal.specs.Literals.{positive, literalOf}
 use Rattle.clause_list.specs.ClauseList.{wordsOf}
 use Rattle.sheet_rules.specs.Blocks.{Sheet, root}
 use Rattle.relational.specs.Cells.{cellCount}
-use Rattle.encoding.specs.Translation.{translateFormula}
-use Rattle.encoding.specs.Whole.{markClauses, cellLiterals, firstGate, rootWalk, clauses, words, variableTotal, clauseTotal, wordTotal}
-use Rattle.emission.specs.declared.Tape.{Tape}
-use Rattle.emission.specs.Emission.{Inside, AllInside, literalsOf, Writes, Appends, Room, Bounded, Within, Emits}
-use Rattle.emission.proofs.Writes.{writes-then, writes-as, writes-length}
-use Rattle.emission.proofs.Steps.{emits-as}
+use Rattle.clauses_rules.specs.Translation.{translateFormula}
+use Rattle.clauses_rules.specs.Whole.{markClauses, cellLiterals, firstGate, rootWalk, clauses, words, variableTotal, clauseTotal, wordTotal}
+use Rattle.clauses_emission.specs.declared.Tape.{Tape}
+use Rattle.clauses_emission.specs.Emission.{Inside, AllInside, literalsOf, Writes, Appends, Room, Bounded, Within, Emits}
+use Rattle.clauses_emission.proofs.Writes.{writes-then, writes-as, writes-length}
+use Rattle.clauses_emission.proofs.Steps.{emits-as}
 use Rattle.cells.proofs.Layouts.{scopes-of}
 use Rattle.nodes.specs.Environments.{environment}
 use Rattle.nodes.proofs.Binding.{zero-atoms}
-use Rattle.marks.specs.Marking.{Small, Adds, Declared, blocks}
-use Rattle.marks.proofs.Sheets.{same-marks}
-use Rattle.translation.specs.Walks.{Ready, WalksFormula}
+use Rattle.clauses_marks.specs.Marking.{Small, Adds, Declared, blocks}
+use Rattle.clauses_marks.proofs.Sheets.{same-marks}
+use Rattle.clauses_translation.specs.Walks.{Ready, WalksFormula}
 use Rattle.clauses.specs.Translating.{Translatable, Translates}
 use Rattle.clauses.proofs.CellWords.{cells-inside}
 

@@ -11,7 +11,7 @@ use Rattle.sheet_rules.specs.Reading as sheets
 use Rattle.sheet_rules.specs.Reading.{reading}
 use Rattle.clauses.specs.declared.answer.Count.{Count}
 use Rattle.clauses.specs.declared.answer.Count.the-variants.{Fits, Refused}
-use Rattle.encoding.specs.Whole.{words, variableTotal, clauseTotal, wordTotal}
+use Rattle.clauses_rules.specs.Whole.{words, variableTotal, clauseTotal, wordTotal}
 
 -- an answer in the paper's terms: "the number of variables, of clauses and of words", or the number of a refusal
 pub data Answer : Type 0 where

@@ -13,9 +13,9 @@ use Rattle.sheet_rules.specs.Blocks.{Sheet, relationCount, root}
 use Rattle.sheet_rules.specs.Facts.{Facts}
 use Rattle.relational.specs.Cells.{rowLength, cellCount}
 use Rattle.relational.specs.Matrices.{upto}
-use Rattle.encoding.specs.Whole.{cellLiterals, words, variableTotal, clauseTotal, wordTotal}
-use Rattle.emission.specs.declared.Tape.{Tape}
-use Rattle.emission.specs.Emission.{literalsOf, Within, Over}
+use Rattle.clauses_rules.specs.Whole.{cellLiterals, words, variableTotal, clauseTotal, wordTotal}
+use Rattle.clauses_emission.specs.declared.Tape.{Tape}
+use Rattle.clauses_emission.specs.Emission.{literalsOf, Within, Over}
 use Rattle.nodes.specs.Nodes.{IsFormula}
 use Rattle.clauses.specs.Answers.{Answer, fits, refused}
 

@@ -5,7 +5,7 @@ ghost use Rattle.clauses.specs.Answers.{fits, answerOf, countAnswer, wri
 ghost use Rattle.clauses.specs.Translating.{Numbered, sizeAnswer};
 use answer::Count;
 use answer::Size;
-use emission::Tape;
+use clauses_emission::Tape;
 use refusal::Refusal;
 use sheet::Reading;
 use sheet::read;

@@ -5,11 +5,11 @@ ghost use Rattle.sheet_rules.specs.Blocks.{fourBlocks, sheetOf};
 ghost use Rattle.sheet_rules.specs.Reading.{accepted, reading};
 ghost use Rattle.clauses.specs.Translating.{CellWords, Translatable, Translates};
 use cells::cell_count;
-use emission::Tape;
-use emission::list::emit_clause;
-use marks::marks;
+use clauses_emission::Tape;
+use clauses_emission::list::emit_clause;
+use clauses_marks::marks;
+use clauses_translation::walk::formula;
 use sheet_rules::Layout;
-use translation::walk::formula;
 
 // The literals of n cells: 2, 3 and so on.
 fn cell_words(n: usize) -> [i32; 1024]

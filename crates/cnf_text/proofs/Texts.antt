@@ -11,8 +11,8 @@ use borrow.Author.Tests.{le-leb, lt-leb}
 use Rattle.text.specs.Texts.{bytesOf, endLine}
 use Rattle.clause_list.specs.ClauseList.{isList}
 use Rattle.sheet_rules.specs.Blocks.{sheetOf}
-use Rattle.encoding.specs.Whole.{words, wordTotal}
-use Rattle.encoding.proofs.Theorems.{listed}
+use Rattle.clauses_rules.specs.Whole.{words, wordTotal}
+use Rattle.clauses_rules.proofs.Theorems.{listed}
 use Rattle.clauses.specs.Answers.{fits, writeAnswer, listAfter}
 use Rattle.clauses.proofs.Answered.{count-fits, write-fits}
 use Rattle.dimacs.specs.Text.{textOf, textRoom}

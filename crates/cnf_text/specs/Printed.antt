@@ -7,7 +7,7 @@ use lib.IntN.{ℤ}
 use lib.ListN.{length}
 use Rattle.text.specs.Texts.{bytesOf, endLine}
 use Rattle.sheet_rules.specs.Blocks.{Sheet, sheetOf}
-use Rattle.encoding.specs.Whole.{words}
+use Rattle.clauses_rules.specs.Whole.{words}
 use Rattle.clauses.specs.Answers.{Answer, fits, refused, writeAnswer, listAfter}
 use Rattle.dimacs.specs.Text.{textOf}
 

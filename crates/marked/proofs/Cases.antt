@@ -13,10 +13,10 @@ use Rattle.relational.specs.Matrices.{rounds}
 use Rattle.relational.specs.Evaluation as evaluation
 use Rattle.relational.specs.Evaluation.{valueOf, marksHold, holds}
 use Rattle.instance.specs.Held.{heldAnswer, checkAnswer}
-use Rattle.encoding.specs.Builder as builder
-use Rattle.encoding.specs.Gates.{or, inputClauses, gatesClauses}
-use Rattle.encoding.specs.Translation.{afterRounds, translate}
-use Rattle.encoding.specs.Whole.{series, markClauses, rootWalk, clauses, words, variableTotal}
+use Rattle.clauses_rules.specs.Builder as builder
+use Rattle.clauses_rules.specs.Gates.{or, inputClauses, gatesClauses}
+use Rattle.clauses_rules.specs.Translation.{afterRounds, translate}
+use Rattle.clauses_rules.specs.Whole.{series, markClauses, rootWalk, clauses, words, variableTotal}
 use Rattle.clauses.specs.Answers.{countAnswer, writeAnswer, listAfter}
 use Rattle.dimacs.specs.Text.{literalText, clauseLine, clauseLines, header, textOf, textRoom}
 use Rattle.dimacs.specs.Answers as text

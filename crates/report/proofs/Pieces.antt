@@ -12,7 +12,7 @@ use Rattle.text.proofs.Puts.{put-nothing, put-both, put-as, put-length}
 use Rattle.sheet_rules.specs.Blocks.{Sheet, fourBlocks, byte}
 use Rattle.relational.specs.Cells.{rowCount, rowLength, firstCell, cell}
 use Rattle.cells.proofs.Layouts.{Earlier}
-use Rattle.encoding.specs.Whole.{series}
+use Rattle.clauses_rules.specs.Whole.{series}
 use Rattle.report.specs.Printed.{cellDigit, rowDigits, relationLine}
 use Rattle.report.specs.Private.{rowFrom, lineFrom, PutLines}
 

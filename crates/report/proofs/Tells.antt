@@ -14,8 +14,8 @@ use Rattle.prelude.proofs.Laws.{and-left, decided}
 use Rattle.text.specs.Texts.{bytesOf, decimal, endLine, Prints}
 use Rattle.sheet_rules.specs.Blocks.{Sheet, sheetOf, byte, relationCount}
 use Rattle.relational.specs.Cells.{rowCount, rowLength, cellsOf, firstCell, cellCount, cell, withinScopes}
-use Rattle.encoding.specs.Matching.{Solution}
-use Rattle.encoding.proofs.Series.{same-series}
+use Rattle.clauses_rules.specs.Matching.{Solution}
+use Rattle.clauses_rules.proofs.Series.{same-series}
 use Rattle.search.specs.Answers.{Answer, found, none, spent, refused}
 use Rattle.solve_rules.specs.Finding.{Slices}
 use Rattle.solve_rules.specs.Finds.{Holds, Finds}

@@ -7,7 +7,7 @@ use lib.ListN.{length}
 use Rattle.text.specs.Texts.{bytesOf, digit, decimal, endLine}
 use Rattle.sheet_rules.specs.Blocks.{Sheet, sheetOf, byte, relationCount}
 use Rattle.relational.specs.Cells.{rowCount, rowLength, cell}
-use Rattle.encoding.specs.Whole.{series}
+use Rattle.clauses_rules.specs.Whole.{series}
 use Rattle.search.specs.Answers.{Answer, found, none, spent, refused}
 use Rattle.solve_rules.specs.Finding.{Slices, Finding, finding}
 

@@ -6,7 +6,7 @@ use Prim.Native.Nat.{ℕ, _+_, _*_, _≤_}
 use Rattle.text.specs.Puts.{Put}
 use Rattle.text.specs.Texts.{decimal}
 use Rattle.sheet_rules.specs.Blocks.{Sheet, byte}
-use Rattle.encoding.specs.Whole.{series}
+use Rattle.clauses_rules.specs.Whole.{series}
 use Rattle.report.specs.Printed.{cellDigit, relationLine}
 
 -- a space and the digits of n cells from a cell on

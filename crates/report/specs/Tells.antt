@@ -5,7 +5,7 @@ use Prim.Native.Nat.{ℕ}
 use Prim.Native.String.{String}
 use Rattle.text.specs.Texts.{bytesOf, endLine}
 use Rattle.sheet_rules.specs.Blocks.{Sheet, sheetOf}
-use Rattle.encoding.specs.Matching.{Solution}
+use Rattle.clauses_rules.specs.Matching.{Solution}
 use Rattle.report.specs.Printed.{relationLines}
 
 -- the bytes printed start with a word

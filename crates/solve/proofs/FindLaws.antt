@@ -13,11 +13,11 @@ use Rattle.prelude.proofs.Laws.{decided}
 use Rattle.sheet_rules.specs.Blocks.{sheetOf}
 use Rattle.relational.specs.Cells.{cellCount}
 use Rattle.clauses.specs.declared.answer.Size.{Size}
-use Rattle.encoding.specs.Whole.{variableTotal, wordTotal}
+use Rattle.clauses_rules.specs.Whole.{variableTotal, wordTotal}
 use Rattle.clauses.specs.Answers as count
 use Rattle.clauses.specs.Answers.{countAnswer, listAfter}
 use Rattle.clauses.proofs.Answered.{count-fits}
-use Rattle.encoding.proofs.Match.{cells-variables}
+use Rattle.clauses_rules.proofs.Match.{cells-variables}
 use Rattle.search.specs.Answers.{Answer, found, none, spent, refused, Outcome, outcome}
 use Rattle.solve_rules.specs.Answers.{instanceAfter}
 use Rattle.solve_rules.specs.Finding.{Slices, slices, Finding, decline, haveRoom, instanceFor, findIn, findAfter, finding}

@@ -21,7 +21,7 @@ use Rattle.clauses.specs.declared.answer.Count.the-variants.{Fits, Refused}
 use Rattle.clauses.specs.Answers as count
 use Rattle.clauses.specs.Answers.{countAfter, countAnswer}
 use Rattle.clauses.proofs.Answered.{count-fits}
-use Rattle.encoding.proofs.Match.{cells-variables}
+use Rattle.clauses_rules.proofs.Match.{cells-variables}
 use Rattle.solve_rules.specs.Answers.{Answer, copied, refused, readBackAfter, readBackAnswer, instanceBy, instanceAfter}
 use Rattle.solve.specs.Private.{cellsAnswer, cellsLeft}
 

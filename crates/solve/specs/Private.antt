@@ -10,7 +10,7 @@ use Rattle.prelude.specs.Tests.{all}
 use Rattle.sheet_rules.specs.Blocks.{sheetOf}
 use Rattle.relational.specs.Cells.{cellCount}
 use Rattle.clauses.specs.declared.answer.Size.{Size}
-use Rattle.encoding.specs.Whole.{variableTotal, wordTotal}
+use Rattle.clauses_rules.specs.Whole.{variableTotal, wordTotal}
 use Rattle.search.specs.Answers as searched
 use Rattle.solve_rules.specs.Answers.{Answer, copied, refused, instanceBy}
 use Rattle.solve_rules.specs.Finding.{Slices, finding}

@@ -13,7 +13,7 @@ use Rattle.prelude.proofs.Laws.{and-left, and-right, and-both}
 use Rattle.sheet_rules.specs.Blocks.{sheetOf}
 use Rattle.sheet_rules.specs.Reading.{reading}
 use Rattle.relational.specs.Cells.{cellCount, withinScopes}
-use Rattle.encoding.specs.Whole.{words, variableTotal, clauseTotal, wordTotal, readBack}
+use Rattle.clauses_rules.specs.Whole.{words, variableTotal, clauseTotal, wordTotal, readBack}
 use Rattle.clauses.specs.Answers as count
 use Rattle.clauses.specs.Answers.{fits, countAfter, countAnswer, writeAfter, writeAnswer, listAfter}
 use Rattle.clauses.proofs.Answered.{write-fits}

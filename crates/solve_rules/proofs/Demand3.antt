@@ -9,9 +9,9 @@ use lib.ListN.{take, drop}
 use Rattle.clause_list.specs.ClauseList.{clausesOf, isList, Satisfying}
 use Rattle.sheet_rules.specs.Blocks.{sheetOf}
 use Rattle.relational.specs.Cells.{cellCount}
-use Rattle.encoding.specs.Whole.{words, variableTotal, clauseTotal, wordTotal, readBack}
-use Rattle.encoding.specs.Matching.{Solution}
-use Rattle.encoding.proofs.Theorems.{match, none, listed}
+use Rattle.clauses_rules.specs.Whole.{words, variableTotal, clauseTotal, wordTotal, readBack}
+use Rattle.clauses_rules.specs.Matching.{Solution}
+use Rattle.clauses_rules.proofs.Theorems.{match, none, listed}
 use Rattle.search_rules.specs.Run.{End, wasNone, wasFound, wasSpent}
 use Rattle.search.specs.Answers.{found, refused, answerAt, searchRun}
 use Rattle.search.proofs.Outcomes.{runs}

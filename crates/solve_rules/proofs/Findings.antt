@@ -11,7 +11,7 @@ use borrow.Author.Tests.{leb-true, leb-false, le-leb}
 use Rattle.prelude.proofs.Laws.{clash, and-left, and-right, and-both}
 use Rattle.sheet_rules.specs.Blocks.{sheetOf}
 use Rattle.relational.specs.Cells.{cellCount}
-use Rattle.encoding.specs.Whole.{variableTotal, wordTotal}
+use Rattle.clauses_rules.specs.Whole.{variableTotal, wordTotal}
 use Rattle.clauses.specs.Answers as count
 use Rattle.clauses.specs.Answers.{countAnswer}
 use Rattle.clauses.proofs.Answered.{Counted, count-fits}

@@ -8,7 +8,7 @@ use lib.IntN.{ℤ}
 use lib.ListN.{take}
 use Rattle.clause_list.specs.ClauseList.{clausesOf}
 use Rattle.sheet_rules.specs.Blocks.{sheetOf}
-use Rattle.encoding.specs.Whole.{words, variableTotal, wordTotal}
+use Rattle.clauses_rules.specs.Whole.{words, variableTotal, wordTotal}
 use Rattle.search_rules.specs.Run.{EndedWithin}
 use Rattle.search.specs.Answers.{Answer, found, none, spent, refused, Outcome}
 use Rattle.solve_rules.specs.Finding.{Slices, Finding, decline, instanceFor, findIn, finding}

@@ -7,7 +7,7 @@ use lib.ListN.{length, drop}
 use Rattle.prelude.specs.Tests.{all}
 use Rattle.sheet_rules.specs.Blocks.{Sheet, sheetOf}
 use Rattle.relational.specs.Cells.{cellCount}
-use Rattle.encoding.specs.Whole.{readBack}
+use Rattle.clauses_rules.specs.Whole.{readBack}
 use Rattle.clauses.specs.Answers as count
 use Rattle.clauses.specs.Answers.{countAnswer}
 

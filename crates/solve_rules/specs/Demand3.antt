@@ -21,8 +21,8 @@ use Rattle.sheet_rules.specs.Blocks.{sheetOf}
 use Rattle.sheet_rules.specs.Reading as sheets
 use Rattle.sheet_rules.specs.Reading.{reading}
 use Rattle.relational.specs.Cells.{cellCount}
-use Rattle.encoding.specs.Whole.{words, variableTotal, wordTotal}
-use Rattle.encoding.specs.Matching.{Solution}
+use Rattle.clauses_rules.specs.Whole.{words, variableTotal, wordTotal}
+use Rattle.clauses_rules.specs.Matching.{Solution}
 use Rattle.clauses.specs.Answers.{fits, countAnswer, writeAnswer, listAfter}
 use Rattle.search_rules.specs.Run.{EndedWithin}
 use Rattle.search.specs.Answers.{Outcome, found, none, spent, refused, outcome}

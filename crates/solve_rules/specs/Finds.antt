@@ -7,8 +7,8 @@ use Prim.Native.Nat.{ℕ}
 use lib.ListN.{length, drop}
 use Rattle.clause_list.specs.ClauseList.{clausesOf}
 use Rattle.sheet_rules.specs.Blocks.{Sheet, sheetOf}
-use Rattle.encoding.specs.Whole.{words, variableTotal}
-use Rattle.encoding.specs.Matching.{Solution}
+use Rattle.clauses_rules.specs.Whole.{words, variableTotal}
+use Rattle.clauses_rules.specs.Matching.{Solution}
 use Rattle.search_rules.specs.Run.{EndedWithin}
 use Rattle.search.specs.Answers.{Answer, found, none, spent, refused}
 use Rattle.solve_rules.specs.Finding.{Slices}

@@ -5,7 +5,7 @@ use native.Mathlib.Omega.{arith}
 use Rattle.literal.specs.Literals.{literalOf}
 use Rattle.literal.proofs.Signs.{read, back}
 use Rattle.sheet_rules.specs.Blocks.{Sheet, fourBlocks}
-use Rattle.emission.proofs.Writes.{appends-as}
+use Rattle.clauses_emission.proofs.Writes.{appends-as}
 use Rattle.clauses.proofs.Translation.{given-inside, marks-declared, first-small, root-ready, walk-room, translates}
 use borrow.Author.Needs.{needs}
 use Rattle.clauses.proofs.whole.translate_blocks.Statement.{statement}

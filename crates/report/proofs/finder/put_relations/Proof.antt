@@ -7,7 +7,7 @@ use Rattle.text.proofs.Puts.{put-as}
 use Rattle.sheet_rules.specs.Blocks.{sheetOf, relationCount}
 use Rattle.sheet_rules.proofs.Acceptance.{accepted-facts, accepted-layout}
 use Rattle.cells.proofs.Blocks.{Placed, placed, part-is}
-use Rattle.encoding.specs.Whole.{series}
+use Rattle.clauses_rules.specs.Whole.{series}
 use Rattle.report.specs.Printed.{relationLine, relationLines}
 use Rattle.report.proofs.finder.put_relations.Statement.{statement}
 use Rattle.report.proofs.finder.put_relations.Tie as tie

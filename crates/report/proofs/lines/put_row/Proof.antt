@@ -8,7 +8,7 @@ use borrow.Author.Needs.{needs}
 use Rattle.text.specs.Puts.{Put}
 use Rattle.text.proofs.Puts.{put-byte, put-both, put-as, put-length}
 use Rattle.sheet_rules.specs.Blocks.{byte}
-use Rattle.encoding.specs.Whole.{series}
+use Rattle.clauses_rules.specs.Whole.{series}
 use Rattle.report.specs.Printed.{cellDigit}
 use Rattle.report.specs.Private.{rowFrom}
 use Rattle.report.proofs.Pieces.{put-none-of, put-more, bytes-length}

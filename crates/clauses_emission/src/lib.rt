@@ -1,0 +1,26 @@
+// Clauses and gates written into a lent list (document 01, "Clauses"): clauses one after the other, OR, AND, IFF, and what is made of two
+// literals. Counting runs the same code over an empty list. The operators over matrices of literals are the crate `clauses_matrix`.
+pub mod gates; // gates.rt: OR, AND, IFF, and two literals
+pub mod list; // list.rt: one clause after the other
+
+// Where the translation stands: the next variable, and the clauses and words so far.
+pub struct Tape {
+    pub next: usize,
+    pub clauses: usize,
+    pub words: usize,
+}
+
+pub struct Made {
+    pub literal: i32,
+    pub tape: Tape,
+}
+
+// What is made of two literals: OR(p, q), AND(p, q), AND(p, -q), OR(-p, q), IFF(p, q), OR(-p, -q).
+pub enum Pairing {
+    Either,
+    Both,
+    Without,
+    Implies,
+    Same,
+    Apart,
+}

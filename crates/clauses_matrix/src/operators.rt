@@ -1,0 +1,282 @@
+// Expressions, operator by operator: cells in row order (document 01, "Clauses", the last list).
+ghost use mathlib.Core.Path.{_≡_};
+ghost use mathlib.Core.List.{List};
+ghost use Prim.Native.Nat.{_*_, _<_, _≤_};
+ghost use lib.IntN.{ℤ};
+ghost use Rattle.relational.specs.Trees.{join, product, inverse, closure};
+ghost use Rattle.relational.specs.Matrices as matrices;
+ghost use Rattle.clauses_rules.specs.Translation.{joinCells, translateBinary, translateUnary, roundOf};
+ghost use Rattle.clauses_emission.specs.Emission.{Bounded, EmitsLiteral};
+ghost use Rattle.clauses_matrix.specs.Matrices.{matrixOf, Operand, EmitsCells, EmitsBinary, EmitsUnary};
+ghost use Rattle.clauses_matrix.specs.Matrices.{paired, pairedMatrix, joinCell};
+use super::Literals;
+use clauses_emission::Made;
+use super::MadeCells;
+use super::MadeMatrix;
+use clauses_emission::Pairing;
+use clauses_emission::Tape;
+use clauses_emission::gates::both;
+use clauses_emission::gates::or;
+use clauses_emission::gates::pair;
+
+// The cells at the same place of p and q, place by place.
+pub fn matched_cells(
+    list: &mut [i32],
+    tape: Tape,
+    kind: Pairing,
+    p: Literals,
+    q: Literals,
+) -> MadeCells
+    requires { ⌜ Bounded tape ⌝ }
+    requires { ⌜ Operand (tape .next) p ⌝ }
+    requires { ⌜ Operand (tape .next) q ⌝ }
+    ensures { λ r. ⌜ EmitsCells (p .rows * p .columns) (paired kind (matrixOf p) (matrixOf q) (tape .next))
+        (now (list .entry)) tape (r .cells) (now (list .exit)) (r .tape) ⌝ }
+{
+    let size = p.rows * p.columns;
+    let left = p.cells;
+    let right = q.cells;
+    let mut cells = [-1; 64];
+    let mut after = tape;
+    let mut k: usize = 0;
+    while k < size {
+        let made = pair(list, after, kind, left[k], right[k]);
+        let l = made.literal;
+        cells[k] = l;
+        after = made.tape;
+        k += 1;
+    }
+    MadeCells {
+        cells: cells,
+        tape: after,
+    }
+}
+
+// Union (Either), intersection (Both) and difference (Without).
+pub fn matched(list: &mut [i32], tape: Tape, kind: Pairing, p: Literals, q: Literals) -> MadeMatrix
+    requires { ⌜ Bounded tape ⌝ }
+    requires { ⌜ Operand (tape .next) p ⌝ }
+    requires { ⌜ Operand (tape .next) q ⌝ }
+    ensures { λ r. ⌜ EmitsBinary (pairedMatrix kind) p q
+        (now (list .entry)) tape (r .matrix) (now (list .exit)) (r .tape) ⌝ }
+{
+    let made = matched_cells(list, tape, kind, p, q);
+    let cells = made.cells;
+    let after = made.tape;
+    let matrix = Literals {
+        arity: p.arity,
+        rows: p.rows,
+        columns: p.columns,
+        cells: cells,
+    };
+    MadeMatrix {
+        matrix: matrix,
+        tape: after,
+    }
+}
+
+// A set on the right of a join is a column.
+fn join_columns(q: Literals) -> usize
+    ensures { λ r. ⌜ r ≡ matrices.joinColumns (matrixOf q) ⌝ }
+{
+    if q.arity == 1 { 1 } else { q.columns }
+}
+
+// The cell of row i and column j of a join: OR over the middle atoms of AND.
+fn join_cell(list: &mut [i32], tape: Tape, p: Literals, q: Literals, i: usize, j: usize) -> Made
+    requires { ⌜ Bounded tape ⌝ }
+    requires { ⌜ Operand (tape .next) p ⌝ }
+    requires { ⌜ Operand (tape .next) q ⌝ }
+    requires { ⌜ i < p .rows ⌝ }
+    requires { ⌜ j < matrices.joinColumns (matrixOf q) ⌝ }
+    ensures { λ r. ⌜ EmitsLiteral (joinCell (matrixOf p) (matrixOf q) (i, j) (tape .next))
+        (now (list .entry)) tape (r .literal) (now (list .exit)) (r .tape) ⌝ }
+{
+    let columns = join_columns(q);
+    let n = p.columns;
+    let left = p.cells;
+    let right = q.cells;
+    let mut middles = [-1; 64];
+    let mut after = tape;
+    let mut k: usize = 0;
+    while k < n {
+        let made = both(list, after, left[i * n + k], right[k * columns + j]);
+        let l = made.literal;
+        middles[k] = l;
+        after = made.tape;
+        k += 1;
+    }
+    or(list, after, &middles[..n])
+}
+
+// The cells of a join, place by place.
+fn join_cells(list: &mut [i32], tape: Tape, p: Literals, q: Literals) -> MadeCells
+    requires { ⌜ Bounded tape ⌝ }
+    requires { ⌜ Operand (tape .next) p ⌝ }
+    requires { ⌜ Operand (tape .next) q ⌝ }
+    ensures { λ r. ⌜ EmitsCells (p .rows * matrices.joinColumns (matrixOf q)) (joinCells (matrixOf p) (matrixOf q) (tape .next))
+        (now (list .entry)) tape (r .cells) (now (list .exit)) (r .tape) ⌝ }
+{
+    let columns = join_columns(q);
+    let size = p.rows * columns;
+    let mut cells = [-1; 64];
+    let mut after = tape;
+    let mut k: usize = 0;
+    while k < size {
+        let made = join_cell(list, after, p, q, k / columns, k % columns);
+        let l = made.literal;
+        cells[k] = l;
+        after = made.tape;
+        k += 1;
+    }
+    MadeCells {
+        cells: cells,
+        tape: after,
+    }
+}
+
+pub fn join(list: &mut [i32], tape: Tape, p: Literals, q: Literals) -> MadeMatrix
+    requires { ⌜ Bounded tape ⌝ }
+    requires { ⌜ Operand (tape .next) p ⌝ }
+    requires { ⌜ Operand (tape .next) q ⌝ }
+    ensures { λ r. ⌜ EmitsBinary (translateBinary join) p q (now (list .entry)) tape (r .matrix) (now (list .exit)) (r .tape) ⌝ }
+{
+    let columns = join_columns(q);
+    let made = join_cells(list, tape, p, q);
+    let cells = made.cells;
+    let after = made.tape;
+    if p.arity + q.arity == 4 {
+        let relation = Literals {
+            arity: 2,
+            rows: p.rows,
+            columns: columns,
+            cells: cells,
+        };
+        return MadeMatrix {
+            matrix: relation,
+            tape: after,
+        };
+    }
+    let set = Literals {
+        arity: 1,
+        rows: 1,
+        columns: p.rows * columns,
+        cells: cells,
+    };
+    MadeMatrix {
+        matrix: set,
+        tape: after,
+    }
+}
+
+// The product of two sets.
+pub fn product(list: &mut [i32], tape: Tape, p: Literals, q: Literals) -> MadeMatrix
+    requires { ⌜ Bounded tape ⌝ }
+    requires { ⌜ Operand (tape .next) p ⌝ }
+    requires { ⌜ Operand (tape .next) q ⌝ }
+    ensures { λ r. ⌜ EmitsBinary (translateBinary product) p q (now (list .entry)) tape (r .matrix) (now (list .exit)) (r .tape) ⌝ }
+{
+    let columns = q.columns;
+    let size = p.columns * columns;
+    let left = p.cells;
+    let right = q.cells;
+    let mut cells = [-1; 64];
+    let mut after = tape;
+    let mut k: usize = 0;
+    while k < size {
+        let made = both(list, after, left[k / columns], right[k % columns]);
+        let l = made.literal;
+        cells[k] = l;
+        after = made.tape;
+        k += 1;
+    }
+    let relation = Literals {
+        arity: 2,
+        rows: p.columns,
+        columns: columns,
+        cells: cells,
+    };
+    MadeMatrix {
+        matrix: relation,
+        tape: after,
+    }
+}
+
+// The inverse of a relation: its cells transposed. Nothing is written.
+pub fn inverse(tape: Tape, p: Literals) -> MadeMatrix
+    requires { ⌜ Bounded tape ⌝ }
+    requires { ⌜ Operand (tape .next) p ⌝ }
+    ensures { λ r. ⌜ ((list : List ℤ) → EmitsUnary (translateUnary inverse) p list tape (r .matrix) list (r .tape)) ⌝ }
+{
+    let rows = p.rows;
+    let size = p.columns * rows;
+    let from = p.cells;
+    let columns = p.columns;
+    let mut cells = [-1; 64];
+    let mut k: usize = 0;
+    while k < size {
+        let l = from[(k % rows) * columns + k / rows];
+        cells[k] = l;
+        k += 1;
+    }
+    let relation = Literals {
+        arity: 2,
+        rows: columns,
+        columns: rows,
+        cells: cells,
+    };
+    MadeMatrix {
+        matrix: relation,
+        tape: tape,
+    }
+}
+
+// A round of the closure: the join of the matrix with itself, then OR of the old and new cell.
+fn round(list: &mut [i32], tape: Tape, p: Literals) -> MadeMatrix
+    requires { ⌜ Bounded tape ⌝ }
+    requires { ⌜ Operand (tape .next) p ⌝ }
+    ensures { λ r. ⌜ EmitsUnary roundOf p (now (list .entry)) tape (r .matrix) (now (list .exit)) (r .tape) ⌝ }
+{
+    let made = join(list, tape, p, p);
+    let joined = made.matrix;
+    let after = made.tape;
+    matched(list, after, Pairing::Either, p, joined)
+}
+
+// The least k with 2^k at least n.
+fn rounds(n: usize) -> usize
+    requires { ⌜ n ≤ 8 ⌝ }
+    ensures { λ r. ⌜ r ≡ matrices.rounds n ⌝ }
+{
+    if n <= 1 {
+        return 0;
+    }
+    if n <= 2 {
+        return 1;
+    }
+    if n <= 4 {
+        return 2;
+    }
+    3
+}
+
+pub fn closure(list: &mut [i32], tape: Tape, p: Literals) -> MadeMatrix
+    requires { ⌜ Bounded tape ⌝ }
+    requires { ⌜ Operand (tape .next) p ⌝ }
+    ensures { λ r. ⌜ EmitsUnary (translateUnary closure) p (now (list .entry)) tape (r .matrix) (now (list .exit)) (r .tape) ⌝ }
+{
+    let n = rounds(p.rows);
+    let mut matrix = p;
+    let mut after = tape;
+    let mut k: usize = 0;
+    while k < n {
+        let made = round(list, after, matrix);
+        matrix = made.matrix;
+        after = made.tape;
+        k += 1;
+    }
+    MadeMatrix {
+        matrix: matrix,
+        tape: after,
+    }
+}

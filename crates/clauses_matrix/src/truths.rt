@@ -1,0 +1,79 @@
+// Comparisons, and tests of an expression (document 01, "Clauses", the last list).
+ghost use Rattle.relational.specs.Trees.{some, none, lone};
+ghost use Rattle.clauses_rules.specs.Translation.{translateTest};
+ghost use Rattle.clauses_emission.specs.Emission.{Bounded, EmitsLiteral};
+ghost use Rattle.clauses_matrix.specs.Matrices.{matrixOf, Operand, EmitsTest, compared};
+use super::operators::matched_cells;
+use super::Literals;
+use clauses_emission::Made;
+use clauses_emission::Pairing;
+use clauses_emission::Tape;
+use clauses_emission::gates::and;
+use clauses_emission::gates::apart;
+use clauses_emission::gates::or;
+
+// Equal (Same) and within (Implies): AND over the cells.
+pub fn compare(list: &mut [i32], tape: Tape, kind: Pairing, p: Literals, q: Literals) -> Made
+    requires { ⌜ Bounded tape ⌝ }
+    requires { ⌜ Operand (tape .next) p ⌝ }
+    requires { ⌜ Operand (tape .next) q ⌝ }
+    ensures { λ r. ⌜ EmitsLiteral (compared kind (matrixOf p) (matrixOf q) (tape .next))
+        (now (list .entry)) tape (r .literal) (now (list .exit)) (r .tape) ⌝ }
+{
+    let made = matched_cells(list, tape, kind, p, q);
+    let cells = made.cells;
+    let after = made.tape;
+    let n = p.rows * p.columns;
+    and(list, after, &cells[..n])
+}
+
+pub fn some(list: &mut [i32], tape: Tape, p: Literals) -> Made
+    requires { ⌜ Bounded tape ⌝ }
+    requires { ⌜ Operand (tape .next) p ⌝ }
+    ensures { λ r. ⌜ EmitsTest (translateTest some) p (now (list .entry)) tape (r .literal) (now (list .exit)) (r .tape) ⌝ }
+{
+    let cells = p.cells;
+    let n = p.rows * p.columns;
+    or(list, tape, &cells[..n])
+}
+
+pub fn none(list: &mut [i32], tape: Tape, p: Literals) -> Made
+    requires { ⌜ Bounded tape ⌝ }
+    requires { ⌜ Operand (tape .next) p ⌝ }
+    ensures { λ r. ⌜ EmitsTest (translateTest none) p (now (list .entry)) tape (r .literal) (now (list .exit)) (r .tape) ⌝ }
+{
+    let made = some(list, tape, p);
+    let after = made.tape;
+    Made {
+        literal: literal::opposite(made.literal),
+        tape: after,
+    }
+}
+
+// At most one: AND over pairs, in order, of OR(-p, -q).
+pub fn lone(list: &mut [i32], tape: Tape, p: Literals) -> Made
+    requires { ⌜ Bounded tape ⌝ }
+    requires { ⌜ Operand (tape .next) p ⌝ }
+    ensures { λ r. ⌜ EmitsTest (translateTest lone) p (now (list .entry)) tape (r .literal) (now (list .exit)) (r .tape) ⌝ }
+{
+    let cells = p.cells;
+    let n = p.rows * p.columns;
+    let mut pairs = [-1; 2016];
+    let mut after = tape;
+    let mut t: usize = 0;
+    let mut i: usize = 0;
+    let mut j: usize = 1;
+    while j < n {
+        let made = apart(list, after, cells[i], cells[j]);
+        let l = made.literal;
+        pairs[t] = l;
+        after = made.tape;
+        t += 1;
+        j += 1;
+        if j == n {
+            i += 1;
+            j = i + 1;
+        }
+    }
+    and(list, after, &pairs[..t])
+}

@@ -1,0 +1,92 @@
+-- What this crate shows of its clauses: `gate`, `walk` and `match`.
+use mathlib.Core.Path.{_≡_, ap}
+use mathlib.Core.Logic.{_↔_}
+use mathlib.Core.Bool.{Bool, true}
+use mathlib.Core.List.{List, _++_, map}
+use Prim.Native.Nat.{ℕ, _≤_}
+use lib.ListN.{length}
+use Rattle.prelude.specs.Tests.{any}
+use Rattle.literal.specs.Literals.{Literal, positive}
+use Rattle.clause_list.specs.ClauseList.{isList}
+use Rattle.sheet_rules.specs.declared.Layout.{Layout}
+use Rattle.sheet_rules.specs.Blocks.{Sheet, sheetOf}
+use Rattle.sheet_rules.specs.Reading.{accepted, reading}
+use Rattle.relational.specs.Trees.{Expression, Formula}
+use Rattle.relational.specs.Meaning.{Environment}
+use Rattle.relational.specs.Evaluation.{valueOf, truthOf}
+use Rattle.relational.proofs.Accepted.{accepted-holds}
+use Rattle.clauses_rules.specs.Builder.{Gate, Built}
+use Rattle.clauses_rules.specs.Gates.{gateClauses, gatesClauses}
+use Rattle.clauses_rules.specs.Translation.{translate, translateFormula}
+use Rattle.clauses_rules.specs.Whole.{words, variableTotal, wordTotal, readBack}
+use Rattle.clauses_rules.specs.Matching.{Solution, Assignment, Match}
+use Rattle.clauses_rules.proofs.Values.{value, satisfied}
+use Rattle.clauses_rules.proofs.Gate as g
+use Rattle.clauses_rules.proofs.Gate.{outputs, Scoped, solved, solved-only, length-outputs}
+use Rattle.clauses_rules.proofs.Connect.{mean-values}
+use Rattle.clauses_rules.proofs.Walk.{Ready, right-translate, right-translate-formula}
+use Rattle.clauses_rules.proofs.Match.{reads-instance, exactly-one}
+use Rattle.clauses_rules.proofs.Accepted.{accepted-rows}
+use Rattle.clauses_rules.proofs.Listed.{words-listed}
+
+-- `gate`: the clauses of a gate hold exactly when its variable equals the OR of its inputs
+pub gate : (a : List Bool) (g : ℕ) (inputs : Gate)
+    → (satisfied a (gateClauses g inputs) ≡ true) ↔ (value a (positive g) ≡ any (value a) inputs)
+gate = g.gate
+
+-- an assignment of the variables below gates extends to their variables in exactly one way
+pub record OneExtension (a : List Bool) (gates : List Gate) : Type 0 where
+  pub values : List Bool
+  pub size : length values ≡ length gates
+  pub holds : satisfied (a ++ values) (gatesClauses (length a) gates) ≡ true
+  pub only : (b : List Bool) → length b ≡ length gates → satisfied (a ++ b) (gatesClauses (length a) gates) ≡ true → b ≡ values
+
+extension : (a : List Bool) (gates : List Gate) → Scoped (length a) gates → OneExtension a gates
+extension a gates s =
+    record { values = outputs a gates; size = length-outputs a gates; holds = solved a gates s; only = λ b e h. solved-only a b gates s e h }
+
+-- `walk`: each assignment of the variables below, where the cells' literals have the values of an instance, extends in exactly one
+-- way through the whole walk, and the walk's literals then have the values of the evaluation
+module _ (sheet : Sheet) (instance : List ℕ) (cells : List Literal) (env : Environment) (a : List Bool) (ready : Ready sheet instance cells a) where
+  pub record Walked {A : Type 0} (r : Built A) (Meant : List Bool → A → Type 0) : Type 0 where
+    pub extends : OneExtension a (r .gates)
+    pub next : r .next ≡ length (a ++ extends .values)
+    pub meant : Meant (a ++ extends .values) (r .value)
+
+  pub walk-formula : (f : Formula)
+      → Walked (translateFormula sheet cells f env (length a)) (λ b l. value b l ≡ truthOf sheet instance f env)
+  unfolding extension
+  walk-formula f =
+      let r = right-translate-formula sheet instance cells f env a ready in
+      record { extends = extension a _ (r .scoped); next = r .next; meant = r .gives .value }
+
+  pub walk-expression : (e : Expression)
+      → Walked (translate sheet cells e env (length a)) (λ b p. map (value b) (p .cells) ≡ valueOf sheet instance e env .cells)
+  unfolding extension
+  walk-expression e =
+      let r = right-translate sheet instance cells e env a ready in
+      record { extends = extension a _ (r .scoped); next = r .next; meant = mean-values (r .gives .cells) }
+
+-- `match`: for every accepted sheet, instances within the scopes that satisfy marks and formula are read back from exactly one
+-- satisfying assignment, and every satisfying assignment reads back to one
+module _ (s : List ℕ) (layout : Layout) (taken : reading s ≡ accepted layout) where
+  pub match : Match (sheetOf s)
+  match =
+      record {
+        once = λ i h. exactly-one (sheetOf s) i record { within = h .within; holds = accepted-holds s layout taken i .1 (h .satisfies) };
+        reads = λ a h.
+            let r = reads-instance (sheetOf s) a h in
+            record { within = r .within; satisfies = accepted-holds s layout taken (readBack (sheetOf s) a) .0 (r .holds) };
+      }
+
+  -- no satisfying assignment exactly when no instance satisfies
+  pub none : ((a : List ℕ) → Assignment (sheetOf s) a → ⊥) ↔ ((i : List ℕ) → Solution (sheetOf s) i → ⊥)
+  none = (
+    (λ h i p. let o = match .once i p in h (o .assignment) (o .satisfying)),
+    λ h a p. h (readBack (sheetOf s) a) (match .reads a p),
+  )
+
+  -- `listed`: the search takes the clauses as they are written, where they fit the limits
+  pub listed : variableTotal (sheetOf s) ≤ 16000 → wordTotal (sheetOf s) ≤ 2147483647
+      → isList (variableTotal (sheetOf s)) (words (sheetOf s)) ≡ true
+  listed = words-listed (sheetOf s) (accepted-rows s layout taken)

@@ -1,0 +1,77 @@
+-- Loops that count flags or test them in turn, one more flag at a time.
+use mathlib.Core.Path.{_≡_, refl, sym, ap, _∙_}
+use mathlib.Core.Bool.{Bool, true, false, _&&_, _||_}
+use mathlib.Core.List.{List, [], _∷_, _++_, map}
+use Prim.Native.Nat.{ℕ, suc, _+_, _≤_, _<_}
+use native.Mathlib.Numerals.{add-one}
+use native.Mathlib.Omega.{arith}
+use lib.ListN.{length, getD, take}
+use lib.Seq.{take-suc}
+use Rattle.prelude.specs.Tests.{all, any}
+use Rattle.prelude.proofs.Laws.{all-append, any-append}
+use Rattle.relational.specs.Matrices.{upto}
+use Rattle.relational.specs.Evaluation.{count}
+use Rattle.relational.proofs.Places.{from-suc, upto-suc}
+use Rattle.instance_matrix.specs.Values.{counted, flagsFrom}
+use Rattle.sheet_rules.specs.Blocks.{byte}
+use lib.Dec.{eqb}
+
+or-last : (a b : Bool) → (a || (b || false)) ≡ (a || b)
+or-last true b = refl
+or-last false true = refl
+or-last false false = refl
+
+and-last : (a b : Bool) → (a && (b && true)) ≡ (a && b)
+and-last true true = refl
+and-last true false = refl
+and-last false b = refl
+
+pub any-none : {A : Type 0} (p : A → Bool) → false ≡ any p []
+unfolding any
+any-none p = refl
+
+pub all-none : {A : Type 0} (p : A → Bool) → true ≡ all p []
+unfolding all
+all-none p = refl
+
+module _ {A : Type 0} (p : A → Bool) (f : ℕ → A) where
+  pub any-more : (k : ℕ) (found more : Bool) → found ≡ any p (map f (upto k)) → more ≡ (found || p (f k)) → more ≡ any p (map f (upto (k + 1)))
+  unfolding any
+  any-more k found more e h =
+      let step : map f (upto (k + 1)) ≡ map f (upto k) ++ (f k ∷ []) = rw add-one (upto-suc f k) in
+      h ∙ ap (λ (b : Bool). b || p (f k)) e ∙ sym (or-last (any p (map f (upto k))) (p (f k)))
+      ∙ sym (any-append p (map f (upto k)) (f k ∷ [])) ∙ ap (any p) (sym step)
+
+  pub all-more : (k : ℕ) (fine more : Bool) → fine ≡ all p (map f (upto k)) → more ≡ (fine && p (f k)) → more ≡ all p (map f (upto (k + 1)))
+  unfolding all
+  all-more k fine more e h =
+      let step : map f (upto (k + 1)) ≡ map f (upto k) ++ (f k ∷ []) = rw add-one (upto-suc f k) in
+      h ∙ ap (λ (b : Bool). b && p (f k)) e ∙ sym (and-last (all p (map f (upto k))) (p (f k)))
+      ∙ sym (all-append p (map f (upto k)) (f k ∷ [])) ∙ ap (all p) (sym step)
+
+-- ---- how many flags are true
+pub count-last : (xs : List Bool) (b : Bool) → count (xs ++ (b ∷ [])) ≡ counted (count xs) b
+count-last [] true = refl
+count-last [] false = refl
+count-last (true ∷ xs) true = ap suc (count-last xs true)
+count-last (true ∷ xs) false = ap suc (count-last xs false)
+count-last (false ∷ xs) b = count-last xs b
+
+pub counted-most : (n k : ℕ) (b : Bool) → n ≤ k → counted n b ≤ k + 1
+counted-most n k true h = omega arith
+counted-most n k false h = omega arith
+
+pub count-take : (xs : List Bool) (k total more : ℕ) → k < length xs → total ≡ count (take k xs) → more ≡ counted total (getD xs k false)
+    → more ≡ count (take (k + 1) xs)
+count-take xs k total more l e h =
+    let step : take (k + 1) xs ≡ take k xs ++ (getD xs k false ∷ []) = rw add-one (take-suc xs k false l) in
+    h ∙ ap (λ (n : ℕ). counted n (getD xs k false)) e ∙ sym (count-last (take k xs) (getD xs k false))
+    ∙ ap count (sym step)
+
+pub count-from : (instance : List ℕ) (first k total more : ℕ) → total ≡ count (flagsFrom instance first k)
+    → more ≡ counted total (eqb (byte instance (first + k)) 1) → more ≡ count (flagsFrom instance first (k + 1))
+count-from instance first k total more e h =
+    let flag : ℕ → Bool = λ i. eqb (byte instance i) 1 in
+    let step : flagsFrom instance first (k + 1) ≡ flagsFrom instance first k ++ (flag (first + k) ∷ []) = rw add-one (from-suc flag first k) in
+    h ∙ ap (λ (n : ℕ). counted n (flag (first + k))) e ∙ sym (count-last (flagsFrom instance first k) (flag (first + k)))
+    ∙ ap count (sym step)
