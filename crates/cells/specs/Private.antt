@@ -1,17 +1,20 @@
--- Scopes within their bound, and the first cell of each relation in an array.
+-- The first cell of each relation in an array.
 -- No public contract reaches this file: nothing here needs belief.
 use mathlib.Core.Path.{_≡_}
 use mathlib.Core.List.{List}
-use Prim.Native.Nat.{ℕ, _≤_, _<_}
+use Prim.Native.Nat.{ℕ, _<_}
 use lib.ListN.{length, getD}
-use Rattle.sheet_rules.specs.Blocks.{Sheet, byte, relationCount}
+use Rattle.sheet_rules.specs.declared.Layout.{Layout}
+use Rattle.sheet_rules.specs.Blocks.{Sheet, sheetOf, relationCount}
+use Rattle.sheet_rules.specs.Reading.{accepted, reading}
 use Rattle.relational.specs.Cells.{firstCell}
-
--- every scope is at most 8
-pub record Scopes (sorts : List ℕ) : Type 0 where
-  pub most : (k : ℕ) → byte sorts k ≤ 8
 
 -- the first cell of each relation
 pub record Starts (sheet : Sheet) (starts : List ℕ) : Type 0 where
   pub long : length starts ≡ 16
   pub first : (r : ℕ) → r < relationCount sheet → getD starts r 0 ≡ firstCell sheet r
+
+-- an accepted sheet, where its blocks stand, and where its cells
+pub record Located (sheet : List ℕ) (layout : Layout) (starts : List ℕ) : Type 0 where
+  pub taken : reading sheet ≡ accepted layout
+  pub cells : Starts (sheetOf sheet) starts

@@ -1,50 +1,86 @@
-// Where the cells of relations stand, from the bytes of an accepted sheet (document 01, "Clauses").
+// What stands where in an accepted sheet: its blocks, scopes, the declarations of its relations and their cells
+// (document 01, "The sheet" and "Clauses").
 ghost use mathlib.Core.Path.{_≡_};
-ghost use Prim.Native.Nat.{_*_, _/_, _≤_, _<_};
-ghost use lib.ListN.{length};
-ghost use Rattle.sheet_rules.specs.Blocks.{Sheet, sheetOf};
+ghost use Prim.Native.Nat.{_+_, _*_, _≤_, _<_};
+ghost use Rattle.sheet_rules.specs.Blocks as spec;
+ghost use Rattle.sheet_rules.specs.Blocks.{sheetOf};
 ghost use Rattle.sheet_rules.specs.Reading.{accepted, reading};
-ghost use Rattle.relational.specs.Cells.{rowCount, rowLength, firstCell, cellCount};
-ghost use Rattle.cells.specs.Private.{Scopes, Starts};
+ghost use Rattle.relational.specs.Cells.{rowCount, rowLength, cellCount};
+ghost use Rattle.cells.specs.Private.{Starts};
+use blocks::relations_of;
+use blocks::sorts_of;
+use blocks::variables_of;
 use sheet::bytes::byte;
+use sheet::bytes::field;
 use sheet_rules::Layout;
 
-// The rows of relation r.
-pub fn row_count(sorts: &[u8], relations: &[u8], r: usize) -> usize
-    requires { ⌜ r < 256 ⌝ }
-    ensures { λ n. ⌜ ((sheet : Sheet) → sheet .sorts ≡ now (sorts .entry) → sheet .relations ≡ now (relations .entry) → n ≡ rowCount sheet r) ⌝ }
+pub mod blocks; // blocks.rt: the blocks of an accepted sheet
+
+// The scope of a sort; of one that is not there, 0.
+pub fn scope(sheet: &[u8], layout: Layout, sort: usize) -> usize
+    requires { ⌜ reading (now sheet) ≡ accepted layout ⌝ }
+    ensures { λ n. ⌜ (n ≡ spec.scope (sheetOf (now (sheet .entry))) sort) × (n ≤ 8) ⌝ }
 {
-    if byte(relations, 4 * r) == 1 {
+    byte(sorts_of(sheet, layout), sort)
+}
+
+// The scope of variable x's sort.
+pub fn scope_of_variable(sheet: &[u8], layout: Layout, x: usize) -> usize
+    requires { ⌜ reading (now sheet) ≡ accepted layout ⌝ }
+    ensures { λ n. ⌜ (n ≡ spec.scope (sheetOf (now (sheet .entry))) (spec.sortOf (sheetOf (now (sheet .entry))) x)) × (n ≤ 8) ⌝ }
+{
+    scope(sheet, layout, byte(variables_of(sheet, layout), x))
+}
+
+// Byte k of the declaration of relation r.
+fn declared(sheet: &[u8], layout: Layout, r: usize, k: usize) -> usize
+    requires { ⌜ reading (now sheet) ≡ accepted layout ⌝ }
+    requires { ⌜ (r < 256) × (k < 4) ⌝ }
+    ensures { λ n. ⌜ n ≡ spec.byte (sheetOf (now (sheet .entry)) .relations) (4 * r + k) ⌝ }
+{
+    field(relations_of(sheet, layout), 4, r, k)
+}
+
+// The columns of relation r: 1 a set, 2 a relation.
+pub fn arity(sheet: &[u8], layout: Layout, r: usize) -> usize
+    requires { ⌜ reading (now sheet) ≡ accepted layout ⌝ }
+    requires { ⌜ r < 256 ⌝ }
+    ensures { λ n. ⌜ n ≡ spec.columns (sheetOf (now (sheet .entry))) r ⌝ }
+{
+    declared(sheet, layout, r, 0)
+}
+
+// Its mark.
+pub fn multiplicity(sheet: &[u8], layout: Layout, r: usize) -> usize
+    requires { ⌜ reading (now sheet) ≡ accepted layout ⌝ }
+    requires { ⌜ r < 256 ⌝ }
+    ensures { λ n. ⌜ n ≡ spec.multiplicity (sheetOf (now (sheet .entry))) r ⌝ }
+{
+    declared(sheet, layout, r, 1)
+}
+
+// Its rows.
+pub fn row_count(sheet: &[u8], layout: Layout, r: usize) -> usize
+    requires { ⌜ reading (now sheet) ≡ accepted layout ⌝ }
+    requires { ⌜ r < 256 ⌝ }
+    ensures { λ n. ⌜ (n ≡ rowCount (sheetOf (now (sheet .entry))) r) × (n ≤ 8) ⌝ }
+{
+    if arity(sheet, layout, r) == 1 {
         return 1;
     }
-    byte(sorts, byte(relations, 4 * r + 2))
+    scope(sheet, layout, declared(sheet, layout, r, 2))
 }
 
-// The cells in one row of relation r.
-pub fn row_length(sorts: &[u8], relations: &[u8], r: usize) -> usize
+// The cells in one row of it.
+pub fn row_length(sheet: &[u8], layout: Layout, r: usize) -> usize
+    requires { ⌜ reading (now sheet) ≡ accepted layout ⌝ }
     requires { ⌜ r < 256 ⌝ }
-    ensures { λ n. ⌜ ((sheet : Sheet) → sheet .sorts ≡ now (sorts .entry) → sheet .relations ≡ now (relations .entry) → n ≡ rowLength sheet r) ⌝ }
+    ensures { λ n. ⌜ (n ≡ rowLength (sheetOf (now (sheet .entry))) r) × (n ≤ 8) ⌝ }
 {
-    if byte(relations, 4 * r) == 1 {
-        return byte(sorts, byte(relations, 4 * r + 2));
+    if arity(sheet, layout, r) == 1 {
+        return scope(sheet, layout, declared(sheet, layout, r, 2));
     }
-    byte(sorts, byte(relations, 4 * r + 3))
-}
-
-// All cells of the relations before relation r.
-pub fn first_cell(sorts: &[u8], relations: &[u8], r: usize) -> usize
-    requires { ⌜ r < 256 ⌝ }
-    requires { ⌜ Scopes (now sorts) ⌝ }
-    ensures { λ n. ⌜ (n ≤ 64 * r)
-        × ((sheet : Sheet) → sheet .sorts ≡ now (sorts .entry) → sheet .relations ≡ now (relations .entry) → n ≡ firstCell sheet r) ⌝ }
-{
-    let mut n: usize = 0;
-    let mut i: usize = 0;
-    while i < r {
-        n += row_count(sorts, relations, i) * row_length(sorts, relations, i);
-        i += 1;
-    }
-    n
+    scope(sheet, layout, declared(sheet, layout, r, 3))
 }
 
 // How many cells there are, and the first cell of each relation.
@@ -54,19 +90,18 @@ pub struct Cells {
 }
 
 // All of these, in one pass.
-pub fn first_cells(sorts: &[u8], relations: &[u8]) -> Cells
-    requires { ⌜ length (now relations) / 4 ≤ 16 ⌝ }
-    requires { ⌜ Scopes (now sorts) ⌝ }
-    ensures { λ c. ⌜ ((sheet : Sheet) → sheet .sorts ≡ now (sorts .entry) → sheet .relations ≡ now (relations .entry)
-        → ((c .count ≡ cellCount sheet) × Starts sheet (c .starts))) ⌝ }
+pub fn first_cells(sheet: &[u8], layout: Layout) -> Cells
+    requires { ⌜ reading (now sheet) ≡ accepted layout ⌝ }
+    ensures { λ c. ⌜ (c .count ≡ cellCount (sheetOf (now (sheet .entry)))) × ((c .count ≤ 1024) × Starts (sheetOf (now (sheet .entry))) (c .starts)) ⌝ }
 {
-    let n = relations.len() / 4;
+    let relations = layout.relations;
+    let n = relations.count;
     let mut starts = [0; 16];
     let mut count: usize = 0;
     let mut r: usize = 0;
     while r < n {
         starts[r] = count;
-        count += row_count(sorts, relations, r) * row_length(sorts, relations, r);
+        count += row_count(sheet, layout, r) * row_length(sheet, layout, r);
         r += 1;
     }
     Cells { count, starts }
@@ -77,11 +112,6 @@ pub fn cell_count(sheet: &[u8], layout: Layout) -> usize
     requires { ⌜ reading (now sheet) ≡ accepted layout ⌝ }
     ensures { λ n. ⌜ (n ≡ cellCount (sheetOf (now (sheet .entry)))) × (n ≤ 1024) ⌝ }
 {
-    let sorts = layout.sorts;
-    let relations = layout.relations;
-    let a = sorts.start;
-    let b = a + sorts.count;
-    let c = relations.start;
-    let d = c + 4 * relations.count;
-    first_cell(&sheet[a..b], &sheet[c..d], relations.count)
+    let cells = first_cells(sheet, layout);
+    cells.count
 }

@@ -1,10 +1,14 @@
 // A node of the sheet, and what the walk does there.
 ghost use mathlib.Core.Path.{_≡_};
 ghost use Prim.Native.Nat.{_≤_, _<_};
+ghost use Rattle.sheet_rules.specs.Blocks.{sheetOf};
+ghost use Rattle.sheet_rules.specs.Reading.{accepted, reading};
 ghost use Rattle.nodes.specs.Nodes.{expressionForm, formulaForm, nodeAt};
+use cells::blocks::nodes_of;
 use kinds::Rule;
 use kinds::row_of;
-use sheet::bytes::byte;
+use sheet::bytes::field;
+use sheet_rules::Layout;
 
 // The kinds of expressions that the walk treats alike.
 pub enum ExpressionForm {
@@ -79,14 +83,16 @@ fn formula_form(rule: Rule) -> FormulaForm
     }
 }
 
-// Node v of the block of nodes.
-pub fn read_node(nodes: &[u8], v: usize) -> Node
+// Node v of an accepted sheet.
+pub fn read_node(sheet: &[u8], layout: Layout, v: usize) -> Node
+    requires { ⌜ reading (now sheet) ≡ accepted layout ⌝ }
     requires { ⌜ v ≤ 200 ⌝ }
-    ensures { λ r. ⌜ (r ≡ nodeAt (now (nodes .entry)) v) × (r .a < 256) ⌝ }
+    ensures { λ r. ⌜ (r ≡ nodeAt (sheetOf (now (sheet .entry)) .nodes) v) × (r .a < 256) ⌝ }
 {
-    let kind = byte(nodes, 3 * v);
-    let a = byte(nodes, 3 * v + 1);
-    let b = byte(nodes, 3 * v + 2);
+    let nodes = nodes_of(sheet, layout);
+    let kind = field(nodes, 3, v, 0);
+    let a = field(nodes, 3, v, 1);
+    let b = field(nodes, 3, v, 2);
     let row = row_of(kind);
     let rule = row.rule;
     let expression = expression_form(rule);

@@ -1,6 +1,6 @@
 // Bytes and lengths of a sheet.
 ghost use mathlib.Core.Path.{_≡_};
-ghost use Prim.Native.Nat.{_+_, _<_, _≤_};
+ghost use Prim.Native.Nat.{_+_, _*_, _<_, _≤_};
 ghost use Rattle.sheet_rules.specs.Blocks as blocks;
 
 fn wide(x: u8) -> usize
@@ -14,6 +14,14 @@ pub fn byte(s: &[u8], i: usize) -> usize
     ensures { λ r. ⌜ (r ≡ blocks.byte (now (s .entry)) i) × (r < 256) ⌝ }
 {
     if i < s.len() { wide(s[i]) } else { 0 }
+}
+
+// Byte k of record i of a block whose records have so many bytes.
+pub fn field(block: &[u8], size: usize, i: usize, k: usize) -> usize
+    requires { ⌜ (size ≤ 4) × ((i ≤ 256) × (k ≤ 4)) ⌝ }
+    ensures { λ r. ⌜ (r ≡ blocks.byte (now (block .entry)) (size * i + k)) × (r < 256) ⌝ }
+{
+    byte(block, size * i + k)
 }
 
 // The head of the block after the one whose head this is.

@@ -1,47 +1,58 @@
 -- `first_cells` meets its contract: the loop adds up the cells of the relations before, and stores where each starts.
-use borrow.Author.Needs.{needs}
 use mathlib.Core.Path.{_≡_, ap, _∙_}
-use Prim.Native.Nat.{_≤_, _-_, _*_, _/_}
+use Prim.Native.Nat.{_<_, _≤_, _-_, _*_}
 use native.Mathlib.Omega.{arith}
-use lib.ListN.{length}
+use borrow.Author.Needs.{needs}
+use Rattle.sheet_rules.specs.Blocks.{sheetOf, relationCount}
+use Rattle.sheet_rules.proofs.Acceptance.{accepted-facts}
 use Rattle.relational.specs.Cells.{firstCell}
-use Rattle.cells.proofs.Layouts.{Earlier, earlier-none, earlier-more, cells-most, Stored, stored-none, stored-more}
+use Rattle.cells.proofs.Parts.{relations-counted, few-relations}
+use Rattle.cells.proofs.Layouts.{square, first-most, Stored, stored-none, stored-more}
 use Rattle.cells.proofs.first_cells.Statement.{statement}
 use Rattle.cells.proofs.first_cells.Tie as tie
 
 abbrev Inv-loop : tie.InvT-loop
-Inv-loop sorts relations n starts₀ count₀ r₀ starts count r =
-    (r ≤ n) × (Earlier sorts relations count r × Stored sorts relations starts r)
+Inv-loop sheet layout n starts₀ count₀ r₀ starts count r = (r ≤ n) × Stored (sheetOf sheet) count starts r
 
 abbrev μ-loop : tie.MeasureT-loop
-μ-loop sorts relations n starts₀ count₀ r₀ starts count r = n - r
+μ-loop sheet layout n starts₀ count₀ r₀ starts count r = n - r
+
+-- a relation that the loop reaches is one of 16
+reached : (c : tie.In-loop Inv-loop μ-loop) → c .before .loop .r < 16
+reached c =
+    let s = c .before .before .before .before in
+    omega (arith, few-relations _ _ (s .pre), c .loop-test .taken)
 
 loop-holds : tie.Need-loop-holds Inv-loop μ-loop
-loop-holds c = (omega arith, (earlier-none _ _, stored-none _ _))
+loop-holds c = (omega arith, stored-none _)
 
 mul-starts : tie.Need-mul-starts Inv-loop μ-loop
-mul-starts c = omega arith
+mul-starts c = omega (arith, reached c)
 
 array-write-starts : tie.Need-array-write-starts Inv-loop μ-loop
-array-write-starts c = omega (arith, c .before .loop .inv .1 .1 .long)
+array-write-starts c = omega (arith, reached c, c .before .loop .inv .1 .long)
 
 row-count-requires : tie.Need-row-count-requires Inv-loop μ-loop
-row-count-requires c κs = omega arith
+row-count-requires c κs = (c .before .before .before .before .pre, omega (arith, reached c))
 
 row-length-requires : tie.Need-row-length-requires Inv-loop μ-loop
-row-length-requires c κs = omega arith
+row-length-requires c κs = (c .before .before .before .before .before .pre, omega (arith, reached (c .before)))
 
--- the cells of relation r
-few : (c : tie.After-row-length Inv-loop μ-loop) → c .before .row-count .result * c .row-length .result ≤ 64
-few c =
-    cells-most (c .before .before .before .before .before .before .pre .1) (c .before .before .before .loop .r)
-    (c .before .row-count .ensures) (c .row-length .ensures)
+-- the cells of relation r, and of those before
+few-more : (c : tie.After-row-length Inv-loop μ-loop) → c .before .row-count .result * c .row-length .result ≤ 64
+few-more c = square (c .before .row-count .ensures .1) (c .row-length .ensures .1)
+
+few-before : (c : tie.After-row-length Inv-loop μ-loop) → c .before .before .before .loop .count ≤ 1024
+few-before c =
+    let l = c .before .before .before .loop in
+    let s = c .before .before .before .before .before .before in
+    omega (arith, reached (c .before .before), l .inv .1 .next, first-most _ (accepted-facts _ _ (s .pre)) (l .r))
 
 mul-count : tie.Need-mul-count Inv-loop μ-loop
-mul-count c = omega (arith, few c)
+mul-count c = omega (arith, few-more c)
 
 add-count : tie.Need-add-count Inv-loop μ-loop
-add-count c = omega (arith, few c, c .before .before .before .loop .inv .1 .0 .most)
+add-count c = omega (arith, few-more c, few-before c)
 
 add-r : tie.Need-add-r Inv-loop μ-loop
 add-r c = search needs
@@ -52,20 +63,19 @@ loop-less c = search needs
 loop-again : tie.Need-loop-again Inv-loop μ-loop
 loop-again c =
     let l = c .before .before .before .loop in
-    let scopes = c .before .before .before .before .before .before .pre .1 in (
-      omega arith,
-      (
-        earlier-more scopes (l .r) (c .before .row-count .ensures) (c .row-length .ensures) (l .inv .1 .0),
-        stored-more (omega arith) (l .inv .1 .0) (l .inv .1 .1),
-      ),
-    )
+    (omega arith, stored-more (reached (c .before .before)) (c .before .row-count .ensures .0) (c .row-length .ensures .0) (l .inv .1))
 
 returns : tie.Need-returns Inv-loop μ-loop
-returns c sheet es er =
+returns c =
     let l = c .before .loop in
-    let k : l .r ≡ length (sheet .relations) / 4 = rw er (omega arith) in (
-      l .inv .1 .0 .is sheet es er ∙ ap (firstCell sheet) k,
-      record { long = l .inv .1 .1 .long; first = λ q h. l .inv .1 .1 .first sheet es er q (omega (arith, k)) },
+    let s = c .before .before .before .before in
+    let e = relations-counted _ _ (s .pre) in
+    let k : l .r ≡ relationCount (sheetOf (s .args .sheet .now)) = omega (arith, e, l .inv .0, c .loop-test .left) in (
+      l .inv .1 .next ∙ ap (firstCell _) k,
+      (
+        omega (arith, l .inv .1 .next, first-most _ (accepted-facts _ _ (s .pre)) (l .r), few-relations _ _ (s .pre)),
+        record { long = l .inv .1 .long; first = λ q h. l .inv .1 .first q (omega (arith, k)) },
+      ),
     )
 
 pub first-cells-spec : {M : Type 1} → statement M

@@ -1,44 +1,32 @@
 -- `row_count` meets its contract.
-use Rattle.cells.proofs.Layouts.{set-rows, relation-rows}
+use native.Mathlib.Omega.{arith}
 use borrow.Author.Needs.{needs}
+use Rattle.sheet_rules.specs.Blocks.{sheetOf}
+use Rattle.cells.proofs.Layouts.{set-rows, relation-rows}
 use Rattle.cells.proofs.row_count.Statement.{statement}
 use Rattle.cells.proofs.row_count.Tie as tie
 
-mul-byte : tie.Need-mul-byte
-mul-byte c = search needs
-
-byte-requires : tie.Need-byte-requires
-byte-requires c κs = search needs
+arity-requires : tie.Need-arity-requires
+arity-requires c κs = search needs
 
 returns : tie.Need-returns
-returns c sheet es er = set-rows sheet (c .before .before .before .before .args .r) es er (c .before .byte .ensures .0) (c .if1 .taken)
+returns c =
+    let s = c .before .before .before in
+    (set-rows (sheetOf (s .args .sheet .now)) (s .args .r) (c .before .arity .ensures) (c .if1 .taken), omega arith)
 
-mul-byte-2 : tie.Need-mul-byte-2
-mul-byte-2 c = search needs
+declared-requires : tie.Need-declared-requires
+declared-requires c κs = search needs
 
-add-byte : tie.Need-add-byte
-add-byte c = search needs
-
-byte-requires-2 : tie.Need-byte-requires-2
-byte-requires-2 c κs = search needs
-
-byte-requires-3 : tie.Need-byte-requires-3
-byte-requires-3 c κs = search needs
+scope-requires : tie.Need-scope-requires
+scope-requires c κs = search needs
 
 returns-2 : tie.Need-returns-2
-returns-2 c sheet es er =
-    relation-rows sheet (c .before .before .before .before .before .before .args .r) es er (c .before .before .before .byte .ensures .0)
-    (c .before .before .if1 .left) (c .before .byte2 .ensures .0) (c .byte3 .ensures .0)
+returns-2 c =
+    let s = c .before .before .before .before .before in (
+      relation-rows (sheetOf (s .args .sheet .now)) (s .args .r) (c .before .before .before .arity .ensures) (c .before .before .if1 .left)
+      (c .before .declared .ensures) (c .scope .ensures .0),
+      c .scope .ensures .1,
+    )
 
 pub row-count-spec : {M : Type 1} → statement M
-row-count-spec =
-    tie.close
-    (tie.spec
-    mul-byte
-    byte-requires
-    returns
-    mul-byte-2
-    add-byte
-    byte-requires-2
-    byte-requires-3
-    returns-2)
+row-count-spec = tie.close (tie.spec arity-requires returns declared-requires scope-requires returns-2)

@@ -1,31 +1,23 @@
 -- `read_node` meets its contract: byte by byte, and the form by the row of the kind.
+use mathlib.Core.Path.{_≡_, _∙_, ap}
+use Prim.Native.Nat.{ℕ, _+_, _*_, _≤_}
+use native.Mathlib.Omega.{arith}
 use borrow.Author.Needs.{needs}
+use Rattle.sheet_rules.specs.Blocks.{byte}
 use Rattle.nodes.proofs.forms.read_node.Statement.{statement}
 use Rattle.nodes.proofs.forms.read_node.Tie as tie
 
-mul-byte : tie.Need-mul-byte
-mul-byte c = search needs
+nodes-of-requires : tie.Need-nodes-of-requires
+nodes-of-requires c κs = search needs
 
-byte-requires : tie.Need-byte-requires
-byte-requires c κs = search needs
+field-requires : tie.Need-field-requires
+field-requires c κs = (search needs, (search needs, search needs))
 
-mul-byte-2 : tie.Need-mul-byte-2
-mul-byte-2 c = search needs
+field-requires-2 : tie.Need-field-requires-2
+field-requires-2 c κs = (search needs, (search needs, search needs))
 
-add-byte : tie.Need-add-byte
-add-byte c = search needs
-
-byte-requires-2 : tie.Need-byte-requires-2
-byte-requires-2 c κs = search needs
-
-mul-byte-3 : tie.Need-mul-byte-3
-mul-byte-3 c = search needs
-
-add-byte-2 : tie.Need-add-byte-2
-add-byte-2 c = search needs
-
-byte-requires-3 : tie.Need-byte-requires-3
-byte-requires-3 c κs = search needs
+field-requires-3 : tie.Need-field-requires-3
+field-requires-3 c κs = (search needs, (search needs, search needs))
 
 row-of-requires : tie.Need-row-of-requires
 row-of-requires c κs = search needs
@@ -37,30 +29,30 @@ formula-form-requires : tie.Need-formula-form-requires
 formula-form-requires c κs = search needs
 
 returns : tie.Need-returns
-returns c = (
-  rw (
-    c .formula-form .ensures,
-    c .before .expression-form .ensures,
-    c .before .before .row-of .ensures,
-    c .before .before .before .byte3 .ensures .0,
-    c .before .before .before .before .byte2 .ensures .0,
-    c .before .before .before .before .before .byte .ensures .0,
-  ),
-  c .before .before .before .before .byte2 .ensures .1,
-)
+returns c =
+    let v = c .before .before .before .before .before .before .before .before .args .v in
+    let e : 3 * v + 0 ≡ 3 * v = omega arith in (
+      rw (
+        c .formula-form .ensures,
+        c .before .expression-form .ensures,
+        c .before .before .row-of .ensures,
+        c .before .before .before .field3 .ensures .0,
+        c .before .before .before .before .field2 .ensures .0,
+        c .before .before .before .before .before .field .ensures .0,
+        c .before .before .before .before .before .before .nodes-of .ensures,
+        e,
+      ),
+      c .before .before .before .before .field2 .ensures .1,
+    )
 
 pub read-node-spec : {M : Type 1} → statement M
 read-node-spec =
     tie.close
     (tie.spec
-    mul-byte
-    byte-requires
-    mul-byte-2
-    add-byte
-    byte-requires-2
-    mul-byte-3
-    add-byte-2
-    byte-requires-3
+    nodes-of-requires
+    field-requires
+    field-requires-2
+    field-requires-3
     row-of-requires
     expression-form-requires
     formula-form-requires

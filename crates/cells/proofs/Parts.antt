@@ -1,7 +1,7 @@
 -- The blocks of an accepted sheet are the parts that its layout names.
-use mathlib.Core.Path.{_≡_, refl, _∙_}
+use mathlib.Core.Path.{_≡_, refl, ap, _∙_}
 use mathlib.Core.List.{List}
-use Prim.Native.Nat.{ℕ, _+_, _*_, _-_, _/_, _%_, _≤_}
+use Prim.Native.Nat.{ℕ, _+_, _*_, _/_, _%_, _≤_}
 use native.Mathlib.Nat.{div-add-mod}
 use native.Mathlib.Omega.{arith}
 use lib.Dec.{eqb}
@@ -10,18 +10,15 @@ use lib.Seq.{length-take-le}
 use borrow.Author.Tests.{eqb-true}
 use Rattle.prelude.proofs.Laws.{and-left, and-right}
 use Rattle.sheet_rules.specs.declared.Layout.{Layout}
-use Rattle.sheet_rules.specs.Blocks.{lengthAt, blockAt, after, variablesHead, relationsHead, nodesHead, blocksEnd, fourBlocks, sheetOf}
+use Rattle.sheet_rules.specs.Blocks.{lengthAt, blockAt, after, variablesHead, relationsHead, nodesHead, blocksEnd, sheetOf}
+use Rattle.sheet_rules.specs.Blocks.{relationCount, nodeCount}
 use Rattle.sheet_rules.specs.Reading.{accepted, reading}
-use Rattle.sheet_rules.proofs.Acceptance.{conditions, accepted-layout}
+use Rattle.sheet_rules.proofs.Acceptance.{conditions, accepted-facts, accepted-layout}
 
 -- a block of n bytes stands at a place
 pub record At (s : List ℕ) (place n : ℕ) (block : List ℕ) : Type 0 where
   pub inside : place + n ≤ length s
   pub is : take n (drop place s) ≡ block
-
--- as code takes it
-pub part-is : {s block : List ℕ} {place n : ℕ} → At s place n block → take (place + n - place) (drop place s) ≡ block
-part-is {s} {block} {place} {n} a = let e : place + n - place ≡ n = omega arith in rw e (a .is)
 
 pub record Placed (s : List ℕ) (l : Layout) : Type 0 where
   pub sorts : At s (l .sorts .start) (l .sorts .count) (sheetOf s .sorts)
@@ -66,17 +63,12 @@ module _ (s : List ℕ) (l : Layout) (taken : reading s ≡ accepted l) where
         nodes = block-at s (nodesHead s) _ _ d (omega arith) (whole-count _ 3 n);
       }
 
-  -- the part of n bytes from a place on, as code takes it
-  abbrev part : ℕ → ℕ → List ℕ
-  part place n = take (place + n - place) (drop place s)
+  -- the counts of the layout are those of the sheet
+  pub relations-counted : l .relations .count ≡ relationCount (sheetOf s)
+  relations-counted = ap (λ k. k .relations .count) (accepted-layout s l taken)
 
-  pub blocks-are : fourBlocks (part (l .sorts .start) (l .sorts .count)) (part (l .variables .start) (l .variables .count))
-      (part (l .relations .start) (4 * l .relations .count)) (part (l .nodes .start) (3 * l .nodes .count))
-      ≡ sheetOf s
-  blocks-are =
-      let p = placed in
-      let a = part-is (p .sorts) in
-      let b = part-is (p .variables) in
-      let c = part-is (p .relations) in
-      let d = part-is (p .nodes) in
-      λ i. fourBlocks (a i) (b i) (c i) (d i)
+  pub nodes-counted : l .nodes .count ≡ nodeCount (sheetOf s)
+  nodes-counted = ap (λ k. k .nodes .count) (accepted-layout s l taken)
+
+  pub few-relations : l .relations .count ≤ 16
+  few-relations = rw relations-counted (accepted-facts s l taken .counts .few-relations)
