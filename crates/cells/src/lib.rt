@@ -2,6 +2,8 @@
 // (document 01, "The sheet" and "Clauses").
 ghost use mathlib.Core.Path.{_≡_};
 ghost use Prim.Native.Nat.{_+_, _*_, _≤_, _<_};
+ghost use lib.Dec.{leb};
+ghost use Rattle.prelude.specs.Tests.{all};
 ghost use Rattle.sheet_rules.specs.Blocks as spec;
 ghost use Rattle.sheet_rules.specs.Blocks.{sheetOf};
 ghost use Rattle.sheet_rules.specs.Reading.{accepted, reading};
@@ -114,4 +116,18 @@ pub fn cell_count(sheet: &[u8], layout: Layout) -> usize
 {
     let cells = first_cells(sheet, layout);
     cells.count
+}
+
+// "each 0 or 1"
+pub fn are_bits(values: &[u8]) -> bool
+    ensures { λ r. ⌜ r ≡ all (λ b. leb b 1) (now (values .entry)) ⌝ }
+{
+    let mut i = 0;
+    while i < values.len() {
+        if values[i] > 1 {
+            return false;
+        }
+        i += 1;
+    }
+    true
 }

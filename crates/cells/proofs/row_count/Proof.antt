@@ -24,7 +24,7 @@ returns-2 : tie.Need-returns-2
 returns-2 c =
     let s = c .before .before .before .before .before in (
       relation-rows (sheetOf (s .args .sheet .now)) (s .args .r) (c .before .before .before .arity .ensures) (c .before .before .if1 .left)
-      (c .before .declared .ensures) (c .scope .ensures .0),
+          (c .before .declared .ensures) (c .scope .ensures .0),
       c .scope .ensures .1,
     )
 

@@ -18,7 +18,7 @@ returns : tie.Need-returns
 returns c =
     let s = c .before .before .before .before .before in (
       set-length (sheetOf (s .args .sheet .now)) (s .args .r) (c .before .before .before .arity .ensures) (c .before .before .if1 .taken)
-      (c .before .declared .ensures) (c .scope .ensures .0),
+          (c .before .declared .ensures) (c .scope .ensures .0),
       c .scope .ensures .1,
     )
 
@@ -32,7 +32,7 @@ returns-2 : tie.Need-returns-2
 returns-2 c =
     let s = c .before .before .before .before .before in (
       relation-length (sheetOf (s .args .sheet .now)) (s .args .r) (c .before .before .before .arity .ensures) (c .before .before .if1 .left)
-      (c .before .declared2 .ensures) (c .scope2 .ensures .0),
+          (c .before .declared2 .ensures) (c .scope2 .ensures .0),
       c .scope2 .ensures .1,
     )
 

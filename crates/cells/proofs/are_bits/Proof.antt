@@ -8,8 +8,8 @@ use borrow.Author.Needs.{needs}
 use borrow.Author.Tests.{le-leb, lt-leb}
 use Rattle.prelude.specs.Tests.{all}
 use Rattle.prelude.proofs.Laws.{and-not-left, and-rest, all-from, all-from-end}
-use Rattle.solve.proofs.copies.are_bits.Statement.{statement}
-use Rattle.solve.proofs.copies.are_bits.Tie as tie
+use Rattle.cells.proofs.are_bits.Statement.{statement}
+use Rattle.cells.proofs.are_bits.Tie as tie
 
 abbrev Inv-loop : tie.InvT-loop
 Inv-loop values i₀ i = (i ≤ length values) × (all (λ (b : ℕ). leb b 1) values ≡ all (λ (b : ℕ). leb b 1) (drop i values))

@@ -4,9 +4,9 @@ use mathlib.Core.Path.{_≡_, refl}
 use Prim.Native.Nat.{ℕ, _<_, _-_, _^_}
 use native.Mathlib.Omega.{arith}
 use Rattle.relational.proofs.Rounds.{rounds-is}
-use Rattle.instance_matrix.proofs.Powers.{power-next, powers-more}
-use Rattle.instance_matrix.proofs.operators.rounds.Statement.{statement}
-use Rattle.instance_matrix.proofs.operators.rounds.Tie as tie
+use Rattle.nodes.proofs.Powers.{power-next, powers-more}
+use Rattle.nodes.proofs.sizes.rounds.Statement.{statement}
+use Rattle.nodes.proofs.sizes.rounds.Tie as tie
 
 abbrev Inv-loop : tie.InvT-loop
 Inv-loop n power₀ k₀ power k = (power ≡ 2 ^ k) × ((k < power) × ((i : ℕ) → i < k → 2 ^ i < n))
