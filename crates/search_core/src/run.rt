@@ -1,16 +1,16 @@
 // The run of the step rules within a budget, from any state, by value.
 ghost use mathlib.Core.Path.{_≡_};
 ghost use mathlib.Core.Bool.{true, false};
-ghost use Prim.Native.Nat.{ℕ, _+_, _<_, _≤_, _^_};
+ghost use Prim.Native.Nat.{_+_, _<_, _≤_, _^_};
 ghost use lib.Dec.{eqb};
 ghost use lib.ListN.{length};
 ghost use Rattle.prelude.specs.Tests.{any};
 ghost use Rattle.clause_list.specs.ClauseList.{clausesOf};
 ghost use Rattle.literal.specs.Literals.{lastVariable};
 ghost use Rattle.search_rules.specs.Rules.{State, valuesOf, next};
-ghost use Rattle.search_rules.specs.Run.{total, count, run};
+ghost use Rattle.search_rules.specs.Run.{total, run};
 ghost use Rattle.search_rules.specs.Inner.{Fine, WasOpen};
-ghost use Rattle.search_core.specs.Inner.{Stored, SomeStored, kindAs, tallyOf, Advanced, endAfter, Ended};
+ghost use Rattle.search_core.specs.Inner.{Stored, SomeStored, tallyOf, Advanced, endAfter, Ended};
 use crate::steps::Moved;
 use crate::steps::StepKind;
 use crate::steps::back;
