@@ -71,13 +71,5 @@ returns-2 c =
 pub put-clauses-spec : {M : Type 1} → statement M
 put-clauses-spec =
     tie.close
-    (tie.spec
-    slice-aggregate-write
-    cast-write
-    write-requires
-    enum-known-written
-    enum-told
-    same-length
-    returns
-    same-length-2
-    returns-2)
+    (tie.spec slice-aggregate-write cast-write write-requires enum-known-written enum-told same-length returns
+    same-length-2 returns-2)
