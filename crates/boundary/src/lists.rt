@@ -4,7 +4,7 @@ ghost use Rattle.clauses.specs.Answers as counted;
 ghost use Rattle.dimacs.specs.Answers as texts;
 ghost use Rattle.boundary.specs.Numbers.{countNumbers, textNumbers};
 use clauses::answer::Count;
-use dimacs::TextSize;
+use dimacs::answer::TextSize;
 
 // The numbers of variables, clauses and words.
 #[repr(C)]

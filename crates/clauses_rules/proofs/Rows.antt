@@ -15,7 +15,7 @@ use Rattle.relational.proofs.Counts.{notBoth, pairs-count, some-count, exactly-
 use Rattle.clauses_rules.specs.Gates.{Clause}
 use Rattle.clauses_rules.specs.Translation.{Two}
 use Rattle.clauses_rules.specs.Whole.{series, pairClause, rowClauses, rowLiterals, markClauses}
-use Rattle.clauses_rules.proofs.Values.{value, satisfied, satisfied-append}
+use Rattle.clauses_rules.proofs.Values.{satisfied, satisfied-append}
 use Rattle.clauses_rules.proofs.Build.{Pairwise, nothing, more, Mean}
 use Rattle.clauses_rules.proofs.Connect.{means-opposite, mean-some}
 use Rattle.clauses_rules.proofs.Operators.{Both, pairwise-maps}

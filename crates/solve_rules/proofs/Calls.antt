@@ -16,7 +16,7 @@ use Rattle.clauses_rules.specs.Whole.{words, variableTotal, clauseTotal, wordTo
 use Rattle.clauses.specs.Answers as count
 use Rattle.clauses.specs.Answers.{fits, countAfter, countAnswer, writeAfter, writeAnswer, listAfter}
 use Rattle.clauses.proofs.Answered.{write-fits}
-use Rattle.solve_rules.specs.Answers.{Answer, copied, refused, readBackAfter, readBackAnswer, instanceBy, instanceAfter}
+use Rattle.solve_rules.specs.Answers.{copied, refused, readBackAfter, readBackAnswer, instanceBy, instanceAfter}
 use Rattle.solve_rules.specs.Demand3.{FitsLimits, ReadsBack}
 
 module _ (s : List ℕ) (h : FitsLimits s) where
