@@ -1,4 +1,4 @@
--- `operators::cells::round` meets its contract.
+-- `operators::round` meets its contract.
 use Rattle.relational.specs.Trees.{join, union}
 use Rattle.clauses_rules.specs.Translation.{translateBinary}
 use Rattle.clauses_matrix.specs.Matrices.{matrixOf}
