@@ -1,6 +1,8 @@
 // OR, AND and IFF (document 01, "Clauses", second paragraph). Past the limit of variables no gate is made.
 ghost use mathlib.Core.Path.{_≡_};
+ghost use Prim.Native.Nat.{_≤_};
 ghost use lib.IntN.{pos};
+ghost use lib.ListN.{length};
 ghost use Rattle.literal.specs.Literals.{literalOf, opposite};
 ghost use Rattle.clauses_rules.specs.Gates as spec;
 ghost use Rattle.clauses_rules.specs.Gates.{gateOf, inputClauses};
@@ -68,13 +70,14 @@ pub fn or(list: &mut [i32], tape: Tape, inputs: &[i32]) -> Made
     gate(list, tape, inputs)
 }
 
-// AND: the opposite of OR of the opposites.
+// AND of the cells of a matrix at most: the opposite of OR of the opposites.
 pub fn and(list: &mut [i32], tape: Tape, inputs: &[i32]) -> Made
     requires { ⌜ Bounded tape ⌝ }
     requires { ⌜ Inputs (tape .next) (now inputs) ⌝ }
+    requires { ⌜ length (now inputs) ≤ 64 ⌝ }
     ensures { λ r. ⌜ EmitsList spec.and (now (inputs .entry)) (now (list .entry)) tape (r .literal) (now (list .exit)) (r .tape) ⌝ }
 {
-    let mut opposites = [-1; 2016];
+    let mut opposites = [-1; 64];
     let mut k: usize = 0;
     while k < inputs.len() {
         let l = inputs[k];

@@ -10,7 +10,7 @@ use clauses_emission::Made;
 use clauses_emission::Pairing;
 use clauses_emission::Tape;
 use clauses_emission::gates::and;
-use clauses_emission::gates::apart;
+use clauses_emission::gates::both;
 use clauses_emission::gates::or;
 
 // Equal (Same) and within (Implies): AND over the cells.
@@ -62,7 +62,7 @@ pub fn none(list: &mut [i32], tape: Tape, p: Literals) -> Made
     }
 }
 
-// At most one: AND over pairs, in order, of OR(-p, -q).
+// At most one: AND over pairs, in order, of OR(-p, -q). That is the opposite of OR over the pairs of AND(p, q), gate by gate.
 pub fn lone(list: &mut [i32], tape: Tape, p: Literals) -> Made
     requires { ⌜ Bounded tape ⌝ }
     requires { ⌜ Operand (tape .next) p ⌝ }
@@ -76,7 +76,7 @@ pub fn lone(list: &mut [i32], tape: Tape, p: Literals) -> Made
     let mut i: usize = 0;
     let mut j: usize = 1;
     while j < n {
-        let made = apart(list, after, cells[i], cells[j]);
+        let made = both(list, after, cells[i], cells[j]);
         let l = made.literal;
         pairs[t] = l;
         after = made.tape;
@@ -87,5 +87,10 @@ pub fn lone(list: &mut [i32], tape: Tape, p: Literals) -> Made
             j = i + 1;
         }
     }
-    and(list, after, &pairs[..t])
+    let met = or(list, after, &pairs[..t]);
+    let end = met.tape;
+    Made {
+        literal: literal::opposite(met.literal),
+        tape: end,
+    }
 }
