@@ -172,6 +172,9 @@ all-front n (suc k) [] h a i = inside-absent n h
 all-front n (suc k) (w ∷ ws) h a zero = a 0
 all-front n (suc k) (w ∷ ws) h a (suc i) = all-front n k ws h (λ j. a (suc j)) i
 
+pub front-few : {size n : ℕ} {ws : List ℤ} (k : ℕ) → Cells size n ws → length (take k ws) ≤ 64
+front-few {size} {n} {ws} k c = omega (arith, length-take k ws, c .room)
+
 pub front-inputs : (size k n : ℕ) (ws : List ℤ) → 2 ≤ n → Cells size n ws → Inputs n (take k ws)
 front-inputs size k n ws h c = record {
   few = omega (arith, length-take k ws, c .room);

@@ -1,5 +1,6 @@
 // Comparisons, and tests of an expression (document 01, "Clauses", the last list).
 ghost use Rattle.relational.specs.Trees.{some, none, lone};
+ghost use Rattle.clauses_rules.specs.Gates as spec;
 ghost use Rattle.clauses_rules.specs.Translation.{translateTest};
 ghost use Rattle.clauses_emission.specs.Emission.{Bounded, EmitsLiteral};
 ghost use Rattle.clauses_matrix.specs.Matrices.{matrixOf, Operand, EmitsTest, compared};
@@ -9,11 +10,11 @@ use clauses_emission::Made;
 use clauses_emission::Pairing;
 use clauses_emission::Tape;
 use clauses_emission::gates::and;
-use clauses_emission::gates::apart;
+use clauses_emission::gates::both;
 use clauses_emission::gates::or;
 
 // Equal (Same) and within (Implies): AND over the cells.
-pub fn compare(list: &mut [i32], tape: Tape, kind: Pairing, p: Literals, q: Literals) -> Made
+pub fn all_matched(list: &mut [i32], tape: Tape, kind: Pairing, p: Literals, q: Literals) -> Made
     requires { ⌜ Bounded tape ⌝ }
     requires { ⌜ Operand (tape .next) p ⌝ }
     requires { ⌜ Operand (tape .next) q ⌝ }
@@ -37,6 +38,17 @@ pub fn some(list: &mut [i32], tape: Tape, p: Literals) -> Made
     or(list, tape, &cells[..n])
 }
 
+// AND of the cells.
+pub fn every(list: &mut [i32], tape: Tape, p: Literals) -> Made
+    requires { ⌜ Bounded tape ⌝ }
+    requires { ⌜ Operand (tape .next) p ⌝ }
+    ensures { λ r. ⌜ EmitsTest spec.and p (now (list .entry)) tape (r .literal) (now (list .exit)) (r .tape) ⌝ }
+{
+    let cells = p.cells;
+    let n = p.rows * p.columns;
+    and(list, tape, &cells[..n])
+}
+
 pub fn none(list: &mut [i32], tape: Tape, p: Literals) -> Made
     requires { ⌜ Bounded tape ⌝ }
     requires { ⌜ Operand (tape .next) p ⌝ }
@@ -50,7 +62,7 @@ pub fn none(list: &mut [i32], tape: Tape, p: Literals) -> Made
     }
 }
 
-// At most one: AND over pairs, in order, of OR(-p, -q).
+// At most one: AND over pairs, in order, of OR(-p, -q). That is the opposite of OR over the pairs of AND(p, q), gate by gate.
 pub fn lone(list: &mut [i32], tape: Tape, p: Literals) -> Made
     requires { ⌜ Bounded tape ⌝ }
     requires { ⌜ Operand (tape .next) p ⌝ }
@@ -64,7 +76,7 @@ pub fn lone(list: &mut [i32], tape: Tape, p: Literals) -> Made
     let mut i: usize = 0;
     let mut j: usize = 1;
     while j < n {
-        let made = apart(list, after, cells[i], cells[j]);
+        let made = both(list, after, cells[i], cells[j]);
         let l = made.literal;
         pairs[t] = l;
         after = made.tape;
@@ -75,5 +87,10 @@ pub fn lone(list: &mut [i32], tape: Tape, p: Literals) -> Made
             j = i + 1;
         }
     }
-    and(list, after, &pairs[..t])
+    let met = or(list, after, &pairs[..t]);
+    let end = met.tape;
+    Made {
+        literal: literal::opposite(met.literal),
+        tape: end,
+    }
 }

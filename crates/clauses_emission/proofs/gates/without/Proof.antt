@@ -1,4 +1,4 @@
--- `emission::gates::without` meets its contract.
+-- `gates::without` meets its contract.
 use mathlib.Core.Path.{_≡_, sym, subst}
 use mathlib.Core.List.{[], _∷_}
 use Rattle.literal.specs.Literals.{opposite, literalOf}
