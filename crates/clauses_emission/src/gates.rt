@@ -6,13 +6,11 @@ ghost use Rattle.clauses_rules.specs.Gates as spec;
 ghost use Rattle.clauses_rules.specs.Gates.{gateOf, inputClauses};
 ghost use Rattle.clauses_rules.specs.Translation as two;
 ghost use Rattle.clauses_emission.specs.Emission.{literalsOf, Inside, Inputs, Appends, Bounded, Within, EmitsList, EmitsTwo, pairing};
+use super::LIMIT;
 use super::Made;
 use super::Pairing;
 use super::Tape;
 use super::list::emit_clause;
-
-// The last next variable with which a gate is made: 16,000 variables are used then.
-const LIMIT: usize = 16001;
 
 // Writes (g, -l) for each input l of the gate of the next variable.
 fn gate_inputs(list: &mut [i32], tape: Tape, g: i32, inputs: &[i32]) -> Tape
@@ -40,10 +38,7 @@ fn gate(list: &mut [i32], tape: Tape, inputs: &[i32]) -> Made
     ensures { λ r. ⌜ EmitsList gateOf (now (inputs .entry)) (now (list .entry)) tape (r .literal) (now (list .exit)) (r .tape) ⌝ }
 {
     if LIMIT < tape.next {
-        return Made {
-            literal: 1,
-            tape: tape,
-        };
+        return Made { literal: 1, tape };
     }
     let g = literal::positive(tape.next as u32);
     let middle = gate_inputs(list, tape, g, inputs);
@@ -64,17 +59,11 @@ pub fn or(list: &mut [i32], tape: Tape, inputs: &[i32]) -> Made
     ensures { λ r. ⌜ EmitsList spec.or (now (inputs .entry)) (now (list .entry)) tape (r .literal) (now (list .exit)) (r .tape) ⌝ }
 {
     if inputs.len() == 0 {
-        return Made {
-            literal: -1,
-            tape: tape,
-        };
+        return Made { literal: -1, tape };
     }
     if inputs.len() == 1 {
         let l = inputs[0];
-        return Made {
-            literal: l,
-            tape: tape,
-        };
+        return Made { literal: l, tape };
     }
     gate(list, tape, inputs)
 }

@@ -3,6 +3,9 @@
 pub mod gates; // gates.rt: OR, AND, IFF, and two literals
 pub mod list; // list.rt: one clause after the other
 
+// The last next variable with which a gate is made: 16,000 variables are used then.
+pub const LIMIT: usize = 16001;
+
 // Where the translation stands: the next variable, and the clauses and words so far.
 pub struct Tape {
     pub next: usize,

@@ -2,23 +2,20 @@
 ghost use mathlib.Core.Path.{_≡_};
 ghost use Rattle.literal.specs.Literals.{literalOf, opposite};
 ghost use Rattle.relational.specs.Trees.{Binary, Unary, Comparison, Test, Connective, Quantifier, binary-symbol, unary-symbol, comparison-symbol, test-symbol, connective-symbol, quantifier-symbol, symbolOf};
-ghost use Rattle.clauses_rules.specs.Gates as spec;
 ghost use Rattle.clauses_rules.specs.Translation.{translateBinary, translateUnary, translateComparison, translateTest, translateConnective, translateQuantifier};
 ghost use Rattle.clauses_emission.specs.Emission.{Inside, Bounded, EmitsLiteral, EmitsTwo};
 ghost use Rattle.clauses_matrix.specs.Matrices.{matrixOf, Operand, EmitsBinary, EmitsUnary, EmitsTest};
 use clauses_emission::Made;
 use clauses_emission::Pairing;
-use clauses_emission::Tape;
-use clauses_emission::gates::and;
 use clauses_emission::gates::pair;
-use clauses_matrix::Literals;
 use clauses_matrix::MadeMatrix;
 use clauses_matrix::operators::closure;
 use clauses_matrix::operators::inverse;
 use clauses_matrix::operators::join;
 use clauses_matrix::operators::matched;
 use clauses_matrix::operators::product;
-use clauses_matrix::truths::compare;
+use clauses_matrix::truths::all_matched;
+use clauses_matrix::truths::every;
 use clauses_matrix::truths::lone;
 use clauses_matrix::truths::none;
 use clauses_matrix::truths::some;
@@ -71,8 +68,8 @@ pub fn contrast(list: &mut [i32], kind: usize, p: MadeMatrix, q: MadeMatrix) -> 
     let right = q.matrix;
     let tape = q.tape;
     match kind {
-        20 => compare(list, tape, Pairing::Same, left, right),
-        _ => compare(list, tape, Pairing::Implies, left, right),
+        20 => all_matched(list, tape, Pairing::Same, left, right),
+        _ => all_matched(list, tape, Pairing::Implies, left, right),
     }
 }
 
@@ -120,17 +117,6 @@ pub fn connect(list: &mut [i32], kind: usize, p: Made, q: Made) -> Made
         33 => pair(list, tape, Pairing::Implies, p.literal, q.literal),
         _ => pair(list, tape, Pairing::Same, p.literal, q.literal),
     }
-}
-
-// AND of the cells.
-fn every(list: &mut [i32], tape: Tape, p: Literals) -> Made
-    requires { ⌜ Bounded tape ⌝ }
-    requires { ⌜ Operand (tape .next) p ⌝ }
-    ensures { λ r. ⌜ EmitsTest spec.and p (now (list .entry)) tape (r .literal) (now (list .exit)) (r .tape) ⌝ }
-{
-    let words = p.cells;
-    let n = p.rows * p.columns;
-    and(list, tape, &words[..n])
 }
 
 // Kinds 40 and 41, over the literals of the bodies: for all, for some.

@@ -18,6 +18,8 @@ use clauses_emission::Tape;
 use clauses_emission::gates::both;
 use clauses_emission::gates::or;
 use clauses_emission::gates::pair;
+use nodes::sizes::join_columns;
+use nodes::sizes::rounds;
 
 // The cells at the same place of p and q, place by place.
 pub fn matched_cells(
@@ -46,10 +48,7 @@ pub fn matched_cells(
         after = made.tape;
         k += 1;
     }
-    MadeCells {
-        cells: cells,
-        tape: after,
-    }
+    MadeCells { cells, tape: after }
 }
 
 // Union (Either), intersection (Both) and difference (Without).
@@ -67,19 +66,12 @@ pub fn matched(list: &mut [i32], tape: Tape, kind: Pairing, p: Literals, q: Lite
         arity: p.arity,
         rows: p.rows,
         columns: p.columns,
-        cells: cells,
+        cells,
     };
     MadeMatrix {
-        matrix: matrix,
+        matrix,
         tape: after,
     }
-}
-
-// A set on the right of a join is a column.
-fn join_columns(q: Literals) -> usize
-    ensures { λ r. ⌜ r ≡ matrices.joinColumns (matrixOf q) ⌝ }
-{
-    if q.arity == 1 { 1 } else { q.columns }
 }
 
 // The cell of row i and column j of a join: OR over the middle atoms of AND.
@@ -92,7 +84,7 @@ fn join_cell(list: &mut [i32], tape: Tape, p: Literals, q: Literals, i: usize, j
     ensures { λ r. ⌜ EmitsLiteral (joinCell (matrixOf p) (matrixOf q) (i, j) (tape .next))
         (now (list .entry)) tape (r .literal) (now (list .exit)) (r .tape) ⌝ }
 {
-    let columns = join_columns(q);
+    let columns = join_columns(q.arity, q.columns);
     let n = p.columns;
     let left = p.cells;
     let right = q.cells;
@@ -117,7 +109,7 @@ fn join_cells(list: &mut [i32], tape: Tape, p: Literals, q: Literals) -> MadeCel
     ensures { λ r. ⌜ EmitsCells (p .rows * matrices.joinColumns (matrixOf q)) (joinCells (matrixOf p) (matrixOf q) (tape .next))
         (now (list .entry)) tape (r .cells) (now (list .exit)) (r .tape) ⌝ }
 {
-    let columns = join_columns(q);
+    let columns = join_columns(q.arity, q.columns);
     let size = p.rows * columns;
     let mut cells = [-1; 64];
     let mut after = tape;
@@ -129,10 +121,7 @@ fn join_cells(list: &mut [i32], tape: Tape, p: Literals, q: Literals) -> MadeCel
         after = made.tape;
         k += 1;
     }
-    MadeCells {
-        cells: cells,
-        tape: after,
-    }
+    MadeCells { cells, tape: after }
 }
 
 pub fn join(list: &mut [i32], tape: Tape, p: Literals, q: Literals) -> MadeMatrix
@@ -141,7 +130,7 @@ pub fn join(list: &mut [i32], tape: Tape, p: Literals, q: Literals) -> MadeMatri
     requires { ⌜ Operand (tape .next) q ⌝ }
     ensures { λ r. ⌜ EmitsBinary (translateBinary join) p q (now (list .entry)) tape (r .matrix) (now (list .exit)) (r .tape) ⌝ }
 {
-    let columns = join_columns(q);
+    let columns = join_columns(q.arity, q.columns);
     let made = join_cells(list, tape, p, q);
     let cells = made.cells;
     let after = made.tape;
@@ -149,8 +138,8 @@ pub fn join(list: &mut [i32], tape: Tape, p: Literals, q: Literals) -> MadeMatri
         let relation = Literals {
             arity: 2,
             rows: p.rows,
-            columns: columns,
-            cells: cells,
+            columns,
+            cells,
         };
         return MadeMatrix {
             matrix: relation,
@@ -161,7 +150,7 @@ pub fn join(list: &mut [i32], tape: Tape, p: Literals, q: Literals) -> MadeMatri
         arity: 1,
         rows: 1,
         columns: p.rows * columns,
-        cells: cells,
+        cells,
     };
     MadeMatrix {
         matrix: set,
@@ -193,8 +182,8 @@ pub fn product(list: &mut [i32], tape: Tape, p: Literals, q: Literals) -> MadeMa
     let relation = Literals {
         arity: 2,
         rows: p.columns,
-        columns: columns,
-        cells: cells,
+        columns,
+        cells,
     };
     MadeMatrix {
         matrix: relation,
@@ -223,11 +212,11 @@ pub fn inverse(tape: Tape, p: Literals) -> MadeMatrix
         arity: 2,
         rows: columns,
         columns: rows,
-        cells: cells,
+        cells,
     };
     MadeMatrix {
         matrix: relation,
-        tape: tape,
+        tape,
     }
 }
 
@@ -241,23 +230,6 @@ fn round(list: &mut [i32], tape: Tape, p: Literals) -> MadeMatrix
     let joined = made.matrix;
     let after = made.tape;
     matched(list, after, Pairing::Either, p, joined)
-}
-
-// The least k with 2^k at least n.
-fn rounds(n: usize) -> usize
-    requires { ⌜ n ≤ 8 ⌝ }
-    ensures { λ r. ⌜ r ≡ matrices.rounds n ⌝ }
-{
-    if n <= 1 {
-        return 0;
-    }
-    if n <= 2 {
-        return 1;
-    }
-    if n <= 4 {
-        return 2;
-    }
-    3
 }
 
 pub fn closure(list: &mut [i32], tape: Tape, p: Literals) -> MadeMatrix
@@ -276,7 +248,7 @@ pub fn closure(list: &mut [i32], tape: Tape, p: Literals) -> MadeMatrix
         k += 1;
     }
     MadeMatrix {
-        matrix: matrix,
+        matrix,
         tape: after,
     }
 }

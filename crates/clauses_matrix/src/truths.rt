@@ -1,5 +1,6 @@
 // Comparisons, and tests of an expression (document 01, "Clauses", the last list).
 ghost use Rattle.relational.specs.Trees.{some, none, lone};
+ghost use Rattle.clauses_rules.specs.Gates as spec;
 ghost use Rattle.clauses_rules.specs.Translation.{translateTest};
 ghost use Rattle.clauses_emission.specs.Emission.{Bounded, EmitsLiteral};
 ghost use Rattle.clauses_matrix.specs.Matrices.{matrixOf, Operand, EmitsTest, compared};
@@ -13,7 +14,7 @@ use clauses_emission::gates::apart;
 use clauses_emission::gates::or;
 
 // Equal (Same) and within (Implies): AND over the cells.
-pub fn compare(list: &mut [i32], tape: Tape, kind: Pairing, p: Literals, q: Literals) -> Made
+pub fn all_matched(list: &mut [i32], tape: Tape, kind: Pairing, p: Literals, q: Literals) -> Made
     requires { ⌜ Bounded tape ⌝ }
     requires { ⌜ Operand (tape .next) p ⌝ }
     requires { ⌜ Operand (tape .next) q ⌝ }
@@ -35,6 +36,17 @@ pub fn some(list: &mut [i32], tape: Tape, p: Literals) -> Made
     let cells = p.cells;
     let n = p.rows * p.columns;
     or(list, tape, &cells[..n])
+}
+
+// AND of the cells.
+pub fn every(list: &mut [i32], tape: Tape, p: Literals) -> Made
+    requires { ⌜ Bounded tape ⌝ }
+    requires { ⌜ Operand (tape .next) p ⌝ }
+    ensures { λ r. ⌜ EmitsTest spec.and p (now (list .entry)) tape (r .literal) (now (list .exit)) (r .tape) ⌝ }
+{
+    let cells = p.cells;
+    let n = p.rows * p.columns;
+    and(list, tape, &cells[..n])
 }
 
 pub fn none(list: &mut [i32], tape: Tape, p: Literals) -> Made

@@ -1,4 +1,4 @@
--- `operators::cells::closure` meets its contract. The loop's invariant: the rounds passed are worked out.
+-- `operators::closure` meets its contract. The loop's invariant: the rounds passed are worked out.
 use borrow.Author.Needs.{needs}
 use mathlib.Core.Path.{_≡_}
 use native.Mathlib.Omega.{arith}

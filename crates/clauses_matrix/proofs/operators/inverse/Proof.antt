@@ -1,4 +1,4 @@
--- `operators::cells::inverse` meets its contract. The loop's invariant: the cells passed are transposed.
+-- `operators::inverse` meets its contract. The loop's invariant: the cells passed are transposed.
 use mathlib.Core.Path.{_≡_, refl, sym, ap, _∙_}
 use mathlib.Core.List.{List, map}
 use Prim.Native.Nat.{ℕ, _+_, _-_, _*_, _/_, _%_, _≤_, _<_}

@@ -1,4 +1,4 @@
--- `operators::cells::join_cell` meets its contract. The loop's invariant: the middle atoms passed are worked out.
+-- `operators::join_cell` meets its contract. The loop's invariant: the middle atoms passed are worked out.
 use mathlib.Core.Path.{_≡_, _∙_}
 use mathlib.Core.List.{map}
 use Prim.Native.Nat.{ℕ, _+_, _-_, _*_, _≤_, _<_}
@@ -32,7 +32,7 @@ abbrev μ-loop : tie.MeasureT-loop
 μ-loop list₀ i j columns n left right middles₀ after₀ k₀ list middles after k = n - k
 
 join-columns-requires : tie.Need-join-columns-requires Inv-loop μ-loop
-join-columns-requires c κs = search needs
+join-columns-requires c κs = c .pre .1 .1 .0 .columns
 
 loop-holds : tie.Need-loop-holds Inv-loop μ-loop
 loop-holds c =
@@ -65,7 +65,7 @@ right-below : (c : tie.In-loop Inv-loop μ-loop)
     → c .before .loop .k * c .before .before .before .before .join-columns .result + c .before .before .before .before .before .args .j < 64
 right-below c =
     let start = c .before .before .before .before .before in
-    rw (c .before .before .before .before .join-columns .ensures)
+    rw (c .before .before .before .before .join-columns .ensures .0)
     (place-in (start .args .p .columns) (joinColumns (matrixOf (start .args .q))) (c .before .loop .k) (start .args .j) (columns-few start)
     (join-few (start .args .tape .next) (start .args .q) (start .pre .1 .1 .0)) (c .loop-test .taken) (start .pre .1 .1 .1 .1))
 
@@ -191,7 +191,7 @@ returns c =
     let h = place-in (p .rows) (p .columns) i a (start .pre .1 .0 .rows) (start .pre .1 .0 .columns) (start .pre .1 .1 .1 .0) l in
     let g = place-in (p .columns) (joinColumns (matrixOf q)) a j (start .pre .1 .0 .columns) few l (start .pre .1 .1 .1 .1) in
     rw (
-      columns .ensures,
+      columns .ensures .0,
       operand-at n p (i * p .columns + a) (start .pre .1 .0) h,
       operand-at n q (a * joinColumns (matrixOf q) + j) (start .pre .1 .1 .0) g,
     )

@@ -1,4 +1,4 @@
--- `operators::cells::join_cells` meets its contract. The loop's invariant: the cells passed are worked out.
+-- `operators::join_cells` meets its contract. The loop's invariant: the cells passed are worked out.
 use borrow.Author.Needs.{needs}
 use mathlib.Core.Path.{refl, sym, ap}
 use mathlib.Core.List.{map}
@@ -12,7 +12,7 @@ use Rattle.clauses_matrix.specs.Matrices.{matrixOf, EmitsCells, joinCell
 use Rattle.clauses_emission.proofs.Steps.{emits-as}
 use Rattle.clauses_matrix.proofs.Numbers.{placeOf, places-by-number, some-columns, row-below, column-below}
 use Rattle.clauses_matrix.proofs.Fills.{cells-start, cells-next, cells-done, operand-grow, size-fits, cell-below, one-more}
-use Rattle.clauses_matrix.proofs.Fills.{fits-four, fits-next, join-few}
+use Rattle.clauses_matrix.proofs.Fills.{fits-four, fits-next}
 use Rattle.clauses_matrix.proofs.Regulars.{regular-join-cell}
 use Rattle.relational.specs.Matrices.{upto}
 use Rattle.clauses_matrix.proofs.operators.join_cells.Statement.{statement}
@@ -27,12 +27,10 @@ abbrev μ-loop : tie.MeasureT-loop
 μ-loop list₀ p q columns size cells₀ after₀ k₀ list cells after k = size - k
 
 join-columns-requires : tie.Need-join-columns-requires Inv-loop μ-loop
-join-columns-requires c κs = search needs
+join-columns-requires c κs = c .pre .1 .1 .columns
 
 few-columns : (c : tie.After-join-columns Inv-loop μ-loop) → c .join-columns .result ≤ 8
-few-columns c =
-    let start = c .before in
-    rw (c .join-columns .ensures) (join-few (start .args .tape .next) (start .args .q) (start .pre .1 .1))
+few-columns c = c .join-columns .ensures .1
 
 below : (c : tie.In-loop Inv-loop μ-loop) → c .before .loop .k < 64
 below c =
@@ -76,7 +74,7 @@ join-cell-requires c κs =
           operand-grow (loop .inv .1 .grows) (start .pre .1 .1),
           (
             row-below rows (columns .result) (loop .k) (c .before .loop-test .taken),
-            rw (← columns .ensures) (column-below rows (columns .result) (loop .k) (c .before .loop-test .taken)),
+            rw (← columns .ensures .0) (column-below rows (columns .result) (loop .k) (c .before .loop-test .taken)),
           ),
         ),
       ),
@@ -126,7 +124,7 @@ returns c =
     let cells = cells-done (joinCell p q) (regular-join-cell p q) (placeOf (columns .result)) (placeOf (columns .result)) (loop .k) size (loop .cells)
     (loop .inv .0) (c .loop-test .left) (λ j l. refl) (loop .inv .1)
     in
-    rw (columns .ensures) at
+    rw (columns .ensures .0) at
     (emits-as (ap (λ ts. each (joinCell p q) ts (start .args .tape .next)) (sym (places-by-number rows (columns .result)))) refl cells)
 
 pub join-cells-spec : {M : Type 1} → statement M

@@ -1,4 +1,4 @@
--- `operators::cells::matched` meets its contract.
+-- `operators::matched` meets its contract.
 use mathlib.Core.Path.{refl}
 use Rattle.relational.specs.Matrices.{sameSize}
 use Rattle.clauses_matrix.specs.Matrices.{matrixOf, paired}

@@ -1,4 +1,4 @@
--- `operators::cells::matched_cells` meets its contract. The loop's invariant: the cells passed are worked out.
+-- `operators::matched_cells` meets its contract. The loop's invariant: the cells passed are worked out.
 use mathlib.Core.Path.{_≡_}
 use mathlib.Core.List.{map}
 use Prim.Native.Nat.{ℕ, _-_, _*_, _≤_, _<_}

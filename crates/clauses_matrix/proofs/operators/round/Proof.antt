@@ -1,10 +1,10 @@
--- `operators::cells::round` meets its contract.
+-- `operators::round` meets its contract.
 use Rattle.relational.specs.Trees.{join, union}
 use Rattle.clauses_rules.specs.Translation.{translateBinary}
 use Rattle.clauses_matrix.specs.Matrices.{matrixOf}
 use Rattle.clauses_emission.proofs.Steps.{emits-bind}
 use Rattle.clauses_matrix.proofs.Fills.{operand-grow}
-use Rattle.clauses_matrix.proofs.Regulars.{regular-join, regular-union}
+use Rattle.clauses_matrix.proofs.Regulars.{regular-binary}
 use borrow.Author.Needs.{needs}
 use Rattle.clauses_matrix.proofs.operators.round.Statement.{statement}
 use Rattle.clauses_matrix.proofs.operators.round.Tie as tie
@@ -25,7 +25,7 @@ returns : tie.Need-returns
 returns c =
     let start = c .before .before .before .before .before .before .before .before in
     let p = matrixOf (start .args .p) in
-    emits-bind (translateBinary join p p) (λ q. translateBinary union p q) (regular-join p p) (regular-union p)
+    emits-bind (translateBinary join p p) (translateBinary union p) (regular-binary join p p) (regular-binary union p)
     (c .before .before .before .before .before .before .join .ensures) (c .before .matched .ensures)
 
 pub round-spec : {M : Type 1} → statement M

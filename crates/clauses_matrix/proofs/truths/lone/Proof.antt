@@ -1,4 +1,4 @@
--- `operators::tests::lone` meets its contract. The loop's invariant: the pairs passed are worked out.
+-- `truths::lone` meets its contract. The loop's invariant: the pairs passed are worked out.
 use borrow.Author.Needs.{needs}
 use mathlib.Core.Path.{_≡_, sym, _∙_}
 use Prim.Native.Nat.{ℕ, _+_, _*_, _≤_, _<_}

@@ -1,4 +1,4 @@
--- `operators::tests::none` meets its contract.
+-- `truths::none` meets its contract.
 use mathlib.Core.Path.{_≡_}
 use Rattle.literal.specs.Literals.{opposite, literalOf}
 use Rattle.literal.proofs.Signs.{read}

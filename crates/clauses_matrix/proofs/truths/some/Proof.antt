@@ -1,4 +1,4 @@
--- `operators::tests::some` meets its contract.
+-- `truths::some` meets its contract.
 use Prim.Native.Nat.{_*_}
 use Rattle.clauses_matrix.proofs.Fills.{front-inputs, front-length}
 use borrow.Author.Needs.{needs}

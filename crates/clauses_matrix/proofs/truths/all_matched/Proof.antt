@@ -1,4 +1,4 @@
--- `operators::tests::compare` meets its contract.
+-- `truths::all_matched` meets its contract.
 use Prim.Native.Nat.{_*_}
 use Rattle.clauses_rules.specs.Gates.{and}
 use Rattle.clauses_matrix.specs.Matrices.{matrixOf, paired}
@@ -6,8 +6,8 @@ use Rattle.clauses_emission.proofs.Steps.{regular-and, emits-bind}
 use Rattle.clauses_matrix.proofs.Fills.{front-inputs, front-length}
 use Rattle.clauses_matrix.proofs.Regulars.{regular-paired}
 use borrow.Author.Needs.{needs}
-use Rattle.clauses_matrix.proofs.truths.compare.Statement.{statement}
-use Rattle.clauses_matrix.proofs.truths.compare.Tie as tie
+use Rattle.clauses_matrix.proofs.truths.all_matched.Statement.{statement}
+use Rattle.clauses_matrix.proofs.truths.all_matched.Tie as tie
 
 matched-cells-requires : tie.Need-matched-cells-requires
 matched-cells-requires c κs = search needs
@@ -46,8 +46,8 @@ returns c =
     let q = matrixOf (start .args .q) in
     emits-bind (paired (start .args .kind) p q) and (regular-paired (start .args .kind) p q) regular-and (made .ensures) (c .before .and .ensures)
 
-pub compare-spec : {M : Type 1} → statement M
-compare-spec =
+pub all-matched-spec : {M : Type 1} → statement M
+all-matched-spec =
     tie.close
     (tie.spec
     matched-cells-requires
