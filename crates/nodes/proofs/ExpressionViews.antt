@@ -1,18 +1,21 @@
--- What the tree of a node and its form say of the node's symbol, its fields, and the trees of the nodes that they name: expressions.
-use mathlib.Core.Path.{_≡_, refl, sym, _∙_}
+-- What the form of a node says of it where its tree is an expression.
+use mathlib.Core.Path.{_≡_, refl, sym}
 use Prim.Native.Nat.{ℕ, _<_}
-use native.Mathlib.Omega.{arith}
-use Rattle.kinds.specs.Kinds.{rowOf}
-use Rattle.sheet_rules.specs.Blocks.{Sheet, variableCount, relationCount, nodeCount, kind, fieldA, fieldB}
+use borrow.Author.Tests.{ltb-true}
+use Rattle.sheet_rules.specs.Blocks.{Sheet, relationCount, kind, fieldA, fieldB}
 use Rattle.sheet_rules.specs.Facts.{Facts}
-use Rattle.relational.specs.Trees.{Leaf, relation, Binary, Unary, Expression, leaf, binary, unary, comprehension, Symbol, leaf-symbol, binary-symbol, unary-symbol, comparison-symbol, test-symbol, connective-symbol, quantifier-symbol, comprehension-symbol, negation-symbol, unknown-symbol, symbolOf, treeBy, expression}
+use Rattle.relational.specs.Trees.{Leaf, relation, variable, atoms, identity, Binary, union, intersection, difference, join, product}
+use Rattle.relational.specs.Trees.{Unary, inverse, closure, Expression, leaf, binary, unary, comprehension, expression, formula}
+use Rattle.relational.specs.Trees.{Symbol, leaf-symbol, binary-symbol, unary-symbol, comparison-symbol, test-symbol, connective-symbol}
+use Rattle.relational.specs.Trees.{quantifier-symbol, comprehension-symbol, negation-symbol, unknown-symbol, symbolOf}
 use Rattle.nodes.specs.declared.forms.ExpressionForm.{ExpressionForm}
 use Rattle.nodes.specs.declared.forms.ExpressionForm.the-variants as form
 use Rattle.nodes.specs.declared.forms.Node.{Node}
-use Rattle.nodes.specs.Nodes.{expressionForm, nodeAt, treeAt, IsExpression, IsFormula}
-use Rattle.relational.proofs.Rows.{row-of-symbol}
+use Rattle.nodes.specs.Nodes.{expressionForm, nodeAt, IsExpression}
+use Rattle.relational.proofs.Rows.{ruleOfBinary, ruleOfUnary, rowOfSymbol, row-of-symbol}
 use Rattle.nodes.proofs.Numbers.{relation-symbol}
-use Rattle.nodes.proofs.Views.{Reached, expressed, formed, whole-expression, no-both, expression-there, formBy, form-by, field-a, field-b, before, tree-of, tree-by, lower, same-expression}
+use Rattle.nodes.proofs.Views.{Reached, TwoAt, OneAt, BodyAt, expressions, formulas, no-both}
+use Rattle.nodes.proofs.Views.{field-a, field-b, grown, grows-from, two-at, one-at, body-at}
 
 module _ (sheet : Sheet) (v : ℕ) (node : Node) where
   pub record LeafAt (e : Expression) : Type 0 where
@@ -21,27 +24,15 @@ module _ (sheet : Sheet) (v : ℕ) (node : Node) where
     pub names : node .kind ≡ 1 → node .a < relationCount sheet
     pub is : e ≡ leaf it (node .a)
 
-  pub record BinaryAt (e : Expression) : Type 0 where
-    pub it : Binary
-    pub symbol : symbolOf (node .kind) ≡ binary-symbol it
-    pub lower-a : node .a < v
-    pub lower-b : node .b < v
-    pub left : IsExpression sheet (node .a)
-    pub right : IsExpression sheet (node .b)
-    pub is : e ≡ binary it (left .it) (right .it)
+  abbrev pub BinaryAt : Expression → Type 0
+  BinaryAt = TwoAt sheet v node binary-symbol expression binary
 
-  pub record UnaryAt (e : Expression) : Type 0 where
-    pub it : Unary
-    pub symbol : symbolOf (node .kind) ≡ unary-symbol it
-    pub lower-a : node .a < v
-    pub left : IsExpression sheet (node .a)
-    pub is : e ≡ unary it (left .it)
+  abbrev pub UnaryAt : Expression → Type 0
+  UnaryAt = OneAt sheet v node unary-symbol expression unary
 
-  pub record ComprehensionAt (e : Expression) : Type 0 where
-    pub names : node .a < 4
-    pub lower-b : node .b < v
-    pub body : IsFormula sheet (node .b)
-    pub is : e ≡ comprehension (node .a) (body .it)
+  -- the one operator that binds a variable
+  abbrev pub ComprehensionAt : Expression → Type 0
+  ComprehensionAt = BodyAt sheet v node {O = Unit {0}} (λ o. comprehension-symbol) formula (λ o. comprehension)
 
   -- what a form says of the node
   abbrev ExpressionView : Expression → ExpressionForm → Type 0
@@ -50,98 +41,65 @@ module _ (sheet : Sheet) (v : ℕ) (node : Node) where
   ExpressionView e form.Unary = UnaryAt e
   ExpressionView e form.Comprehension = ComprehensionAt e
 
-module _ (sheet : Sheet) (fine : Facts sheet) (v : ℕ) (e : Expression) (h : treeAt sheet v ≡ expression e) where
-  there : v < nodeCount sheet
-  there = expression-there (record { it = e; is = h })
+leaf-form : (l : Leaf) → expressionForm (rowOfSymbol (leaf-symbol l) .rule) ≡ form.Leaf
+leaf-form relation = refl
+leaf-form variable = refl
+leaf-form atoms = refl
+leaf-form identity = refl
 
-  -- the tree grows from the trees before it
-  grown : (s : Symbol) → symbolOf (kind sheet v) ≡ s
-      → treeBy s (fieldA sheet v) (before sheet v (fieldA sheet v)) (before sheet v (fieldB sheet v)) ≡ expression e
-  grown s q = sym (tree-by sheet fine v there s q) ∙ h
+binary-form : (o : Binary) → expressionForm (ruleOfBinary o) ≡ form.Binary
+binary-form union = refl
+binary-form intersection = refl
+binary-form difference = refl
+binary-form join = refl
+binary-form product = refl
 
-  expression-by : (s : Symbol) → symbolOf (kind sheet v) ≡ s → ExpressionView sheet v (nodeAt (sheet .nodes) v) e (formBy s)
+unary-form : (o : Unary) → expressionForm (ruleOfUnary o) ≡ form.Unary
+unary-form inverse = refl
+unary-form closure = refl
+
+module _ {sheet : Sheet} {v : ℕ} (fine : Facts sheet) (tree : IsExpression sheet v) where
+  expression-by : (s : Symbol) → symbolOf (kind sheet v) ≡ s
+      → ExpressionView sheet v (nodeAt (sheet .nodes) v) (tree .it) (expressionForm (rowOfSymbol s .rule))
   expression-by (leaf-symbol l) q =
-      let s : Symbol = leaf-symbol l in
-      record {
+      rw (leaf-form l)
+      (record {
         it = l;
         symbol = q;
-        names = λ k.
-            lower (fieldA sheet v) (relationCount sheet)
-            (field-a sheet fine v there (leaf-symbol relation) (relation-symbol (kind sheet v) k));
-        is = same-expression (grown s q);
-      }
+        names = λ k. ltb-true (fieldA sheet v) (relationCount sheet) (field-a expressions fine tree (relation-symbol (kind sheet v) k));
+        is = expressions .same (grown expressions fine tree q);
+      })
   expression-by (binary-symbol o) q =
-      let s : Symbol = binary-symbol o in
-      let a : fieldA sheet v < v = lower (fieldA sheet v) v (field-a sheet fine v there s q) in
-      let b : fieldB sheet v < v = lower (fieldB sheet v) v (field-b sheet fine v there s q) in
-      let t = expressed (before sheet v (fieldA sheet v)) _ _ (whole-expression e) (grown s q) in
-      let u = expressed (before sheet v (fieldB sheet v)) _ _ (whole-expression e) (t .grown) in
-      record {
-        it = o;
-        symbol = q;
-        lower-a = a;
-        lower-b = b;
-        left = record { it = t .it; is = tree-of sheet v there a (t .is) };
-        right = record { it = u .it; is = tree-of sheet v there b (u .is) };
-        is = same-expression (u .grown);
-      }
+      rw (binary-form o)
+      (two-at expressions fine tree expressions binary-symbol o q binary
+      (field-a expressions fine tree q) (field-b expressions fine tree q) (grown expressions fine tree q))
   expression-by (unary-symbol o) q =
-      let s : Symbol = unary-symbol o in
-      let a : fieldA sheet v < v = lower (fieldA sheet v) v (field-a sheet fine v there s q) in
-      let t = expressed (before sheet v (fieldA sheet v)) _ _ (whole-expression e) (grown s q) in
-      record {
-        it = o;
-        symbol = q;
-        lower-a = a;
-        left = record { it = t .it; is = tree-of sheet v there a (t .is) };
-        is = same-expression (t .grown);
-      }
+      rw (unary-form o)
+      (one-at expressions fine tree expressions unary-symbol o q unary (field-a expressions fine tree q) (grown expressions fine tree q))
   expression-by (comparison-symbol o) q =
-      let s : Symbol = comparison-symbol o in
-      let t = expressed (before sheet v (fieldA sheet v)) _ _ (whole-expression e) (grown s q) in
-      let u = expressed (before sheet v (fieldB sheet v)) _ _ (whole-expression e) (t .grown) in
-      no-both e _ (u .grown)
+      let t = grows-from expressions fine tree expressions (fieldA sheet v) _ (grown expressions fine tree q) in
+      let u = grows-from expressions fine tree expressions (fieldB sheet v) _ (t .grown) in
+      no-both _ _ (u .grown)
   expression-by (test-symbol o) q =
-      let s : Symbol = test-symbol o in
-      let t = expressed (before sheet v (fieldA sheet v)) _ _ (whole-expression e) (grown s q) in
-      no-both e _ (t .grown)
+      no-both _ _ (grows-from expressions fine tree expressions (fieldA sheet v) _ (grown expressions fine tree q) .grown)
   expression-by (connective-symbol o) q =
-      let s : Symbol = connective-symbol o in
-      let t = formed (before sheet v (fieldA sheet v)) _ _ (whole-expression e) (grown s q) in
-      let u = formed (before sheet v (fieldB sheet v)) _ _ (whole-expression e) (t .grown) in
-      no-both e _ (u .grown)
+      let t = grows-from expressions fine tree formulas (fieldA sheet v) _ (grown expressions fine tree q) in
+      let u = grows-from expressions fine tree formulas (fieldB sheet v) _ (t .grown) in
+      no-both _ _ (u .grown)
   expression-by (quantifier-symbol o) q =
-      let s : Symbol = quantifier-symbol o in
-      let t = formed (before sheet v (fieldB sheet v)) _ _ (whole-expression e) (grown s q) in
-      no-both e _ (t .grown)
+      no-both _ _ (grows-from expressions fine tree formulas (fieldB sheet v) _ (grown expressions fine tree q) .grown)
   expression-by comprehension-symbol q =
-      let s : Symbol = comprehension-symbol in
-      let b : fieldB sheet v < v = lower (fieldB sheet v) v (field-b sheet fine v there s q) in
-      let t = formed (before sheet v (fieldB sheet v)) _ _ (whole-expression e) (grown s q) in
-      record {
-        names = omega (arith, lower (fieldA sheet v) (variableCount sheet) (field-a sheet fine v there s q), fine .counts .few-variables);
-        lower-b = b;
-        body = record { it = t .it; is = tree-of sheet v there b (t .is) };
-        is = same-expression (t .grown);
-      }
+      body-at expressions fine tree formulas (λ o. comprehension-symbol) tt q (λ o. comprehension)
+      (field-a expressions fine tree q) (field-b expressions fine tree q) (grown expressions fine tree q)
   expression-by negation-symbol q =
-      let s : Symbol = negation-symbol in
-      let t = formed (before sheet v (fieldA sheet v)) _ _ (whole-expression e) (grown s q) in
-      no-both e _ (t .grown)
-  expression-by unknown-symbol q = absurd (whole-expression e (sym (grown unknown-symbol q)))
-
-  form-of : expressionForm (rowOf (kind sheet v) .rule) ≡ formBy (symbolOf (kind sheet v))
-  form-of = rw (row-of-symbol (kind sheet v)) (form-by (symbolOf (kind sheet v)))
-
-  expression-view : (x : ExpressionForm) → expressionForm (rowOf (kind sheet v) .rule) ≡ x
-      → ExpressionView sheet v (nodeAt (sheet .nodes) v) e x
-  expression-view x p =
-      let w : formBy (symbolOf (kind sheet v)) ≡ x = sym form-of ∙ p in
-      rw (← w) (expression-by (symbolOf (kind sheet v)) refl)
+      no-both _ _ (grows-from expressions fine tree formulas (fieldA sheet v) _ (grown expressions fine tree q) .grown)
+  expression-by unknown-symbol q = absurd (expressions .whole (tree .it) (sym (grown expressions fine tree q)))
 
 module _ {sheet : Sheet} {v : ℕ} {node : Node} (h : Reached sheet v node IsExpression) where
   view : (x : ExpressionForm) → node .expression ≡ x → ExpressionView sheet v node (h .tree .it) x
-  view x p = rw (h .read) (expression-view sheet (h .facts) v (h .tree .it) (h .tree .is) x (rw (h .read) at p))
+  view x p =
+      let w : expressionForm (rowOfSymbol (symbolOf (kind sheet v)) .rule) ≡ x = rw (h .read, row-of-symbol (kind sheet v)) at p in
+      rw (h .read, ← w) (expression-by (h .facts) (h .tree) (symbolOf (kind sheet v)) refl)
 
   pub at-leaf : node .expression ≡ form.Leaf → LeafAt sheet v node (h .tree .it)
   at-leaf p = view form.Leaf p

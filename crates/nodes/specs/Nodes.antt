@@ -66,11 +66,13 @@ nodeAt nodes v =
 abbrev pub treeAt : Sheet → ℕ → Tree
 treeAt sheet v = getD (trees sheet) v broken
 
--- node v is an expression, a formula
-pub record IsExpression (sheet : Sheet) (v : ℕ) : Type 0 where
-  pub it : Expression
-  pub is : treeAt sheet v ≡ expression it
+-- node v has a tree of a family: an expression, a formula
+pub record IsTree {T : Type 0} (made : T → Tree) (sheet : Sheet) (v : ℕ) : Type 0 where
+  pub it : T
+  pub is : treeAt sheet v ≡ made it
 
-pub record IsFormula (sheet : Sheet) (v : ℕ) : Type 0 where
-  pub it : Formula
-  pub is : treeAt sheet v ≡ formula it
+abbrev pub IsExpression : Sheet → ℕ → Type 0
+IsExpression = IsTree expression
+
+abbrev pub IsFormula : Sheet → ℕ → Type 0
+IsFormula = IsTree formula
