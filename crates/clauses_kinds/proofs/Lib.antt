@@ -1,3 +1,2 @@
 pub mod Lists
-mod Numbers
-pub mod LeafMatrices
+mod LeafMatrices

@@ -11,10 +11,10 @@ use Rattle.literal.specs.Literals.{Literal, literalOf}
 use Rattle.relational.specs.Matrices.{upto}
 use Rattle.relational.proofs.Places.{upto-at, length-map-from}
 use Rattle.clauses_rules.specs.Translation.{absent}
-use Rattle.clauses_emission.specs.Emission.{Inside, literalsOf, Inputs}
+use Rattle.clauses_emission.specs.Emission.{Inside, literalsOf}
 use Rattle.clauses_matrix.specs.Matrices.{Cells, cellsOf}
 use Rattle.clauses_emission.proofs.Ranges.{literal-at, inside-absent}
-use Rattle.clauses_kinds.specs.Terms.{Filled}
+use Rattle.clauses_kinds.specs.Leaves.{Filled}
 
 -- within a list the default is not read
 pub getD-any : {A : Type 0} (l : List A) (i : ℕ) (d e : A) → i < length l → getD l i d ≡ getD l i e
@@ -82,18 +82,3 @@ module _ (f : ℕ → Literal) where
       at i (yes p) (yes q) = rw (literal-at ws i (omega (arith, h .room)), h .done i q) (inside i q)
       at i (yes p) (no q) = rw (literal-at ws i (omega (arith, h .room)), h .rest i (omega arith) p) (inside-absent m two)
       at i (no p) d = rw (← literal-of ws i, List·getD-eq-default ws (negsuc 0) {n = i} (omega (arith, h .room))) (inside-absent m two)
-
--- cells as the inputs of a gate
-pub cells-inputs : (size n : ℕ) (ws : List ℤ) → 2 ≤ n → Cells size n ws → Inputs n (take size ws)
-cells-inputs size n ws two h =
-    let q : length (take size ws) ≡ size = length-take-le size ws (omega (arith, h .room, h .small)) in
-    record { few = omega (arith, h .small); inside = λ i. at i (decLt i size) }
-  where
-    at : (i : ℕ) → Dec (i < size) → Inside n (getD (literalsOf (take size ws)) i absent)
-    at i (yes p) =
-        let q : length (take size ws) ≡ size = length-take-le size ws (omega (arith, h .room, h .small)) in
-        rw (literal-at (take size ws) i (omega arith), getD-take size ws i (pos 0) p, ← literal-at ws i (omega (arith, h .room, h .small)))
-        (h .inside i)
-    at i (no p) =
-        let q : length (take size ws) ≡ size = length-take-le size ws (omega (arith, h .room, h .small)) in
-        rw (← literal-of (take size ws) i, List·getD-eq-default (take size ws) (negsuc 0) {n = i} (omega arith)) (inside-absent n two)

@@ -1,1 +1,1 @@
-pub mod Terms
+pub mod Leaves

@@ -1,8 +1,11 @@
 // The operators, by kind (document 01, "Clauses", the last list). What an operand left on the tape is where the operator starts.
 ghost use mathlib.Core.Path.{_≡_};
 ghost use Rattle.literal.specs.Literals.{literalOf, opposite};
-ghost use Rattle.relational.specs.Trees.{Binary, Unary, Comparison, Test, Connective, Quantifier, binary-symbol, unary-symbol, comparison-symbol, test-symbol, connective-symbol, quantifier-symbol, symbolOf};
-ghost use Rattle.clauses_rules.specs.Translation.{translateBinary, translateUnary, translateComparison, translateTest, translateConnective, translateQuantifier};
+ghost use Rattle.relational.specs.Trees.{Binary, Unary, Comparison, Test, Connective, Quantifier};
+ghost use Rattle.relational.specs.Trees.{binary-symbol, unary-symbol, comparison-symbol, test-symbol, connective-symbol};
+ghost use Rattle.relational.specs.Trees.{quantifier-symbol, symbolOf};
+ghost use Rattle.clauses_rules.specs.Translation.{translateBinary, translateUnary, translateComparison};
+ghost use Rattle.clauses_rules.specs.Translation.{translateTest, translateConnective, translateQuantifier};
 ghost use Rattle.clauses_emission.specs.Emission.{Inside, Bounded, EmitsLiteral, EmitsTwo};
 ghost use Rattle.clauses_matrix.specs.Matrices.{matrixOf, Operand, EmitsBinary, EmitsUnary, EmitsTest};
 use clauses_emission::Made;
@@ -21,7 +24,7 @@ use clauses_matrix::truths::none;
 use clauses_matrix::truths::some;
 
 // Kinds 5 to 9: union, intersection, difference, join, product.
-pub fn combine(list: &mut [i32], kind: usize, p: MadeMatrix, q: MadeMatrix) -> MadeMatrix
+pub fn binary(list: &mut [i32], kind: usize, p: MadeMatrix, q: MadeMatrix) -> MadeMatrix
     requires { ⌜ Bounded (q .tape) ⌝ }
     requires { ⌜ Operand (q .tape .next) (p .matrix) ⌝ }
     requires { ⌜ Operand (q .tape .next) (q .matrix) ⌝ }
@@ -41,7 +44,7 @@ pub fn combine(list: &mut [i32], kind: usize, p: MadeMatrix, q: MadeMatrix) -> M
 }
 
 // Kinds 10 and 11: inverse, closure.
-pub fn convert(list: &mut [i32], kind: usize, p: MadeMatrix) -> MadeMatrix
+pub fn unary(list: &mut [i32], kind: usize, p: MadeMatrix) -> MadeMatrix
     requires { ⌜ Bounded (p .tape) ⌝ }
     requires { ⌜ Operand (p .tape .next) (p .matrix) ⌝ }
     ensures { λ r. ⌜ ((o : Unary) → symbolOf kind ≡ unary-symbol o
@@ -56,7 +59,7 @@ pub fn convert(list: &mut [i32], kind: usize, p: MadeMatrix) -> MadeMatrix
 }
 
 // Kinds 20 and 21: equal, within.
-pub fn contrast(list: &mut [i32], kind: usize, p: MadeMatrix, q: MadeMatrix) -> Made
+pub fn compare(list: &mut [i32], kind: usize, p: MadeMatrix, q: MadeMatrix) -> Made
     requires { ⌜ Bounded (q .tape) ⌝ }
     requires { ⌜ Operand (q .tape .next) (p .matrix) ⌝ }
     requires { ⌜ Operand (q .tape .next) (q .matrix) ⌝ }
@@ -74,7 +77,7 @@ pub fn contrast(list: &mut [i32], kind: usize, p: MadeMatrix, q: MadeMatrix) -> 
 }
 
 // Kinds 22 to 24: some, none, at most one.
-pub fn measure(list: &mut [i32], kind: usize, p: MadeMatrix) -> Made
+pub fn test(list: &mut [i32], kind: usize, p: MadeMatrix) -> Made
     requires { ⌜ Bounded (p .tape) ⌝ }
     requires { ⌜ Operand (p .tape .next) (p .matrix) ⌝ }
     ensures { λ r. ⌜ ((o : Test) → symbolOf kind ≡ test-symbol o
@@ -96,10 +99,8 @@ pub fn negate(p: Made) -> Made
     ensures { λ r. ⌜ (r .tape ≡ p .tape) × (literalOf (r .literal) ≡ opposite (literalOf (p .literal))) ⌝ }
 {
     let tape = p.tape;
-    Made {
-        literal: literal::opposite(p.literal),
-        tape: tape,
-    }
+    let literal = literal::opposite(p.literal);
+    Made { literal, tape }
 }
 
 // Kinds 31 to 34: and, or, implies, iff.

@@ -2,7 +2,7 @@
 use mir.Syntax.{w32}
 use mir.Val.{SFits}
 use Rattle.literal.proofs.Signs.{back}
-use Rattle.clauses_kinds.proofs.Numbers.{at-conjunction, at-disjunction, at-implication, at-equivalence}
+use Rattle.nodes.proofs.Numbers.{at-conjunction, at-disjunction, at-implication, at-equivalence}
 use borrow.Author.Needs.{needs}
 use Rattle.clauses_kinds.proofs.apply.connect.Statement.{statement}
 use Rattle.clauses_kinds.proofs.apply.connect.Tie as tie

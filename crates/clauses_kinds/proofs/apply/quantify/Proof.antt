@@ -1,5 +1,5 @@
 -- `quantify` meets its contract, kind by kind.
-use Rattle.clauses_kinds.proofs.Numbers.{at-all, at-exists}
+use Rattle.nodes.proofs.Numbers.{at-all, at-exists}
 use borrow.Author.Needs.{needs}
 use Rattle.clauses_kinds.proofs.apply.quantify.Statement.{statement}
 use Rattle.clauses_kinds.proofs.apply.quantify.Tie as tie

@@ -1,6 +1,6 @@
 -- `copied` meets its contract.
 use mathlib.Core.Path.{ap, _∙_}
-use Rattle.clauses_kinds.specs.Terms.{Filled, cellFrom}
+use Rattle.clauses_kinds.specs.Leaves.{Filled, cellFrom}
 use borrow.Author.Needs.{needs}
 use Prim.Native.Nat.{_≤_, _-_}
 use native.Mathlib.Omega.{arith}
@@ -11,10 +11,10 @@ use Rattle.clauses_kinds.proofs.leaves.copied.Statement.{statement}
 use Rattle.clauses_kinds.proofs.leaves.copied.Tie as tie
 
 abbrev Inv-loop : tie.InvT-loop
-Inv-loop given first size words₀ k₀ words k = (k ≤ size) × Filled (cellFrom given first) k words
+Inv-loop given first size cells₀ k₀ cells k = (k ≤ size) × Filled (cellFrom given first) k cells
 
 abbrev μ-loop : tie.MeasureT-loop
-μ-loop given first size words₀ k₀ words k = size - k
+μ-loop given first size cells₀ k₀ cells k = size - k
 
 loop-holds : tie.Need-loop-holds Inv-loop μ-loop
 loop-holds c = (omega arith, filled-none (cellFrom (c .args .given .now) (c .args .first)))
@@ -25,11 +25,11 @@ add-word-at c = search needs
 word-at-requires : tie.Need-word-at-requires Inv-loop μ-loop
 word-at-requires c κs = search needs
 
-mul-words : tie.Need-mul-words Inv-loop μ-loop
-mul-words c = search needs
+mul-cells : tie.Need-mul-cells Inv-loop μ-loop
+mul-cells c = search needs
 
-array-set-from-words : tie.Need-array-set-from-words Inv-loop μ-loop
-array-set-from-words c = search needs
+array-set-from-cells : tie.Need-array-set-from-cells Inv-loop μ-loop
+array-set-from-cells c = search needs
 
 add-k : tie.Need-add-k Inv-loop μ-loop
 add-k c = search needs
@@ -59,8 +59,8 @@ copied-spec =
     loop-holds
     add-word-at
     word-at-requires
-    mul-words
-    array-set-from-words
+    mul-cells
+    array-set-from-cells
     add-k
     loop-less
     loop-again

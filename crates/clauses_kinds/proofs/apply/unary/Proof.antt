@@ -1,8 +1,8 @@
--- `convert` meets its contract, kind by kind.
-use Rattle.clauses_kinds.proofs.Numbers.{at-inverse, at-closure}
+-- `unary` meets its contract, kind by kind.
+use Rattle.nodes.proofs.Numbers.{at-inverse, at-closure}
 use borrow.Author.Needs.{needs}
-use Rattle.clauses_kinds.proofs.apply.convert.Statement.{statement}
-use Rattle.clauses_kinds.proofs.apply.convert.Tie as tie
+use Rattle.clauses_kinds.proofs.apply.unary.Statement.{statement}
+use Rattle.clauses_kinds.proofs.apply.unary.Tie as tie
 
 inverse-requires : tie.Need-inverse-requires
 inverse-requires c κs = search needs
@@ -19,5 +19,5 @@ same-length c = search needs
 returns-2 : tie.Need-returns-2
 returns-2 c o s = rw (at-closure _ (c .before .before .before .match .rest .1) o s) (c .before .closure .ensures)
 
-pub convert-spec : {M : Type 1} → statement M
-convert-spec = tie.close (tie.spec inverse-requires closure-requires returns same-length returns-2)
+pub unary-spec : {M : Type 1} → statement M
+unary-spec = tie.close (tie.spec inverse-requires closure-requires returns same-length returns-2)

@@ -1,8 +1,8 @@
--- `measure` meets its contract, kind by kind.
-use Rattle.clauses_kinds.proofs.Numbers.{at-some, at-none, at-lone}
+-- `test` meets its contract, kind by kind.
+use Rattle.nodes.proofs.Numbers.{at-some, at-none, at-lone}
 use borrow.Author.Needs.{needs}
-use Rattle.clauses_kinds.proofs.apply.measure.Statement.{statement}
-use Rattle.clauses_kinds.proofs.apply.measure.Tie as tie
+use Rattle.clauses_kinds.proofs.apply.test.Statement.{statement}
+use Rattle.clauses_kinds.proofs.apply.test.Tie as tie
 
 some-requires : tie.Need-some-requires
 some-requires c κs = search needs
@@ -33,8 +33,8 @@ returns-3 c o s =
     let m = c .before .before .before .match in
     rw (at-lone _ (m .rest .0 .1) (m .rest .1) o s) (c .before .lone .ensures)
 
-pub measure-spec : {M : Type 1} → statement M
-measure-spec =
+pub test-spec : {M : Type 1} → statement M
+test-spec =
     tie.close
     (tie.spec
     some-requires

@@ -1,8 +1,8 @@
--- `combine` meets its contract, kind by kind.
-use Rattle.clauses_kinds.proofs.Numbers.{at-union, at-intersection, at-difference, at-join, at-product}
+-- `binary` meets its contract, kind by kind.
+use Rattle.nodes.proofs.Numbers.{at-union, at-intersection, at-difference, at-join, at-product}
 use borrow.Author.Needs.{needs}
-use Rattle.clauses_kinds.proofs.apply.combine.Statement.{statement}
-use Rattle.clauses_kinds.proofs.apply.combine.Tie as tie
+use Rattle.clauses_kinds.proofs.apply.binary.Statement.{statement}
+use Rattle.clauses_kinds.proofs.apply.binary.Tie as tie
 
 matched-requires : tie.Need-matched-requires
 matched-requires c κs = search needs
@@ -51,8 +51,8 @@ returns-5 c o s =
     let m = c .before .before .before .match in
     rw (at-product _ (m .rest .0 .0 .0 .1) (m .rest .0 .0 .1) (m .rest .0 .1) (m .rest .1) o s) (c .before .product .ensures)
 
-pub combine-spec : {M : Type 1} → statement M
-combine-spec =
+pub binary-spec : {M : Type 1} → statement M
+binary-spec =
     tie.close
     (tie.spec
     matched-requires

@@ -1,22 +1,22 @@
--- `variable_leaf` meets its contract.
+-- `single` meets its contract.
 use mathlib.Core.Path.{_∙_}
 use Rattle.literal.proofs.Signs.{back}
 use Rattle.clauses_rules.specs.Translation.{constant}
-use Rattle.clauses_kinds.specs.Terms.{Filled}
+use Rattle.clauses_kinds.specs.Leaves.{Filled}
 use Rattle.clauses_kinds.proofs.Lists.{filled-none, filled-more, filled-at}
 use Rattle.clauses_kinds.proofs.LeafMatrices.{constant-word, set-from}
 use borrow.Author.Needs.{needs}
 use Prim.Native.Nat.{_≤_, _-_}
 use native.Mathlib.Omega.{arith}
 use lib.Dec.{eqb}
-use Rattle.clauses_kinds.proofs.leaves.variable_leaf.Statement.{statement}
-use Rattle.clauses_kinds.proofs.leaves.variable_leaf.Tie as tie
+use Rattle.clauses_kinds.proofs.leaves.single.Statement.{statement}
+use Rattle.clauses_kinds.proofs.leaves.single.Tie as tie
 
 abbrev Inv-loop : tie.InvT-loop
-Inv-loop n atom words₀ k₀ words k = (k ≤ n) × Filled (λ i. constant (eqb i atom)) k words
+Inv-loop n atom cells₀ k₀ cells k = (k ≤ n) × Filled (λ i. constant (eqb i atom)) k cells
 
 abbrev μ-loop : tie.MeasureT-loop
-μ-loop n atom words₀ k₀ words k = n - k
+μ-loop n atom cells₀ k₀ cells k = n - k
 
 loop-holds : tie.Need-loop-holds Inv-loop μ-loop
 loop-holds c = (omega arith, filled-none (λ i. constant (eqb i (c .args .atom))))
@@ -24,11 +24,11 @@ loop-holds c = (omega arith, filled-none (λ i. constant (eqb i (c .args .atom))
 truth-requires : tie.Need-truth-requires Inv-loop μ-loop
 truth-requires c κs = search needs
 
-mul-words : tie.Need-mul-words Inv-loop μ-loop
-mul-words c = search needs
+mul-cells : tie.Need-mul-cells Inv-loop μ-loop
+mul-cells c = search needs
 
-array-set-from-words : tie.Need-array-set-from-words Inv-loop μ-loop
-array-set-from-words c = search needs
+array-set-from-cells : tie.Need-array-set-from-cells Inv-loop μ-loop
+array-set-from-cells c = search needs
 
 add-k : tie.Need-add-k Inv-loop μ-loop
 add-k c = search needs
@@ -52,16 +52,16 @@ returns c =
     set-from _ (λ i. eqb i atom) _ (c .before .before .pre)
     (filled-at (λ i. constant (eqb i atom)) (l .1) _ (c .loop-test .left) (l .0))
 
-pub variable-leaf-spec : {M : Type 1} → statement M
-variable-leaf-spec =
+pub single-spec : {M : Type 1} → statement M
+single-spec =
     tie.close
     (tie.spec
     Inv-loop
     μ-loop
     loop-holds
     truth-requires
-    mul-words
-    array-set-from-words
+    mul-cells
+    array-set-from-cells
     add-k
     loop-less
     loop-again

@@ -1,6 +1,6 @@
--- `identity_leaf` meets its contract.
+-- `identity` meets its contract.
 use mathlib.Core.Path.{_∙_}
-use Rattle.clauses_kinds.specs.Terms.{Filled}
+use Rattle.clauses_kinds.specs.Leaves.{Filled}
 use Rattle.cells.proofs.Layouts.{square}
 use Rattle.clauses_kinds.proofs.LeafMatrices.{constant-word, identity-from, diagonal, some-root}
 use Rattle.literal.proofs.Signs.{back}
@@ -9,14 +9,14 @@ use borrow.Author.Needs.{needs}
 use Prim.Native.Nat.{_≤_, _-_, _/_, _%_}
 use native.Mathlib.Omega.{arith}
 use lib.Dec.{eqb}
-use Rattle.clauses_kinds.proofs.leaves.identity_leaf.Statement.{statement}
-use Rattle.clauses_kinds.proofs.leaves.identity_leaf.Tie as tie
+use Rattle.clauses_kinds.proofs.leaves.identity.Statement.{statement}
+use Rattle.clauses_kinds.proofs.leaves.identity.Tie as tie
 
 abbrev Inv-loop : tie.InvT-loop
-Inv-loop n size words₀ k₀ words k = (k ≤ size) × Filled (diagonal n) k words
+Inv-loop n size cells₀ k₀ cells k = (k ≤ size) × Filled (diagonal n) k cells
 
 abbrev μ-loop : tie.MeasureT-loop
-μ-loop n size words₀ k₀ words k = size - k
+μ-loop n size cells₀ k₀ cells k = size - k
 
 mul-size : tie.Need-mul-size Inv-loop μ-loop
 mul-size c = omega (arith, square (c .pre) (c .pre))
@@ -33,11 +33,11 @@ rem-truth c = omega (arith, some-root (c .before .before .args .n) (c .before .l
 truth-requires : tie.Need-truth-requires Inv-loop μ-loop
 truth-requires c κs = search needs
 
-mul-words : tie.Need-mul-words Inv-loop μ-loop
-mul-words c = omega (arith, square (c .before .before .before .pre) (c .before .before .before .pre))
+mul-cells : tie.Need-mul-cells Inv-loop μ-loop
+mul-cells c = omega (arith, square (c .before .before .before .pre) (c .before .before .before .pre))
 
-array-set-from-words : tie.Need-array-set-from-words Inv-loop μ-loop
-array-set-from-words c = omega (arith, square (c .before .before .before .pre) (c .before .before .before .pre))
+array-set-from-cells : tie.Need-array-set-from-cells Inv-loop μ-loop
+array-set-from-cells c = omega (arith, square (c .before .before .before .pre) (c .before .before .before .pre))
 
 add-k : tie.Need-add-k Inv-loop μ-loop
 add-k c = omega (arith, square (c .before .before .before .pre) (c .before .before .before .pre))
@@ -61,8 +61,8 @@ returns c =
     let l = c .before .loop .inv in
     identity-from _ _ (c .before .before .pre) (filled-at (diagonal n) (l .1) _ (c .loop-test .left) (l .0))
 
-pub identity-leaf-spec : {M : Type 1} → statement M
-identity-leaf-spec =
+pub identity-spec : {M : Type 1} → statement M
+identity-spec =
     tie.close
     (tie.spec
     Inv-loop
@@ -72,8 +72,8 @@ identity-leaf-spec =
     div-truth
     rem-truth
     truth-requires
-    mul-words
-    array-set-from-words
+    mul-cells
+    array-set-from-cells
     add-k
     loop-less
     loop-again

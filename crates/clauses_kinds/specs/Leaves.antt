@@ -1,20 +1,18 @@
 -- The matrices of leaves.
 -- No public contract reaches this file: nothing here needs belief.
 use mathlib.Core.Path.{_≡_}
-use mathlib.Core.Bool.{Bool}
-use mathlib.Core.List.{List, map}
+use mathlib.Core.List.{List}
 use Prim.Native.Nat.{ℕ, _+_, _≤_, _<_}
-use lib.Dec.{eqb}
 use lib.IntN.{ℤ, pos, negsuc}
 use lib.ListN.{length, getD}
 use Rattle.literal.specs.Literals.{Literal, literalOf}
 use Rattle.sheet_rules.specs.Blocks.{Sheet}
 use Rattle.relational.specs.Trees.{Leaf}
 use Rattle.relational.specs.Meaning.{Environment}
-use Rattle.relational.specs.Matrices.{upto, Place, places, setOf, relationOf, leafMatrix}
+use Rattle.relational.specs.Matrices.{Matrix, leafMatrix}
 use Rattle.clauses_rules.specs.Translation.{constant, absent, literalAt}
-use Rattle.clauses_matrix.specs.declared.Literals.{Literals}
 use Rattle.clauses_emission.specs.Emission.{AllInside, literalsOf}
+use Rattle.clauses_matrix.specs.declared.Literals.{Literals}
 use Rattle.clauses_matrix.specs.Matrices.{matrixOf, Operand}
 
 -- a matrix is that of a leaf
@@ -22,14 +20,10 @@ pub record LeafIs (sheet : Sheet) (given : List ℤ) (l : Leaf) (a : ℕ) (env :
   pub matrix : matrixOf m ≡ leafMatrix sheet (literalAt sheet (literalsOf given)) constant l a env
   pub fine : (n : ℕ) → AllInside n (literalsOf given) → Operand n m
 
--- a set of constants, the identity
-pub record SetIs (n : ℕ) (f : ℕ → Bool) (m : Literals) : Type 0 where
-  pub matrix : matrixOf m ≡ setOf n (map (λ i. constant (f i)) (upto n))
-  pub fine : (k : ℕ) → 2 ≤ k → Operand k m
-
-pub record IdentityIs (n : ℕ) (m : Literals) : Type 0 where
-  pub matrix : matrixOf m ≡ relationOf n n (map (λ (t : Place). constant (eqb (t .0) (t .1))) (places n n))
-  pub fine : (k : ℕ) → 2 ≤ k → Operand k m
+-- a matrix of constants
+pub record Constants (matrix : Matrix Literal) (m : Literals) : Type 0 where
+  pub is : matrixOf m ≡ matrix
+  pub fine : (n : ℕ) → 2 ≤ n → Operand n m
 
 -- the first k words are the literals that f gives, the others -1
 pub record Filled (f : ℕ → Literal) (k : ℕ) (ws : List ℤ) : Type 0 where
