@@ -4,7 +4,7 @@ use mathlib.Core.Path.{ap, ap₂, sym, _∙_}
 use Rattle.instance_matrix.specs.Values.{matrixOf}
 use Rattle.instance_matrix.proofs.Filling.{cells-counted}
 use Rattle.instance_matrix.proofs.Counting.{count-all}
-use Rattle.relational.proofs.Counts.{some-any}
+use Rattle.relational.proofs.Counts.{some-count}
 use Rattle.nodes.proofs.Numbers.{at-all, at-exists}
 use borrow.Author.Needs.{needs}
 use Rattle.instance_matrix.proofs.truths.quantify.Statement.{statement}
@@ -26,7 +26,7 @@ returns c o s =
 returns-2 : tie.Need-returns-2
 returns-2 c o s =
     let p = c .before .before .args .p in
-    rw (at-exists _ (c .match .rest .1) o s) (ap (leb 1) (c .before .count .ensures) ∙ some-any (matrixOf p .cells))
+    rw (at-exists _ (c .match .rest .1) o s) (ap (leb 1) (c .before .count .ensures) ∙ sym (some-count (matrixOf p .cells)))
 
 pub quantify-spec : {M : Type 1} → statement M
 quantify-spec = tie.close (tie.spec count-requires size-requires returns returns-2)
