@@ -101,3 +101,8 @@ module _ (v : Value) (f : Fine v) where
 
   pub cells-of : _≡_ {A = ℕ → Bool} (λ k. cellAt false (matrixOf v) k) (λ k. getD (v .cells) k false)
   cells-of = fun-ext cell-of
+
+  pub cells-counted : length (matrixOf v .cells) ≡ v .rows * v .columns
+  cells-counted =
+      length-take-le (v .rows * v .columns) (v .cells)
+      (omega (arith, f .long, small-product (v .rows) (v .columns) (f .few-rows) (f .few-columns)))

@@ -15,8 +15,8 @@ use Rattle.relational.specs.Matrices.{Matrix, upto, Place, places, setOf, relat
 use Rattle.relational.specs.Evaluation.{both, joinCells, valueBinary, valueUnary}
 use Rattle.relational.proofs.Places.{map-map, length-map-from, from-at}
 use Rattle.instance_matrix.specs.declared.Value.{Value}
-use Rattle.instance_matrix.specs.Values.{matrixOf, sized, flagsFrom, SetOrRelation, Fine, Gives}
-use Rattle.instance_matrix.specs.Numbers.{combined}
+use Rattle.instance_matrix.specs.declared.flags.Pairing.{Pairing}
+use Rattle.instance_matrix.specs.Values.{matrixOf, sized, flagsFrom, SetOrRelation, Fine, Gives, paired}
 use Rattle.instance_matrix.proofs.Filling.{small-product, Filled, filled-list, filled-upto, filled-places, cells-of}
 
 abbrev pub value : ℕ → ℕ → ℕ → List Bool → Value
@@ -88,19 +88,19 @@ module _ (p q : Value) (fp : Fine p) (fq : Fine q) where
       ap₂ (λ (x y : ℕ → Bool). map {B = Bool × Bool} (λ (t : Place). (x (t .0), y (t .1))) (places (p .columns) (q .columns))) (cells-of p fp)
       (cells-of q fq)
 
-  pub combine-law : (kind : ℕ) (cells : List Bool) (k : ℕ) → k ≡ p .rows * p .columns
-      → Filled cells (λ j. combined kind (getD (p .cells) j false, getD (q .cells) j false)) k
+  pub matched-law : (pairing : Pairing) (cells : List Bool) (k : ℕ) → k ≡ p .rows * p .columns
+      → Filled cells (λ j. paired pairing (getD (p .cells) j false, getD (q .cells) j false)) k
       → Gives (value (p .arity) (p .rows) (p .columns) cells)
-      (sameSize (matrixOf p) (map (combined kind) (matched false (matrixOf p) (matrixOf q))))
-  combine-law kind cells k e u =
+      (sameSize (matrixOf p) (map (paired pairing) (matched false (matrixOf p) (matrixOf q))))
+  matched-law pairing cells k e u =
       let n : ℕ = p .rows * p .columns in
       let pair : ℕ → Bool × Bool = λ j. (getD (p .cells) j false, getD (q .cells) j false) in
-      let f : ℕ → Bool = λ j. combined kind (pair j) in
+      let f : ℕ → Bool = λ j. paired pairing (pair j) in
       let w : Filled cells f n = subst (λ (m : ℕ). Filled cells f m) e u in
-      gives (p .arity) (p .rows) (p .columns) cells f (map (combined kind) (matched false (matrixOf p) (matrixOf q))) (fp .few-rows)
+      gives (p .arity) (p .rows) (p .columns) cells f (map (paired pairing) (matched false (matrixOf p) (matrixOf q))) (fp .few-rows)
       (fp .few-columns) (fp .set-or-relation) w
       (filled-upto cells f n w (small-product (p .rows) (p .columns) (fp .few-rows) (fp .few-columns)) f (λ j l. refl)
-      ∙ sym (map-map (combined kind) pair (upto n)) ∙ ap (map (combined kind)) (sym matched-cells))
+      ∙ sym (map-map (paired pairing) pair (upto n)) ∙ ap (map (paired pairing)) (sym matched-cells))
 
   pub product-law : (cells : List Bool) (k : ℕ) → k ≡ p .columns * q .columns
       → Filled cells (λ j. both (getD (p .cells) (j / q .columns) false, getD (q .cells) (j % q .columns) false)) k
