@@ -50,14 +50,14 @@ returns-2 c =
     pass-true _ 1 _ _ (is-version (c .before .before .before .before .before))
     (refuse-false _ 2 _ (ne-eqb _ _ (λ q. c .if2 .taken (is-end (c .before) ∙ q))))
 
-add-a : tie.Need-add-a
-add-a c = search needs
+add-variables-start : tie.Need-add-variables-start
+add-variables-start c = search needs
 
-add-b : tie.Need-add-b
-add-b c = search needs
+add-relations-start : tie.Need-add-relations-start
+add-relations-start c = search needs
 
-add-c : tie.Need-add-c
-add-c c = search needs
+add-nodes-start : tie.Need-add-nodes-start
+add-nodes-start c = search needs
 
 sub-judge-blocks : tie.Need-sub-judge-blocks
 sub-judge-blocks c = search needs
@@ -120,9 +120,9 @@ read-spec =
     after-requires-3
     after-requires-4
     returns-2
-    add-a
-    add-b
-    add-c
+    add-variables-start
+    add-relations-start
+    add-nodes-start
     sub-judge-blocks
     part-judge-blocks-start
     part-judge-blocks-end
