@@ -75,7 +75,8 @@ fn node_fine(nodes: &[u8], sorts: usize, variables: usize, relations: usize, v: 
 pub(crate) fn nodes_fine(nodes: &[u8], sorts: usize, variables: usize, relations: usize) -> bool
     requires { ⌜ length (now nodes) / 3 ≤ 200 ⌝ }
     ensures { λ r. ⌜ ((sheet : blocks.Sheet) → sheet .nodes ≡ now (nodes .entry) → blocks.sortCount sheet ≡ sorts
-        → blocks.variableCount sheet ≡ variables → blocks.relationCount sheet ≡ relations → r ≡ each (blocks.nodeCount sheet) (nodeFine sheet)) ⌝ }
+        → blocks.variableCount sheet ≡ variables → blocks.relationCount sheet ≡ relations
+        → r ≡ each (blocks.nodeCount sheet) (nodeFine sheet)) ⌝ }
 {
     let count = nodes.len() / 3;
     let mut fine = true;

@@ -23,7 +23,8 @@ is-end : (c : tie.After-after4) → c .after4 .result ≡ blocksEnd (sheetAt (c 
 is-end c =
     end-is (sheetAt (c .before .before .before .before .before .before .before)) (c .before .before .before .after .result)
     (c .before .before .after2 .result) (c .before .after3 .result) (c .after4 .result)
-    (c .before .before .before .after .ensures .0) (c .before .before .after2 .ensures .0) (c .before .after3 .ensures .0) (c .after4 .ensures .0)
+    (c .before .before .before .after .ensures .0) (c .before .before .after2 .ensures .0) (c .before .after3 .ensures .0)
+    (c .after4 .ensures .0)
 
 byte-requires : tie.Need-byte-requires
 byte-requires c κs = search needs

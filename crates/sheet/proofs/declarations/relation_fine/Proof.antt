@@ -1,5 +1,4 @@
 -- Each test of the definition in turn.
-use mathlib.Core.Path.{_≡_}
 use native.Mathlib.Nat.{add-zero}
 use borrow.Author.Needs.{needs}
 use Rattle.sheet.proofs.declarations.relation_fine.Statement.{statement}

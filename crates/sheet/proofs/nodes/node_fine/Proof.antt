@@ -1,5 +1,4 @@
 -- The row of the node's kind, then its two fields.
-use mathlib.Core.Path.{_≡_}
 use native.Mathlib.Nat.{add-zero}
 use borrow.Author.Needs.{needs}
 use Rattle.sheet.proofs.nodes.node_fine.Statement.{statement}

@@ -1,11 +1,11 @@
 -- The invariant: the array says of the nodes passed whether x is free in them.
 use borrow.Author.Needs.{needs}
-use mathlib.Core.Path.{_≡_, refl, _∙_, sym, ap}
+use mathlib.Core.Path.{_≡_, refl, _∙_}
 use Prim.Native.Nat.{ℕ, _≤_, _-_, _/_}
 use mathlib.Core.List.{List}
 use native.Mathlib.Nat.{add-zero}
 use native.Mathlib.Omega.{arith}
-use lib.ListN.{length, getD, length-set, length-replicate}
+use lib.ListN.{length, length-set, length-replicate}
 use Rattle.sheet_rules.specs.Blocks.{Sheet, fieldA, fieldB}
 use Rattle.sheet.specs.Filling.{Fills}
 use Rattle.sheet.proofs.FillingLaws.{fills-none, fills-more}

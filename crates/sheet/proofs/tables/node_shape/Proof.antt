@@ -1,5 +1,4 @@
 -- The row of the kind, the fields, and the shapes of what they name.
-use mathlib.Core.Path.{_≡_}
 use Rattle.sheet_rules.specs.Tables.{shapeStep}
 use native.Mathlib.Nat.{add-zero}
 use borrow.Author.Needs.{needs}

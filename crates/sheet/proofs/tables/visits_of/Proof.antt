@@ -1,6 +1,6 @@
 -- The invariant: the array holds the visits of the nodes passed, capped.
 use borrow.Author.Needs.{needs}
-use mathlib.Core.Path.{_≡_, refl, _∙_, sym, ap}
+use mathlib.Core.Path.{_≡_, refl, _∙_}
 use Prim.Native.Nat.{ℕ, _≤_, _-_, _/_}
 use mathlib.Core.List.{List, []}
 use native.Mathlib.Nat.{add-zero}
@@ -89,10 +89,13 @@ same-step sheet v entries array f =
     (capped-visits (rowOf (kind sheet v)) (scope sheet (sortOf sheet (fieldA sheet v)))
     (getD entries (fieldA sheet v) 0) (getD entries (fieldB sheet v) 0))
 
+abbrev start : tie.After-visits-by Inv-loop μ-loop → tie.Start Inv-loop μ-loop
+start c = c .before .before .before .before .before .before .before .before .before .before .before .before .before .before
+
 found : (c : tie.After-visits-by Inv-loop μ-loop) (sheet : Sheet)
-    → sheet .sorts ≡ c .before .before .before .before .before .before .before .before .before .before .before .before .before .before .args .sorts .now
-    → sheet .variables ≡ c .before .before .before .before .before .before .before .before .before .before .before .before .before .before .args .variables .now
-    → sheet .nodes ≡ c .before .before .before .before .before .before .before .before .before .before .before .before .before .before .args .nodes .now
+    → sheet .sorts ≡ start c .args .sorts .now
+    → sheet .variables ≡ start c .args .variables .now
+    → sheet .nodes ≡ start c .args .nodes .now
     → c .visits-by .result
     ≡ capped (visitsStep sheet (c .before .before .before .before .before .before .before .before .before .before .loop .v)
     (c .before .before .before .before .before .before .before .before .before .before .loop .visits))
