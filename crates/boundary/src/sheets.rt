@@ -6,7 +6,7 @@ ghost use Rattle.instance.specs.Answers as checked;
 ghost use Rattle.instance.specs.Held.{checkAnswer};
 ghost use Rattle.boundary.specs.Numbers.{readNumber, checkNumbers, Checked};
 use instance::answer::Check;
-use sheet::Reading;
+use sheet::answer::Reading;
 
 fn read_number(answer: Reading) -> u32
     ensures { λ r. ⌜ r ≡ readNumber (answerOf answer) ⌝ }

@@ -13,7 +13,7 @@ use cells::first_cells;
 use instance_evaluation::holds;
 use instance_matrix::flags::both;
 use refusal::Refusal;
-use sheet::Reading;
+use sheet::answer::Reading;
 use sheet::bytes::byte;
 use sheet::read;
 use sheet_rules::Layout;

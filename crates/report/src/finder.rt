@@ -13,7 +13,7 @@ ghost use Rattle.report.specs.Printed.{relationLines, report, findingTex
 ghost use Rattle.report.specs.Tells.{Tells};
 use super::lines::put_lines;
 use search::answer::Search;
-use sheet::Reading;
+use sheet::answer::Reading;
 use sheet_rules::Layout;
 use text::put_end;
 

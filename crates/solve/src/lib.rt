@@ -20,7 +20,7 @@ use copies::read_cells;
 use refusal::Refusal;
 use search::answer::Search;
 use search::search;
-use sheet::Reading;
+use sheet::answer::Reading;
 use sheet::read;
 
 pub mod answer; // answer.rt: what read-back answers

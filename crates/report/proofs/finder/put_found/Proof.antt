@@ -7,8 +7,8 @@ use denote.Enum.Declared.{tagOf}
 use Rattle.text.proofs.Puts.{put-both, put-length}
 use Rattle.sheet_rules.specs.declared.Layout.{Layout}
 use Rattle.sheet_rules.specs.Reading.{accepted}
-use Rattle.sheet.specs.declared.Reading.{Reading}
-use Rattle.sheet.specs.declared.Reading.the-variants.{Accepted, Refused}
+use Rattle.sheet.specs.declared.answer.Reading.{Reading}
+use Rattle.sheet.specs.declared.answer.Reading.the-variants.{Accepted, Refused}
 use Rattle.sheet.specs.Answers.{answerOf}
 use Rattle.sheet.proofs.Reading.{the-type}
 use Rattle.report.proofs.finder.put_found.Statement.{statement}
