@@ -33,7 +33,8 @@ by-truth layout true false statement h = (
 )
 
 by-reading : (sheet instance : List ℕ) (judged : sheets.Answer) → reading sheet ≡ judged
-    → Answers judged (withinScopes (sheetOf sheet) instance) (Satisfies (sheetOf sheet) instance) (checkAfter judged (sheetOf sheet) instance)
+    → Answers judged (withinScopes (sheetOf sheet) instance) (Satisfies (sheetOf sheet) instance)
+    (checkAfter judged (sheetOf sheet) instance)
 unfolding heldAnswer
 by-reading sheet instance (sheets.refused n) e = refl
 by-reading sheet instance (sheets.accepted layout) e =

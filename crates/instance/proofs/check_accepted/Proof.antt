@@ -23,8 +23,8 @@ are-bits-requires c κs = search needs
 returns-2 : tie.Need-returns-2
 returns-2 c =
     let s = c .before .before .before .before .before .before .before in
-    other-cells _ _ (s .pre) (c .before .before .before .before .first-cells .ensures .0) (c .before .before .if1 .left) (c .before .are-bits .ensures)
-    (not-true _ (c .if2 .taken))
+    let f = c .before .before .before .before .first-cells .ensures .0 in
+    other-cells _ _ (s .pre) f (c .before .before .if1 .left) (c .before .are-bits .ensures) (not-true _ (c .if2 .taken))
 
 slice-aggregate-holds : tie.Need-slice-aggregate-holds
 slice-aggregate-holds c = search needs
