@@ -23,7 +23,6 @@ use Rattle.nodes.proofs.ExpressionViews.{at-leaf, at-binary, at-unary, at-compr
 use Rattle.nodes.proofs.FormulaViews.{at-comparison, at-test, at-negation, at-connective, at-quantifier}
 use Rattle.instance_matrix.specs.declared.Value.{Value}
 use Rattle.instance_matrix.specs.Values.{Gives, matrixOf}
-use Rattle.instance_matrix.proofs.Results.{gives-as}
 use Rattle.instance_evaluation.specs.Walking.{valueOfTree, truthInTree, bodiesOf}
 
 -- ---- expressions
@@ -66,7 +65,8 @@ module _ {sheet : Sheet} {v : ℕ} {node : Node} (h : Reached sheet v node IsFor
     abbrev truth : ℕ → Bool
     truth w = truthInTree sheet instance env (treeAt sheet w)
 
-    pub comparison-truth : {p q : Value} {r : Bool} → node .formula ≡ claim.Comparison → Gives p (operand (node .a)) → Gives q (operand (node .b))
+    pub comparison-truth : {p q : Value} {r : Bool} → node .formula ≡ claim.Comparison → Gives p (operand (node .a))
+        → Gives q (operand (node .b))
         → ((o : Comparison) → symbolOf (node .kind) ≡ comparison-symbol o → r ≡ truthComparison o (matrixOf p) (matrixOf q)) → r ≡ truth v
     unfolding valueOfTree truthInTree valueOf
     comparison-truth e i j g =

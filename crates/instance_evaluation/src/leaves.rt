@@ -26,7 +26,8 @@ use sheet_rules::Layout;
 fn relation(sheet: &[u8], layout: Layout, instance: &[u8], starts: &[usize], r: usize) -> Value
     requires { ⌜ Located (now sheet) layout (now starts) ⌝ }
     requires { ⌜ r < relationCount (sheetOf (now sheet)) ⌝ }
-    ensures { λ v. ⌜ ((env : Environment) → Gives v (valueLeaf (sheetOf (now (sheet .entry))) (now (instance .entry)) trees.relation r env)) ⌝ }
+    ensures { λ v. ⌜ ((env : Environment)
+        → Gives v (valueLeaf (sheetOf (now (sheet .entry))) (now (instance .entry)) trees.relation r env)) ⌝ }
 {
     let first = starts[r];
     let rows = row_count(sheet, layout, r);

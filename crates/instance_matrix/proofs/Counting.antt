@@ -36,14 +36,16 @@ unfolding all
 all-none p = refl
 
 module _ {A : Type 0} (p : A → Bool) (f : ℕ → A) where
-  pub any-more : (k : ℕ) (found more : Bool) → found ≡ any p (map f (upto k)) → more ≡ (found || p (f k)) → more ≡ any p (map f (upto (k + 1)))
+  pub any-more : (k : ℕ) (found more : Bool) → found ≡ any p (map f (upto k)) → more ≡ (found || p (f k))
+      → more ≡ any p (map f (upto (k + 1)))
   unfolding any
   any-more k found more e h =
       let step : map f (upto (k + 1)) ≡ map f (upto k) ++ (f k ∷ []) = rw add-one (upto-suc f k) in
       h ∙ ap (λ (b : Bool). b || p (f k)) e ∙ sym (or-last (any p (map f (upto k))) (p (f k)))
       ∙ sym (any-append p (map f (upto k)) (f k ∷ [])) ∙ ap (any p) (sym step)
 
-  pub all-more : (k : ℕ) (fine more : Bool) → fine ≡ all p (map f (upto k)) → more ≡ (fine && p (f k)) → more ≡ all p (map f (upto (k + 1)))
+  pub all-more : (k : ℕ) (fine more : Bool) → fine ≡ all p (map f (upto k)) → more ≡ (fine && p (f k))
+      → more ≡ all p (map f (upto (k + 1)))
   unfolding all
   all-more k fine more e h =
       let step : map f (upto (k + 1)) ≡ map f (upto k) ++ (f k ∷ []) = rw add-one (upto-suc f k) in

@@ -27,7 +27,8 @@ gives-as v m n e g = record { fine = g .fine; is = g .is ∙ e }
 
 -- ---- any matrix, and a set of n
 pub gives : (arity rows columns : ℕ) (cells : List Bool) (f : ℕ → Bool) (l : List Bool) → rows ≤ 8 → columns ≤ 8 → SetOrRelation arity rows
-    → Filled cells f (rows * columns) → take (rows * columns) cells ≡ l → Gives (value arity rows columns cells) (sized arity rows columns l)
+    → Filled cells f (rows * columns) → take (rows * columns) cells ≡ l
+    → Gives (value arity rows columns cells) (sized arity rows columns l)
 gives arity rows columns cells f l hr hc s u e =
     record {
       fine = record { few-rows = hr; few-columns = hc; set-or-relation = s; long = u .long; rest = u .rest };
@@ -75,7 +76,8 @@ module _ (p q : Value) (fp : Fine p) (fq : Fine q) where
 
   pub middle-cells : (i j : ℕ) → middles false (matrixOf p) (matrixOf q) (i, j)
       ≡ map {B = Bool × Bool}
-      (λ (k : ℕ). (getD (p .cells) (i * p .columns + k) false, getD (q .cells) (k * joinColumns (matrixOf q) + j) false)) (upto (p .columns))
+      (λ (k : ℕ). (getD (p .cells) (i * p .columns + k) false, getD (q .cells) (k * joinColumns (matrixOf q) + j) false))
+      (upto (p .columns))
   middle-cells i j =
       ap₂
       (λ (x y : ℕ → Bool).
@@ -83,10 +85,11 @@ module _ (p q : Value) (fp : Fine p) (fq : Fine q) where
       (cells-of p fp) (cells-of q fq)
 
   crossed-cells : crossed false (matrixOf p) (matrixOf q)
-      ≡ map {B = Bool × Bool} (λ (t : Place). (getD (p .cells) (t .0) false, getD (q .cells) (t .1) false)) (places (p .columns) (q .columns))
+      ≡ map {B = Bool × Bool} (λ (t : Place). (getD (p .cells) (t .0) false, getD (q .cells) (t .1) false))
+      (places (p .columns) (q .columns))
   crossed-cells =
-      ap₂ (λ (x y : ℕ → Bool). map {B = Bool × Bool} (λ (t : Place). (x (t .0), y (t .1))) (places (p .columns) (q .columns))) (cells-of p fp)
-      (cells-of q fq)
+      ap₂ (λ (x y : ℕ → Bool). map {B = Bool × Bool} (λ (t : Place). (x (t .0), y (t .1))) (places (p .columns) (q .columns)))
+      (cells-of p fp) (cells-of q fq)
 
   pub matched-law : (pairing : Pairing) (cells : List Bool) (k : ℕ) → k ≡ p .rows * p .columns
       → Filled cells (λ j. paired pairing (getD (p .cells) j false, getD (q .cells) j false)) k

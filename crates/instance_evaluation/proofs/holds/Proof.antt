@@ -33,7 +33,8 @@ unfolding holds
 returns c =
     let s = c .before .before .before .before .before .before .before .before in
     let sheet = sheetOf (s .args .sheet .now) in
-    let truth = (rw (nodes-counted _ _ (s .pre .taken)) at (c .before .formula .ensures)) ∙ root-truth sheet (s .args .instance .now) (rootTree sheet) in
+    let truth = (rw (nodes-counted _ _ (s .pre .taken)) at (c .before .formula .ensures))
+    ∙ root-truth sheet (s .args .instance .now) (rootTree sheet) in
     rw (← c .before .before .before .before .marks-hold .ensures, ← truth) (c .both .ensures)
 
 pub holds-spec : {M : Type 1} → statement M

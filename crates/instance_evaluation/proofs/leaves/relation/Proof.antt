@@ -34,17 +34,19 @@ arity-requires c κs =
 given-requires : tie.Need-given-requires
 given-requires c κs =
     let s = c .before .before .before .before .before .before .before in
-    let rows = c .before .before .row-count in (
+    let rows = c .before .before .row-count in
+    let r = s .args .r in (
       (omega (arith, first-few (s .pre .0) (s .pre .1)), (rows .ensures .1, c .before .row-length .ensures .1)),
-      set-or-relation (sheetOf (s .args .sheet .now)) (s .args .r) (facts-of (s .pre .0) .columns-two (s .args .r) (s .pre .1)) (c .arity .ensures)
+      set-or-relation (sheetOf (s .args .sheet .now)) r (facts-of (s .pre .0) .columns-two r (s .pre .1)) (c .arity .ensures)
           (rows .ensures .0),
     )
 
 returns : tie.Need-returns
 returns c env =
     let s = c .before .before .before .before .before .before .before .before in
+    let r = s .args .r in
     gives-as (c .given .result) _ _
-    (relation-leaf (sheetOf (s .args .sheet .now)) (s .args .r) (s .args .instance .now) env (s .pre .0 .cells .first (s .args .r) (s .pre .1))
+    (relation-leaf (sheetOf (s .args .sheet .now)) r (s .args .instance .now) env (s .pre .0 .cells .first r (s .pre .1))
     (c .before .arity .ensures) (c .before .before .before .row-count .ensures .0) (c .before .before .row-length .ensures .0))
     (c .given .ensures)
 

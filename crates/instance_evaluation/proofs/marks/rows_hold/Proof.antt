@@ -69,7 +69,8 @@ add-given c =
 given-requires : tie.Need-given-requires Inv-loop μ-loop
 given-requires c κs =
     let s = c .before .before .before .before .before .before .before .before .before in
-    ((omega (arith, inside c, first-few (s .pre .0) (s .pre .1)), (omega arith, c .before .before .row-length .ensures .1)), inl (refl, refl))
+    let f = first-few (s .pre .0) (s .pre .1) in
+    ((omega (arith, inside c, f), (omega arith, c .before .before .row-length .ensures .1)), inl (refl, refl))
 
 row-holds-requires : tie.Need-row-holds-requires Inv-loop μ-loop
 row-holds-requires c κs = c .given .ensures .fine
@@ -90,10 +91,12 @@ loop-again c =
     let instance = s .args .instance .now in
     let r = s .args .r in
     let l = c .before .before .before .before .loop in
-    let cells = row-cells sheet r instance (l .i) (s .pre .0 .cells .first r (s .pre .1)) (c .before .before .before .before .before .row-length .ensures .0) in
+    let width = c .before .before .before .before .before .row-length .ensures .0 in
+    let cells = ap (λ (m : Matrix Bool). m .cells) (c .before .before .given .ensures .is)
+    ∙ row-cells sheet r instance (l .i) (s .pre .0 .cells .first r (s .pre .1)) width in
     let mark = c .before .before .before .before .before .before .before .before .multiplicity .ensures in
     let e = c .before .row-holds .ensures sheet instance
-    ∙ ap₂ (λ (m : ℕ) (row : List Bool). rowHolds sheet instance m row) mark (ap (λ (m : Matrix Bool). m .cells) (c .before .before .given .ensures .is) ∙ cells) in
+    ∙ ap₂ (λ (m : ℕ) (row : List Bool). rowHolds sheet instance m row) mark cells in
     (omega arith, each-more _ (l .i) (l .fine) (c .both .result) (l .inv .1) (rw (← e) (c .both .ensures)))
 
 returns : tie.Need-returns Inv-loop μ-loop

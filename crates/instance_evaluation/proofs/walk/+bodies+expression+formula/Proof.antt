@@ -1,7 +1,8 @@
--- The walk, form by form: what the operands give, and the step of the form (proofs/Steps). The measure is twice the node, and one more in a binder.
+-- The walk, form by form: what the operands give, and the step of the form (proofs/Steps).
+-- The measure is twice the node, and one more in a binder.
 -- Places in the needs: s is the start, n where the node is read, k where its form is told, x and y where its operands are walked.
 use borrow.Author.Needs.{needs}
-use mathlib.Core.Path.{_≡_, ap, _∙_}
+use mathlib.Core.Path.{ap, _∙_}
 use mathlib.Core.Bool.{Bool}
 use mathlib.Core.List.{map}
 use Prim.Native.Nat.{ℕ, _+_, _*_, _-_, _≤_, _<_}
@@ -18,8 +19,8 @@ use Rattle.nodes.proofs.ExpressionViews.{at-leaf, at-binary, at-unary, at-compr
 use Rattle.nodes.proofs.FormulaViews.{at-comparison, at-test, at-negation, at-connective, at-quantifier}
 use Rattle.instance_evaluation.specs.Walking.{truthInTree}
 use Rattle.instance_evaluation.proofs.Layouts.{facts-of}
-use Rattle.instance_evaluation.proofs.Steps.{leaf-value, binary-value, unary-value, comprehension-value, comparison-truth, test-truth}
-use Rattle.instance_evaluation.proofs.Steps.{negation-truth, connective-truth, quantifier-truth}
+use Rattle.instance_evaluation.proofs.Steps.{leaf-value, binary-value, unary-value, comprehension-value}
+use Rattle.instance_evaluation.proofs.Steps.{comparison-truth, test-truth, negation-truth, connective-truth, quantifier-truth}
 use borrow.Fn.Kinds.{In}
 use borrow.Fn.PlainCycle.{Measures, is, falls, and}
 use Rattle.instance_evaluation.proofs.walk.bodies.Reads as bodies
@@ -126,7 +127,8 @@ bodies-Inv-loop sheet layout instance starts env at x n cells₀ k₀ cells k =
 abbrev bodies-μ-loop : bodies-lts.MeasureT-loop
 bodies-μ-loop sheet layout instance starts env at x n cells₀ k₀ cells k = n - k
 
-bodies-scope-of-variable-requires : (t : ℕ) → bodies-lts.Need-scope-of-variable-requires (bodies-calls t) (bodies-at t) bodies.Post bodies-Inv-loop bodies-μ-loop
+bodies-scope-of-variable-requires : (t : ℕ) → bodies-lts.Need-scope-of-variable-requires (bodies-calls t) (bodies-at t) bodies.Post
+    bodies-Inv-loop bodies-μ-loop
 bodies-scope-of-variable-requires t c κs = c .before .before .before .pre .1 .0 .taken
 
 bodies-loop-holds : (t : ℕ) → bodies-lts.Need-loop-holds (bodies-calls t) (bodies-at t) bodies.Post bodies-Inv-loop bodies-μ-loop
@@ -135,12 +137,14 @@ bodies-loop-holds t c = (omega arith, filled-none _)
 bodies-bind-requires : (t : ℕ) → bodies-lts.Need-bind-requires (bodies-calls t) (bodies-at t) bodies.Post bodies-Inv-loop bodies-μ-loop
 bodies-bind-requires t c κs = c .before .before .before .before .before .before .pre .1 .1 .1
 
-bodies-formula-requires : (t : ℕ) → bodies-lts.Need-formula-requires (bodies-calls t) (bodies-at t) bodies.Post bodies-Inv-loop bodies-μ-loop
+bodies-formula-requires : (t : ℕ) → bodies-lts.Need-formula-requires (bodies-calls t) (bodies-at t) bodies.Post
+    bodies-Inv-loop bodies-μ-loop
 bodies-formula-requires t c κs =
     let s = c .before .before .before .before .before .before .before in
     (omega (arith, s .pre .0), (s .pre .1 .0, s .pre .1 .1 .0))
 
-bodies-array-write-cells : (t : ℕ) → bodies-lts.Need-array-write-cells (bodies-calls t) (bodies-at t) bodies.Post bodies-Inv-loop bodies-μ-loop
+bodies-array-write-cells : (t : ℕ) → bodies-lts.Need-array-write-cells (bodies-calls t) (bodies-at t) bodies.Post
+    bodies-Inv-loop bodies-μ-loop
 bodies-array-write-cells t c = omega (arith, c .before .before .before .before .scope-of-variable .ensures .1)
 
 bodies-add-k : (t : ℕ) → bodies-lts.Need-add-k (bodies-calls t) (bodies-at t) bodies.Post bodies-Inv-loop bodies-μ-loop
@@ -155,8 +159,10 @@ bodies-loop-again t c =
     let sheet = sheetOf (s .args .sheet .now) in
     let l = c .before .before .before .loop in (
       omega arith,
-      filled-more (l .cells) _ (l .k) (c .formula .result) (l .inv .1) (omega (arith, c .before .before .before .before .scope-of-variable .ensures .1))
-          (c .formula .ensures ∙ ap (λ e. truthInTree sheet (s .args .instance .now) e (treeAt sheet (s .args .at))) (c .before .bind .ensures)),
+      filled-more (l .cells) _ (l .k) (c .formula .result) (l .inv .1)
+          (omega (arith, c .before .before .before .before .scope-of-variable .ensures .1))
+          (c .formula .ensures
+          ∙ ap (λ e. truthInTree sheet (s .args .instance .now) e (treeAt sheet (s .args .at))) (c .before .bind .ensures)),
     )
 
 bodies-returns : (t : ℕ) → bodies-lts.Need-returns (bodies-calls t) (bodies-at t) bodies.Post bodies-Inv-loop bodies-μ-loop
@@ -203,7 +209,8 @@ expression-expression-requires t c κs =
     let b = at-binary (expression-node t n) (c .enum-told2 .given .1) in
     (omega (arith, b .lower-a, expression-start t n .pre .0), (expression-start t n .pre .1 .0, b .left))
 
-expression-expression-requires-2 : (t : ℕ) → expression-lts.Need-expression-requires-2 (expression-calls t) (expression-at t) expression.Post
+expression-expression-requires-2 : (t : ℕ)
+    → expression-lts.Need-expression-requires-2 (expression-calls t) (expression-at t) expression.Post
 expression-expression-requires-2 t c κs =
     let n = c .before .before .before in
     let b = at-binary (expression-node t n) (c .before .enum-told2 .given .1) in
@@ -215,7 +222,8 @@ expression-binary-requires t c κs = (c .before .expression .ensures .fine, c .e
 expression-enum-told-3 : (t : ℕ) → expression-lts.Need-enum-told-3 (expression-calls t) (expression-at t) expression.Post
 expression-enum-told-3 t c = search needs
 
-expression-expression-requires-3 : (t : ℕ) → expression-lts.Need-expression-requires-3 (expression-calls t) (expression-at t) expression.Post
+expression-expression-requires-3 : (t : ℕ)
+    → expression-lts.Need-expression-requires-3 (expression-calls t) (expression-at t) expression.Post
 expression-expression-requires-3 t c κs =
     let n = c .before .before in
     let b = at-unary (expression-node t n) (c .enum-told3 .given .1) in

@@ -52,7 +52,9 @@ returns-4 : tie.Need-returns-4
 returns-4 c = rw (c .before .enum-told4 .given .1) (c .either2 .ensures)
 
 returns-5 : tie.Need-returns-5
-returns-5 c = rw (c .before .before .before .enum-told5 .given .1, ← c .before .before .either3 .ensures, ← c .before .either4 .ensures) (c .both3 .ensures)
+returns-5 c =
+    rw (c .before .before .before .enum-told5 .given .1, ← c .before .before .either3 .ensures, ← c .before .either4 .ensures)
+    (c .both3 .ensures)
 
 pub pair-spec : {M : Type 1} → statement M
 pair-spec =

@@ -50,7 +50,8 @@ loop-again : tie.Need-loop-again Inv-loop μ-loop
 loop-again c =
     let l = c .before .before .before .before .before .loop in (
       omega arith,
-      all-more (paired (c .before .before .before .before .before .before .before .args .pairing)) _ (l .k) (l .fine) (c .both .result) (l .inv .1)
+      all-more (paired (c .before .before .before .before .before .before .before .args .pairing)) _ (l .k) (l .fine) (c .both .result)
+          (l .inv .1)
           (rw (← c .before .pair .ensures) (c .both .ensures)),
     )
 
