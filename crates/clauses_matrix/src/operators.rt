@@ -1,7 +1,6 @@
 // Expressions, operator by operator: cells in row order (document 01, "Clauses", the last list).
-ghost use mathlib.Core.Path.{_≡_};
 ghost use mathlib.Core.List.{List};
-ghost use Prim.Native.Nat.{_*_, _<_, _≤_};
+ghost use Prim.Native.Nat.{_*_, _<_};
 ghost use lib.IntN.{ℤ};
 ghost use Rattle.relational.specs.Trees.{join, product, inverse, closure};
 ghost use Rattle.relational.specs.Matrices as matrices;

@@ -13,7 +13,8 @@ use Rattle.clauses_rules.specs.Translation.{absent}
 use Rattle.clauses_matrix.specs.Matrices.{matrixOf, EmitsCells}
 use Rattle.clauses_emission.proofs.Steps.{regular-return, emits-return, emits-map, emits-as}
 use Rattle.clauses_matrix.proofs.Numbers.{placeOf, places-by-number, some-columns, row-below, column-below}
-use Rattle.clauses_matrix.proofs.Fills.{cells-start, cells-next, cells-done, operand-at, operand-inside, size-fits, cell-below, one-more}
+use Rattle.clauses_matrix.proofs.Fills.{cells-start, cells-next, cells-done, operand-at, operand-inside, size-fits, cell-below}
+use Rattle.clauses_matrix.proofs.Fills.{one-more}
 use Rattle.clauses_matrix.proofs.Fills.{fits-small, fits-part, fits-four, fits-next, place-in}
 use Rattle.clauses_matrix.proofs.Regulars.{each-return}
 use Rattle.relational.specs.Matrices.{Place, upto, cellAt, places, relationOf}
@@ -36,11 +37,10 @@ mul-size c = size-fits (c .args .t2 .columns) (c .args .t2 .rows) (c .pre .1 .co
 
 loop-holds : tie.Need-loop-holds Inv-loop μ-loop
 loop-holds c =
-    let start = c in
-    let p = start .args .t2 in (
+    let p = c .args .t2 in (
       omega arith,
       λ list. cells-start (λ l. return l) (λ a. literalOf (getD (p .cells) ((a % p .rows) * p .columns + a / p .rows) (pos 0))) list
-          (start .args .tape) (start .pre .0),
+          (c .args .tape) (c .pre .0),
     )
 
 below : (c : tie.In-loop Inv-loop μ-loop) → c .before .loop .k < 64

@@ -9,7 +9,7 @@ use lib.ListN.{getD}
 use borrow.Author.Needs.{needs}
 use Rattle.literal.specs.Literals.{literalOf}
 use Rattle.literal.proofs.Signs.{back}
-use Rattle.relational.specs.Matrices.{upto, cellAt, joinColumns, middles, places}
+use Rattle.relational.specs.Matrices.{upto, cellAt, joinColumns, middles}
 use Rattle.clauses_rules.specs.Builder.{each}
 use Rattle.clauses_rules.specs.Gates.{or}
 use Rattle.clauses_rules.specs.Translation.{Two, absent, both}

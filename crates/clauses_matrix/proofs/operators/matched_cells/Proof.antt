@@ -16,13 +16,16 @@ use Rattle.clauses_emission.specs.Emission.{pairing}
 use Rattle.clauses_matrix.specs.Matrices.{matrixOf, EmitsCells}
 use Rattle.clauses_emission.proofs.Ranges.{inside-grows}
 use Rattle.clauses_emission.proofs.Steps.{regular-pairing}
-use Rattle.clauses_matrix.proofs.Fills.{cells-start, cells-next, cells-done, operand-at, operand-inside, pairAt, size-fits, cell-below, one-more}
+use Rattle.clauses_matrix.proofs.Fills.{cells-start, cells-next, cells-done, operand-at, operand-inside, pairAt, size-fits}
+use Rattle.clauses_matrix.proofs.Fills.{cell-below, one-more}
 use Rattle.clauses_matrix.proofs.operators.matched_cells.Statement.{statement}
 use Rattle.clauses_matrix.proofs.operators.matched_cells.Tie as tie
 
 abbrev Inv-loop : tie.InvT-loop
 Inv-loop list₀ kind p q size cells₀ after₀ k₀ list cells after k =
-    (k ≤ size) × EmitsCells k (each (pairing kind) (map (pairAt (p .cells) (q .cells) (λ i. i) (λ i. i)) (upto k)) (after₀ .next)) list₀ after₀ cells list after
+    (k ≤ size)
+    × EmitsCells k (each (pairing kind) (map (pairAt (p .cells) (q .cells) (λ i. i) (λ i. i)) (upto k)) (after₀ .next))
+    list₀ after₀ cells list after
 
 abbrev μ-loop : tie.MeasureT-loop
 μ-loop list₀ kind p q size cells₀ after₀ k₀ list cells after k = size - k
@@ -31,12 +34,11 @@ mul-size : tie.Need-mul-size Inv-loop μ-loop
 mul-size c = size-fits (c .args .t4 .rows) (c .args .t4 .columns) (c .pre .1 .0 .rows) (c .pre .1 .0 .columns)
 
 loop-holds : tie.Need-loop-holds Inv-loop μ-loop
-loop-holds c =
-    let start = c in (
-      omega arith,
-      cells-start (pairing (start .args .kind)) (pairAt (start .args .t4 .cells) (start .args .t5 .cells) (λ i. i) (λ i. i))
-          (start .args .list .now) (start .args .tape) (start .pre .0),
-    )
+loop-holds c = (
+  omega arith,
+  cells-start (pairing (c .args .kind)) (pairAt (c .args .t4 .cells) (c .args .t5 .cells) (λ i. i) (λ i. i))
+      (c .args .list .now) (c .args .tape) (c .pre .0),
+)
 
 below : (c : tie.In-loop Inv-loop μ-loop) → c .before .loop .k < 64
 below c =

@@ -18,7 +18,8 @@ use Rattle.clauses_emission.specs.declared.Pairing.the-variants.{Both}
 use Rattle.clauses_emission.proofs.Ranges.{inside-grows}
 use Rattle.clauses_emission.proofs.Steps.{regular-pairing, emits-map, emits-as}
 use Rattle.clauses_matrix.proofs.Numbers.{placeOf, places-by-number, some-columns, row-below, column-below}
-use Rattle.clauses_matrix.proofs.Fills.{cells-start, cells-next, cells-done, operand-at, operand-inside, pairAt, size-fits, cell-below, one-more}
+use Rattle.clauses_matrix.proofs.Fills.{cells-start, cells-next, cells-done, operand-at, operand-inside, pairAt, size-fits}
+use Rattle.clauses_matrix.proofs.Fills.{cell-below, one-more}
 use Rattle.clauses_matrix.proofs.Fills.{fits-four, fits-next}
 use Rattle.clauses_matrix.proofs.operators.product.Statement.{statement}
 use Rattle.clauses_matrix.proofs.operators.product.Tie as tie
@@ -26,23 +27,22 @@ use Rattle.clauses_matrix.proofs.operators.product.Tie as tie
 abbrev Inv-loop : tie.InvT-loop
 Inv-loop list₀ p q columns size cells₀ after₀ k₀ list cells after k =
     (k ≤ size)
-    × EmitsCells k (each both (map (pairAt (p .cells) (q .cells) (λ a. a / columns) (λ a. a % columns)) (upto k)) (after₀ .next)) list₀ after₀ cells list after
+    × EmitsCells k (each both (map (pairAt (p .cells) (q .cells) (λ a. a / columns) (λ a. a % columns)) (upto k)) (after₀ .next))
+    list₀ after₀ cells list after
 
 abbrev μ-loop : tie.MeasureT-loop
 μ-loop list₀ p q columns size cells₀ after₀ k₀ list cells after k = size - k
 
 mul-size : tie.Need-mul-size Inv-loop μ-loop
 mul-size c =
-    let start = c in
-    size-fits (start .args .t3 .columns) (start .args .t4 .columns) (start .pre .1 .0 .columns) (start .pre .1 .1 .columns)
+    size-fits (c .args .t3 .columns) (c .args .t4 .columns) (c .pre .1 .0 .columns) (c .pre .1 .1 .columns)
 
 loop-holds : tie.Need-loop-holds Inv-loop μ-loop
-loop-holds c =
-    let start = c in (
-      omega arith,
-      cells-start both (pairAt (start .args .t3 .cells) (start .args .t4 .cells) (λ a. a / start .args .t4 .columns)
-          (λ a. a % start .args .t4 .columns)) (start .args .list .now) (start .args .tape) (start .pre .0),
-    )
+loop-holds c = (
+  omega arith,
+  cells-start both (pairAt (c .args .t3 .cells) (c .args .t4 .cells) (λ a. a / c .args .t4 .columns)
+      (λ a. a % c .args .t4 .columns)) (c .args .list .now) (c .args .tape) (c .pre .0),
+)
 
 below : (c : tie.In-loop Inv-loop μ-loop) → c .before .loop .k < 64
 below c =
