@@ -18,7 +18,7 @@ use Rattle.clauses_emission.proofs.Ranges.{inside-opposite}
 use Rattle.clauses_emission.proofs.Steps.{Regular, emits-map}
 
 -- ---- the clauses of a gate's inputs
-pub inputs-more : (g : ℕ) (ls : List Literal) (l : Literal)
+inputs-more : (g : ℕ) (ls : List Literal) (l : Literal)
     → inputClauses g (ls ++ (l ∷ [])) ≡ inputClauses g ls ++ ((positive g ∷ opposite l ∷ []) ∷ [])
 unfolding inputClauses
 inputs-more g [] l = refl
@@ -33,12 +33,12 @@ inputs-next g ws k h =
     ∙ ap (inputClauses g) (map-append literalOf (take k ws) (getD ws k (pos 0) ∷ []))
     ∙ inputs-more g (literalsOf (take k ws)) (literalOf (getD ws k (pos 0))))
 
-pub inputs-clauses : (g : ℕ) (ls : List Literal) → length (inputClauses g ls) ≡ length ls
+inputs-clauses : (g : ℕ) (ls : List Literal) → length (inputClauses g ls) ≡ length ls
 unfolding inputClauses
 inputs-clauses g [] = refl
 inputs-clauses g (l ∷ ls) = ap suc (inputs-clauses g ls)
 
-pub inputs-words : (g : ℕ) (ls : List Literal) → length (wordsFor (inputClauses g ls)) ≡ 3 * length ls
+inputs-words : (g : ℕ) (ls : List Literal) → length (wordsFor (inputClauses g ls)) ≡ 3 * length ls
 unfolding inputClauses wordsOf
 inputs-words g [] = refl
 inputs-words g (l ∷ ls) = omega (arith, inputs-words g ls)

@@ -3,7 +3,7 @@ ghost use mathlib.Core.Path.{_≡_};
 ghost use Prim.Native.Nat.{_≤_};
 ghost use lib.IntN.{pos};
 ghost use lib.ListN.{length};
-ghost use Rattle.literal.specs.Literals.{literalOf, opposite};
+ghost use Rattle.literal.specs.Literals.{literalOf};
 ghost use Rattle.clauses_rules.specs.Gates as spec;
 ghost use Rattle.clauses_rules.specs.Gates.{gateOf, inputClauses};
 ghost use Rattle.clauses_rules.specs.Translation as two;
@@ -20,7 +20,8 @@ fn gate_inputs(list: &mut [i32], tape: Tape, g: i32, inputs: &[i32]) -> Tape
     requires { ⌜ Within (tape .next) ⌝ }
     requires { ⌜ Inputs (tape .next) (now inputs) ⌝ }
     requires { ⌜ g ≡ pos (tape .next) ⌝ }
-    ensures { λ r. ⌜ Appends (inputClauses (tape .next) (literalsOf (now (inputs .entry)))) (now (list .entry)) tape (now (list .exit)) r ⌝ }
+    ensures { λ r. ⌜ Appends (inputClauses (tape .next) (literalsOf (now (inputs .entry))))
+        (now (list .entry)) tape (now (list .exit)) r ⌝ }
 {
     let mut after = tape;
     let mut k: usize = 0;

@@ -18,14 +18,15 @@ use Rattle.clauses_emission.specs.declared.Tape.{Tape}
 use Rattle.clauses_emission.specs.declared.Pairing.the-variants.{Both}
 use Rattle.clauses_emission.specs.Emission.{AllInside, literalsOf, Inputs, Bounded, Emits, EmitsLiteral}
 use Rattle.clauses_emission.proofs.Ranges.{all-grows}
-use Rattle.clauses_emission.proofs.Steps.{regular-each, regular-map, regular-pairing, emits-return, emits-bind, emits-map, emits-as, each-more}
+use Rattle.clauses_emission.proofs.Steps.{regular-each, regular-map, regular-pairing, emits-return, emits-bind, emits-map, emits-as}
+use Rattle.clauses_emission.proofs.Steps.{each-more}
 use Rattle.clauses_matrix.proofs.Fills.{all-set, all-front, blank-inside}
 
 -- ---- the pairs from i and j on
 unfoldable pub rest : List Literal → ℕ → ℕ → List Two
 rest ls i j = map {B = Two} (λ y. (getD ls i absent, y)) (drop j ls) ++ pairs (drop (suc i) ls)
 
-pub pairs-rest : (ls : List Literal) (m : ℕ) → pairs (drop m ls) ≡ rest ls m (suc m)
+pairs-rest : (ls : List Literal) (m : ℕ) → pairs (drop m ls) ≡ rest ls m (suc m)
 unfolding rest
 pairs-rest [] zero = refl
 pairs-rest [] (suc m) = refl

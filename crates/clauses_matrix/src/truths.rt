@@ -68,7 +68,6 @@ pub fn lone(list: &mut [i32], tape: Tape, p: Literals) -> Made
     requires { ⌜ Operand (tape .next) p ⌝ }
     ensures { λ r. ⌜ EmitsTest (translateTest lone) p (now (list .entry)) tape (r .literal) (now (list .exit)) (r .tape) ⌝ }
 {
-    let cells = p.cells;
     let n = p.rows * p.columns;
     let mut pairs = [-1; 2016];
     let mut after = tape;
@@ -76,7 +75,7 @@ pub fn lone(list: &mut [i32], tape: Tape, p: Literals) -> Made
     let mut i: usize = 0;
     let mut j: usize = 1;
     while j < n {
-        let made = both(list, after, cells[i], cells[j]);
+        let made = both(list, after, p.cells[i], p.cells[j]);
         let l = made.literal;
         pairs[t] = l;
         after = made.tape;

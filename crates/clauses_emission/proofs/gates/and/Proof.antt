@@ -8,7 +8,6 @@ use native.Mathlib.Omega.{arith}
 use lib.IntN.{pos, negsuc}
 use lib.ListN.{length, getD, take, length-set, length-replicate, length-take}
 use lib.Seq.{length-take-le}
-use borrow.Author.Needs.{needs}
 use Rattle.literal.specs.Literals.{opposite, literalOf}
 use Rattle.literal.proofs.Signs.{read}
 use Rattle.clauses_rules.specs.Gates.{or}

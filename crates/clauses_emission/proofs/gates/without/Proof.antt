@@ -4,7 +4,6 @@ use mathlib.Core.List.{[], _∷_}
 use Rattle.literal.specs.Literals.{opposite, literalOf}
 use Rattle.literal.proofs.Signs.{read, back}
 use Rattle.clauses_rules.specs.Gates.{or}
-use Rattle.clauses_rules.specs.Translation as two
 use Rattle.clauses_emission.specs.Emission.{EmitsLiteral}
 use Rattle.clauses_emission.proofs.Ranges.{opposite-read, opposite-twice}
 use Rattle.clauses_emission.proofs.Ors.{emits-turned}

@@ -28,33 +28,33 @@ use Rattle.clauses_matrix.proofs.truths.lone.Statement.{statement}
 use Rattle.clauses_matrix.proofs.truths.lone.Tie as tie
 
 abbrev Inv-loop : tie.InvT-loop
-Inv-loop list₀ cells n pairs₀ after₀ t₀ i₀ j₀ list pairs after t i j = Passed (cellsOf n cells) t i j list₀ after₀ pairs list after
+Inv-loop list₀ p n pairs₀ after₀ t₀ i₀ j₀ list pairs after t i j = Passed (cellsOf n (p .cells)) t i j list₀ after₀ pairs list after
 
 abbrev μ-loop : tie.MeasureT-loop
-μ-loop list₀ cells n pairs₀ after₀ t₀ i₀ j₀ list pairs after t i j = length (rest (cellsOf n cells) i j)
+μ-loop list₀ p n pairs₀ after₀ t₀ i₀ j₀ list pairs after t i j = length (rest (cellsOf n (p .cells)) i j)
 
 mul-n : tie.Need-mul-n Inv-loop μ-loop
 mul-n c =
-    size-fits (c .before .before .args .p .rows) (c .before .before .args .p .columns) (c .before .before .pre .1 .rows)
-    (c .before .before .pre .1 .columns)
+    size-fits (c .args .t3 .rows) (c .args .t3 .columns) (c .pre .1 .rows)
+    (c .pre .1 .columns)
 
 loop-holds : tie.Need-loop-holds Inv-loop μ-loop
 loop-holds c =
-    passed-start (matrixOf (c .before .before .args .p) .cells) (c .before .before .args .list .now) (c .before .before .args .tape)
-    (c .before .before .pre .0)
+    passed-start (matrixOf (c .args .t3) .cells) (c .args .list .now) (c .args .tape)
+    (c .pre .0)
 
 -- what a turn knows
 abbrev cells : tie.At-loop Inv-loop μ-loop → List Literal
-cells c = matrixOf (c .before .before .before .args .p) .cells
+cells c = matrixOf (c .before .args .t3) .cells
 
 size-of : (c : tie.At-loop Inv-loop μ-loop)
-    → length (cells c) ≡ c .before .before .before .args .p .rows * c .before .before .before .args .p .columns
+    → length (cells c) ≡ c .before .args .t3 .rows * c .before .args .t3 .columns
 size-of c =
-    let start = c .before .before .before in
-    cells-length (start .args .p .rows * start .args .p .columns) (start .args .tape .next) (start .args .p .cells) (start .pre .1 .cells)
+    let start = c .before in
+    cells-length (start .args .t3 .rows * start .args .t3 .columns) (start .args .tape .next) (start .args .t3 .cells) (start .pre .1 .cells)
 
 few : (c : tie.At-loop Inv-loop μ-loop) → length (cells c) ≤ 64
-few c = rw (size-of c) (c .before .before .before .pre .1 .cells .small)
+few c = rw (size-of c) (c .before .pre .1 .cells .small)
 
 inner : (c : tie.In-loop Inv-loop μ-loop) → c .before .loop .j < length (cells (c .before))
 inner c = rw (size-of (c .before)) (c .loop-test .taken)
@@ -92,8 +92,8 @@ made : (c : tie.After-both Inv-loop μ-loop)
 made c =
     let turn = c .before .before .before .before in
     let loop = turn .before .loop in
-    let start = turn .before .before .before .before in
-    let p = start .args .p in
+    let start = turn .before .before in
+    let p = start .args .t3 in
     let n = start .args .tape .next in
     rw (
       back (getD (p .cells) (loop .i) (pos 0)) (record { sfits = c .before .before .both-arg2 .given }),
@@ -106,21 +106,21 @@ made c =
 mul-both : tie.Need-mul-both Inv-loop μ-loop
 mul-both c = fits-four _ (below-i (c .before))
 
-array-copy-out-both : tie.Need-array-copy-out-both Inv-loop μ-loop
-array-copy-out-both c = below-i (c .before)
+element-copy-out-both : tie.Need-element-copy-out-both Inv-loop μ-loop
+element-copy-out-both c = below-i (c .before)
 
 mul-both-2 : tie.Need-mul-both-2 Inv-loop μ-loop
 mul-both-2 c = fits-four _ (below-j (c .before .before))
 
-array-copy-out-both-2 : tie.Need-array-copy-out-both-2 Inv-loop μ-loop
-array-copy-out-both-2 c = below-j (c .before .before)
+element-copy-out-both-2 : tie.Need-element-copy-out-both-2 Inv-loop μ-loop
+element-copy-out-both-2 c = below-j (c .before .before)
 
 both-requires : tie.Need-both-requires Inv-loop μ-loop
 both-requires c κs =
-    let start = c .before .before .before .before .before .before .before in
+    let start = c .before .before .before .before .before in
     let loop = c .before .before .before .before .loop in
     let turn = c .before .before .before in
-    let p = start .args .p in
+    let p = start .args .t3 in
     let n = start .args .tape .next in (
       loop .inv .emits .bounded,
       (
@@ -213,7 +213,7 @@ returns c =
     opposite-read (call .result .tape .next) w (c .opposite .result) (call .ensures .bounded .last)
     (search needs) (call .ensures .fine) (c .opposite .ensures) (record { sfits = c .opposite .ok })
     in
-    emits-as (never-both ts (at .before .before .before .args .tape .next)) refl
+    emits-as (never-both ts (at .before .args .tape .next)) refl
     (emits-turned (each both ts >>= or) w (read (c .opposite .result))
     (emits-bind (each both ts) or (regular-each both (regular-pairing Both) ts) regular-or
     (passed-all (cells at) (at .loop .t) (at .loop .i) (at .loop .j) (at .loop .pairs) (at .loop .inv)
@@ -230,9 +230,9 @@ lone-spec =
     mul-n
     loop-holds
     mul-both
-    array-copy-out-both
+    element-copy-out-both
     mul-both-2
-    array-copy-out-both-2
+    element-copy-out-both-2
     both-requires
     mul-pairs
     array-set-from-pairs
