@@ -107,7 +107,8 @@ two-columns k (inl e) = (omega (arith, e), omega (arith, e))
 two-columns k (inr e) = (omega (arith, e), omega (arith, e))
 
 -- the cells of a relation
-module _ {sheet : Sheet} (facts : Facts sheet) (given : List ℤ) (r : ℕ) (env : Environment) {arity rows columns first : ℕ} (ws : List ℤ) where
+module _ {sheet : Sheet} (facts : Facts sheet) (given : List ℤ) (r : ℕ) (env : Environment)
+    {arity rows columns first : ℕ} (ws : List ℤ) where
   pub relation-from : r < relationCount sheet → arity ≡ blocks.columns sheet r → (rows ≡ rowCount sheet r) × (rows ≤ 8)
       → (columns ≡ rowLength sheet r) × (columns ≤ 8) → first ≡ firstCell sheet r → Filled (cellFrom given first) (rows * columns) ws
       → LeafIs sheet given relation r env (record { arity = arity; rows = rows; columns = columns; cells = ws })

@@ -5,7 +5,8 @@ use Prim.Native.Nat.{ℕ, zero, suc, _+_, _≤_, _<_}
 use native.Mathlib.Omega.{arith}
 use native.Mathlib.Decide.{ℕ-discrete, decLt}
 use lib.IntN.{ℤ, pos, negsuc}
-use lib.ListN.{length, getD, set, take, replicate, length-set, length-map, getD-replicate, length-replicate, List·getD-eq-default, List·getD-map}
+use lib.ListN.{length, getD, set, take, replicate, length-set, length-map, getD-replicate, length-replicate}
+use lib.ListN.{List·getD-eq-default, List·getD-map}
 use lib.Seq.{getD-set-same, getD-set-other, getD-take, length-take-le, ext-getD}
 use Rattle.literal.specs.Literals.{Literal, literalOf}
 use Rattle.relational.specs.Matrices.{upto}

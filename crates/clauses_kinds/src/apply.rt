@@ -29,7 +29,8 @@ pub fn binary(list: &mut [i32], kind: usize, p: MadeMatrix, q: MadeMatrix) -> Ma
     requires { ⌜ Operand (q .tape .next) (p .matrix) ⌝ }
     requires { ⌜ Operand (q .tape .next) (q .matrix) ⌝ }
     ensures { λ r. ⌜ ((o : Binary) → symbolOf kind ≡ binary-symbol o
-        → EmitsBinary (translateBinary o) (p .matrix) (q .matrix) (now (list .entry)) (q .tape) (r .matrix) (now (list .exit)) (r .tape)) ⌝ }
+        → EmitsBinary (translateBinary o) (p .matrix) (q .matrix)
+        (now (list .entry)) (q .tape) (r .matrix) (now (list .exit)) (r .tape)) ⌝ }
 {
     let left = p.matrix;
     let right = q.matrix;
@@ -109,7 +110,8 @@ pub fn connect(list: &mut [i32], kind: usize, p: Made, q: Made) -> Made
     requires { ⌜ Inside (q .tape .next) (literalOf (p .literal)) ⌝ }
     requires { ⌜ Inside (q .tape .next) (literalOf (q .literal)) ⌝ }
     ensures { λ r. ⌜ ((o : Connective) → symbolOf kind ≡ connective-symbol o
-        → EmitsTwo (translateConnective o) (p .literal) (q .literal) (now (list .entry)) (q .tape) (r .literal) (now (list .exit)) (r .tape)) ⌝ }
+        → EmitsTwo (translateConnective o) (p .literal) (q .literal)
+        (now (list .entry)) (q .tape) (r .literal) (now (list .exit)) (r .tape)) ⌝ }
 {
     let tape = q.tape;
     match kind {

@@ -1,5 +1,4 @@
 mod Regulars
 mod Walking
-mod ExpressionWalks
-mod FormulaWalks
+mod NodeWalks
 mod BodyWalks

@@ -1,18 +1,21 @@
 // The walk (document 01, "Clauses"): a node's operands in order, then the node's own cells. Expressions and formulas call each other with
 // a falling node number. Past the limit of variables nothing is walked any more.
 ghost use Prim.Native.Nat.{_<_};
-ghost use Rattle.sheet_rules.specs.Blocks.{fourBlocks};
+ghost use Rattle.literal.specs.Literals.{literalOf};
+ghost use Rattle.sheet_rules.specs.Blocks.{sheetOf};
 ghost use Rattle.nodes.specs.Nodes.{IsExpression, IsFormula};
 ghost use Rattle.clauses_translation.specs.Walks.{Ready, WalksExpression, WalksFormula, WalksBodies};
+use cells::scope_of_variable;
+use clauses_emission::LIMIT;
 use clauses_emission::Made;
 use clauses_emission::Tape;
-use clauses_kinds::apply::combine;
+use clauses_kinds::apply::binary;
+use clauses_kinds::apply::compare;
 use clauses_kinds::apply::connect;
-use clauses_kinds::apply::contrast;
-use clauses_kinds::apply::convert;
-use clauses_kinds::apply::measure;
 use clauses_kinds::apply::negate;
 use clauses_kinds::apply::quantify;
+use clauses_kinds::apply::test;
+use clauses_kinds::apply::unary;
 use clauses_kinds::leaves::leaf;
 use clauses_kinds::leaves::nothing;
 use clauses_matrix::Literals;
@@ -21,227 +24,101 @@ use nodes::environments::bind;
 use nodes::forms::ExpressionForm;
 use nodes::forms::FormulaForm;
 use nodes::forms::read_node;
-use sheet::bytes::byte;
+use sheet_rules::Layout;
 
-// The last next variable with which the walk goes on: 16,000 variables are used then.
-const LIMIT: usize = 16001;
-
-// Node v as an expression: its matrix.
+// A node as an expression: its matrix.
 fn expression(
-    sorts: &[u8],
-    variables: &[u8],
-    relations: &[u8],
-    nodes: &[u8],
-    given: &[i32],
-    env: [usize; 4],
-    v: usize,
     list: &mut [i32],
     tape: Tape,
+    sheet: &[u8],
+    layout: Layout,
+    given: &[i32],
+    starts: &[usize],
+    env: [usize; 4],
+    at: usize,
 ) -> MadeMatrix
-    requires { ⌜ Ready (fourBlocks (now sorts) (now variables) (now relations) (now nodes)) (now given) tape ⌝ }
-    requires { ⌜ IsExpression (fourBlocks (now sorts) (now variables) (now relations) (now nodes)) v ⌝ }
-    ensures { λ r. ⌜ WalksExpression
-        (fourBlocks (now (sorts .entry)) (now (variables .entry)) (now (relations .entry)) (now (nodes .entry)))
-        (now (given .entry)) env v (now (list .entry)) tape (r .matrix) (now (list .exit)) (r .tape) ⌝ }
+    requires { ⌜ Ready (now sheet) layout (now given) (now starts) tape ⌝ }
+    requires { ⌜ IsExpression (sheetOf (now sheet)) at ⌝ }
+    ensures { λ r. ⌜ WalksExpression (sheetOf (now (sheet .entry))) (now (given .entry)) env at
+        (now (list .entry)) tape (r .matrix) (now (list .exit)) (r .tape) ⌝ }
 {
     if LIMIT < tape.next {
         let matrix = nothing();
-        return MadeMatrix {
-            matrix: matrix,
-            tape: tape,
-        };
+        return MadeMatrix { matrix, tape };
     }
-    let node = read_node(nodes, v);
+    let node = read_node(sheet, layout, at);
     let form = node.expression;
     let kind = node.kind;
     let a = node.a;
     let b = node.b;
     match form {
         ExpressionForm::Leaf => {
-            let matrix = leaf(sorts, variables, relations, given, env, kind, a);
-            MadeMatrix {
-                matrix: matrix,
-                tape: tape,
-            }
+            let matrix = leaf(sheet, layout, given, starts, env, kind, a);
+            MadeMatrix { matrix, tape }
         }
         ExpressionForm::Binary => {
-            let p = expression(
-                sorts,
-                variables,
-                relations,
-                nodes,
-                given,
-                env,
-                a,
-                list,
-                tape,
-            );
+            let p = expression(list, tape, sheet, layout, given, starts, env, a);
             let after = p.tape;
-            let q = expression(
-                sorts,
-                variables,
-                relations,
-                nodes,
-                given,
-                env,
-                b,
-                list,
-                after,
-            );
-            combine(list, kind, p, q)
+            let q = expression(list, after, sheet, layout, given, starts, env, b);
+            binary(list, kind, p, q)
         }
         ExpressionForm::Unary => {
-            let p = expression(
-                sorts,
-                variables,
-                relations,
-                nodes,
-                given,
-                env,
-                a,
-                list,
-                tape,
-            );
-            convert(list, kind, p)
+            let p = expression(list, tape, sheet, layout, given, starts, env, a);
+            unary(list, kind, p)
         }
-        ExpressionForm::Comprehension => bodies(
-            sorts,
-            variables,
-            relations,
-            nodes,
-            given,
-            env,
-            b,
-            list,
-            tape,
-            a,
-        ),
+        ExpressionForm::Comprehension => {
+            bodies(list, tape, sheet, layout, given, starts, env, b, a)
+        }
     }
 }
 
-// Node v as a formula: its literal.
+// A node as a formula: its literal.
 pub fn formula(
-    sorts: &[u8],
-    variables: &[u8],
-    relations: &[u8],
-    nodes: &[u8],
-    given: &[i32],
-    env: [usize; 4],
-    v: usize,
     list: &mut [i32],
     tape: Tape,
+    sheet: &[u8],
+    layout: Layout,
+    given: &[i32],
+    starts: &[usize],
+    env: [usize; 4],
+    at: usize,
 ) -> Made
-    requires { ⌜ Ready (fourBlocks (now sorts) (now variables) (now relations) (now nodes)) (now given) tape ⌝ }
-    requires { ⌜ IsFormula (fourBlocks (now sorts) (now variables) (now relations) (now nodes)) v ⌝ }
-    ensures { λ r. ⌜ WalksFormula
-        (fourBlocks (now (sorts .entry)) (now (variables .entry)) (now (relations .entry)) (now (nodes .entry)))
-        (now (given .entry)) env v (now (list .entry)) tape (r .literal) (now (list .exit)) (r .tape) ⌝ }
+    requires { ⌜ Ready (now sheet) layout (now given) (now starts) tape ⌝ }
+    requires { ⌜ IsFormula (sheetOf (now sheet)) at ⌝ }
+    ensures { λ r. ⌜ WalksFormula (sheetOf (now (sheet .entry))) (now (given .entry)) env at
+        (now (list .entry)) tape (literalOf (r .literal)) (now (list .exit)) (r .tape) ⌝ }
 {
     if LIMIT < tape.next {
-        return Made {
-            literal: -1,
-            tape: tape,
-        };
+        return Made { literal: -1, tape };
     }
-    let node = read_node(nodes, v);
+    let node = read_node(sheet, layout, at);
     let form = node.formula;
     let kind = node.kind;
     let a = node.a;
     let b = node.b;
     match form {
         FormulaForm::Comparison => {
-            let p = expression(
-                sorts,
-                variables,
-                relations,
-                nodes,
-                given,
-                env,
-                a,
-                list,
-                tape,
-            );
+            let p = expression(list, tape, sheet, layout, given, starts, env, a);
             let after = p.tape;
-            let q = expression(
-                sorts,
-                variables,
-                relations,
-                nodes,
-                given,
-                env,
-                b,
-                list,
-                after,
-            );
-            contrast(list, kind, p, q)
+            let q = expression(list, after, sheet, layout, given, starts, env, b);
+            compare(list, kind, p, q)
         }
         FormulaForm::Test => {
-            let p = expression(
-                sorts,
-                variables,
-                relations,
-                nodes,
-                given,
-                env,
-                a,
-                list,
-                tape,
-            );
-            measure(list, kind, p)
+            let p = expression(list, tape, sheet, layout, given, starts, env, a);
+            test(list, kind, p)
         }
         FormulaForm::Negation => {
-            let p = formula(
-                sorts,
-                variables,
-                relations,
-                nodes,
-                given,
-                env,
-                a,
-                list,
-                tape,
-            );
+            let p = formula(list, tape, sheet, layout, given, starts, env, a);
             negate(p)
         }
         FormulaForm::Connective => {
-            let p = formula(
-                sorts,
-                variables,
-                relations,
-                nodes,
-                given,
-                env,
-                a,
-                list,
-                tape,
-            );
+            let p = formula(list, tape, sheet, layout, given, starts, env, a);
             let after = p.tape;
-            let q = formula(
-                sorts,
-                variables,
-                relations,
-                nodes,
-                given,
-                env,
-                b,
-                list,
-                after,
-            );
+            let q = formula(list, after, sheet, layout, given, starts, env, b);
             connect(list, kind, p, q)
         }
         FormulaForm::Quantifier => {
-            let row = bodies(
-                sorts,
-                variables,
-                relations,
-                nodes,
-                given,
-                env,
-                b,
-                list,
-                tape,
-                a,
-            );
+            let row = bodies(list, tape, sheet, layout, given, starts, env, b, a);
             quantify(list, kind, row)
         }
     }
@@ -249,54 +126,42 @@ pub fn formula(
 
 // The body of a binder of variable x, for each atom, ascending: its literals as a set.
 fn bodies(
-    sorts: &[u8],
-    variables: &[u8],
-    relations: &[u8],
-    nodes: &[u8],
-    given: &[i32],
-    env: [usize; 4],
-    v: usize,
     list: &mut [i32],
     tape: Tape,
+    sheet: &[u8],
+    layout: Layout,
+    given: &[i32],
+    starts: &[usize],
+    env: [usize; 4],
+    at: usize,
     x: usize,
 ) -> MadeMatrix
-    requires { ⌜ Ready (fourBlocks (now sorts) (now variables) (now relations) (now nodes)) (now given) tape ⌝ }
-    requires { ⌜ IsFormula (fourBlocks (now sorts) (now variables) (now relations) (now nodes)) v ⌝ }
+    requires { ⌜ Ready (now sheet) layout (now given) (now starts) tape ⌝ }
+    requires { ⌜ IsFormula (sheetOf (now sheet)) at ⌝ }
     requires { ⌜ x < 4 ⌝ }
-    ensures { λ r. ⌜ WalksBodies
-        (fourBlocks (now (sorts .entry)) (now (variables .entry)) (now (relations .entry)) (now (nodes .entry)))
-        (now (given .entry)) env v (now (list .entry)) tape x (r .matrix) (now (list .exit)) (r .tape) ⌝ }
+    ensures { λ r. ⌜ WalksBodies (sheetOf (now (sheet .entry))) (now (given .entry)) env at
+        (now (list .entry)) tape x (r .matrix) (now (list .exit)) (r .tape) ⌝ }
 {
-    let n = byte(sorts, byte(variables, x));
-    let mut words = [-1; 64];
+    let columns = scope_of_variable(sheet, layout, x);
+    let mut cells = [-1; 64];
     let mut after = tape;
     let mut i: usize = 0;
-    while i < n {
+    while i < columns {
         let inner = bind(env, x, i);
-        let made = formula(
-            sorts,
-            variables,
-            relations,
-            nodes,
-            given,
-            inner,
-            v,
-            list,
-            after,
-        );
+        let made = formula(list, after, sheet, layout, given, starts, inner, at);
         let l = made.literal;
-        words[i] = l;
+        cells[i] = l;
         after = made.tape;
         i += 1;
     }
-    let row = Literals {
+    let matrix = Literals {
         arity: 1,
         rows: 1,
-        columns: n,
-        cells: words,
+        columns,
+        cells,
     };
     MadeMatrix {
-        matrix: row,
+        matrix,
         tape: after,
     }
 }
