@@ -11,6 +11,7 @@ use clauses_emission::Pairing;
 use clauses_emission::Tape;
 use clauses_emission::gates::and;
 use clauses_emission::gates::both;
+use clauses_emission::gates::negate;
 use clauses_emission::gates::or;
 
 // Equal (Same) and within (Implies): AND over the cells.
@@ -55,11 +56,7 @@ pub fn none(list: &mut [i32], tape: Tape, p: Literals) -> Made
     ensures { λ r. ⌜ EmitsTest (translateTest none) p (now (list .entry)) tape (r .literal) (now (list .exit)) (r .tape) ⌝ }
 {
     let made = some(list, tape, p);
-    let after = made.tape;
-    Made {
-        literal: literal::opposite(made.literal),
-        tape: after,
-    }
+    negate(made)
 }
 
 // At most one: AND over pairs, in order, of OR(-p, -q). That is the opposite of OR over the pairs of AND(p, q), gate by gate.
@@ -87,9 +84,5 @@ pub fn lone(list: &mut [i32], tape: Tape, p: Literals) -> Made
         }
     }
     let met = or(list, after, &pairs[..t]);
-    let end = met.tape;
-    Made {
-        literal: literal::opposite(met.literal),
-        tape: end,
-    }
+    negate(met)
 }
