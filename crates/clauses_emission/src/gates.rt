@@ -84,7 +84,7 @@ pub fn negate(made: Made) -> Made
     }
 }
 
-// AND of the cells of a matrix at most: the opposite of OR of the opposites.
+// AND of at most 64 literals, as many as a matrix has cells: the opposite of OR of the opposites.
 pub fn and(list: &mut [i32], tape: Tape, inputs: &[i32]) -> Made
     requires { ⌜ Bounded tape ⌝ }
     requires { ⌜ Inputs (tape .next) (now inputs) ⌝ }

@@ -39,7 +39,7 @@ pub fn some(list: &mut [i32], tape: Tape, p: Literals) -> Made
     or(list, tape, &cells[..n])
 }
 
-// AND of the cells.
+// AND of the cells, as some is OR of them.
 pub fn every(list: &mut [i32], tape: Tape, p: Literals) -> Made
     requires { ⌜ Bounded tape ⌝ }
     requires { ⌜ Operand (tape .next) p ⌝ }
@@ -59,7 +59,7 @@ pub fn none(list: &mut [i32], tape: Tape, p: Literals) -> Made
     negate(made)
 }
 
-// At most one: AND over pairs, in order, of OR(-p, -q). That is the opposite of OR over the pairs of AND(p, q), gate by gate.
+// At most one: AND over pairs, in order, of OR(-p, -q). It is made as the opposite of OR over pairs of AND(p, q): the same gates.
 pub fn lone(list: &mut [i32], tape: Tape, p: Literals) -> Made
     requires { ⌜ Bounded tape ⌝ }
     requires { ⌜ Operand (tape .next) p ⌝ }
