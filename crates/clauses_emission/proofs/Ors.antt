@@ -1,5 +1,5 @@
 -- Gates: their clauses, word by word, and OR by the number of its inputs.
-use mathlib.Core.Path.{_≡_, refl, sym, ap, _∙_}
+use mathlib.Core.Path.{_≡_, refl, sym, ap, _∙_, subst}
 use mathlib.Core.List.{List, [], _∷_, _++_, map, append-nil}
 use Prim.Native.Nat.{ℕ, suc, _+_, _*_, _≤_, _<_}
 use native.Mathlib.Omega.{arith}
@@ -12,6 +12,7 @@ use Rattle.relational.proofs.Places.{map-append}
 use Rattle.clauses_rules.specs.Builder.{Builder, return, _<$>_}
 use Rattle.clauses_rules.specs.Gates.{Clause, gateOf, or, inputClauses, gatesClauses}
 use Rattle.clauses_emission.specs.declared.Tape.{Tape}
+use Rattle.clauses_emission.specs.declared.Made.{Made}
 use Rattle.clauses_emission.specs.Emission.{Inside, literalsOf, wordsFor, Appends, Room, Bounded, Within, Emits, EmitsLiteral}
 use Rattle.clauses_emission.proofs.Writes.{writes-then, writes-as, writes-length}
 use Rattle.clauses_emission.proofs.Ranges.{inside-opposite}
@@ -136,7 +137,10 @@ opposites-all ws out k h l i =
     ap (λ (n : ℕ). literalsOf (take n out)) e ∙ i ∙ ap (λ (t : List ℤ). map opposite (literalsOf t)) (take-all k ws l)
 
 -- ---- the opposite of what a step gives
-pub emits-turned : (step : Builder Literal) (w r : ℤ) {old new : List ℤ} {a b : Tape}
-    → EmitsLiteral (step (a .next)) old a w new b → literalOf r ≡ opposite (literalOf w)
-    → EmitsLiteral ((opposite <$> step) (a .next)) old a r new b
-emits-turned step w r {old} {new} {a} {b} p e = emits-map opposite step p e (rw e (inside-opposite (literalOf w) (p .fine)))
+pub emits-negated : (step : Builder Literal) (x y : Made) {old new : List ℤ} {a : Tape}
+    → EmitsLiteral (step (a .next)) old a (x .literal) new (x .tape)
+    → (y .tape ≡ x .tape) × (literalOf (y .literal) ≡ opposite (literalOf (x .literal)))
+    → EmitsLiteral ((opposite <$> step) (a .next)) old a (y .literal) new (y .tape)
+emits-negated step x y {old} {new} {a} p e =
+    subst (EmitsLiteral ((opposite <$> step) (a .next)) old a (y .literal) new) (sym (e .0))
+    (emits-map opposite step p (e .1) (rw (e .1) (inside-opposite (literalOf (x .literal)) (p .fine))))

@@ -11,6 +11,7 @@ use clauses_emission::Pairing;
 use clauses_emission::Tape;
 use clauses_emission::gates::and;
 use clauses_emission::gates::both;
+use clauses_emission::gates::negate;
 use clauses_emission::gates::or;
 
 // Equal (Same) and within (Implies): AND over the cells.
@@ -38,7 +39,7 @@ pub fn some(list: &mut [i32], tape: Tape, p: Literals) -> Made
     or(list, tape, &cells[..n])
 }
 
-// AND of the cells.
+// AND of the cells, as some is OR of them.
 pub fn every(list: &mut [i32], tape: Tape, p: Literals) -> Made
     requires { ⌜ Bounded tape ⌝ }
     requires { ⌜ Operand (tape .next) p ⌝ }
@@ -55,14 +56,10 @@ pub fn none(list: &mut [i32], tape: Tape, p: Literals) -> Made
     ensures { λ r. ⌜ EmitsTest (translateTest none) p (now (list .entry)) tape (r .literal) (now (list .exit)) (r .tape) ⌝ }
 {
     let made = some(list, tape, p);
-    let after = made.tape;
-    Made {
-        literal: literal::opposite(made.literal),
-        tape: after,
-    }
+    negate(made)
 }
 
-// At most one: AND over pairs, in order, of OR(-p, -q). That is the opposite of OR over the pairs of AND(p, q), gate by gate.
+// At most one: AND over pairs, in order, of OR(-p, -q). It is made as the opposite of OR over pairs of AND(p, q): the same gates.
 pub fn lone(list: &mut [i32], tape: Tape, p: Literals) -> Made
     requires { ⌜ Bounded tape ⌝ }
     requires { ⌜ Operand (tape .next) p ⌝ }
@@ -87,9 +84,5 @@ pub fn lone(list: &mut [i32], tape: Tape, p: Literals) -> Made
         }
     }
     let met = or(list, after, &pairs[..t]);
-    let end = met.tape;
-    Made {
-        literal: literal::opposite(met.literal),
-        tape: end,
-    }
+    negate(met)
 }

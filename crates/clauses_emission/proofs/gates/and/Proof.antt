@@ -13,7 +13,7 @@ use Rattle.literal.proofs.Signs.{read}
 use Rattle.clauses_rules.specs.Gates.{or}
 use Rattle.clauses_emission.specs.Emission.{literalsOf, Inside, AllInside}
 use Rattle.clauses_emission.proofs.Ranges.{opposite-read, literal-at, all-opposites}
-use Rattle.clauses_emission.proofs.Ors.{opposites-next, opposites-all, emits-turned}
+use Rattle.clauses_emission.proofs.Ors.{opposites-next, opposites-all, emits-negated}
 use Rattle.clauses_emission.proofs.gates.and.Statement.{statement}
 use Rattle.clauses_emission.proofs.gates.and.Tie as tie
 
@@ -96,24 +96,18 @@ or-requires c κs =
       },
     )
 
-opposite-requires-2 : tie.Need-opposite-requires-2 Inv-loop μ-loop
-opposite-requires-2 c κs = tt
+negate-requires : tie.Need-negate-requires Inv-loop μ-loop
+negate-requires c κs = (c .before .or .ensures .bounded, c .before .or .ensures .fine)
 
 same-length : tie.Need-same-length Inv-loop μ-loop
 same-length c = search needs
 
 returns : tie.Need-returns Inv-loop μ-loop
 returns c =
-    let start = c .before .before .before .before .before .before .before .before .before in
-    let ws = start .args .inputs .now in
-    let call = c .before .before .before .before .or in
-    let w = call .result .literal in
-    let o : literalOf (read (c .opposite2 .result)) ≡ opposite (literalOf w) =
-    opposite-read (call .result .tape .next) w (c .opposite2 .result) (call .ensures .bounded .last)
-    (search needs) (call .ensures .fine) (c .opposite2 .ensures) (record { sfits = c .opposite2 .ok })
-    in
-    emits-turned (or (map opposite (literalsOf ws))) w (read (c .opposite2 .result))
-    (rw (whole (c .before .before .before .before .before .before .before)) at (call .ensures)) o
+    let at = c .before .before .before .before .before in
+    let call = c .before .before .or in
+    emits-negated (or (map opposite (literalsOf (at .before .before .args .inputs .now)))) (call .result) (c .negate .result)
+    (rw (whole at) at (call .ensures)) (c .negate .ensures)
 
 pub and-spec : {M : Type 1} → statement M
 and-spec =
@@ -133,6 +127,6 @@ and-spec =
     array-share-prefix-opposites
     slice-aggregate-or
     or-requires
-    opposite-requires-2
+    negate-requires
     same-length
     returns)

@@ -9,8 +9,8 @@ use lib.ListN.{length, getD}
 use lib.Seq.{length-take-le}
 use mir.Syntax.{w64}
 use mir.Val.{Fits}
-use Rattle.literal.specs.Literals.{Literal, opposite, literalOf}
-use Rattle.literal.proofs.Signs.{read, back}
+use Rattle.literal.specs.Literals.{Literal}
+use Rattle.literal.proofs.Signs.{back}
 use Rattle.relational.specs.Matrices as matrices
 use Rattle.clauses_rules.specs.Builder.{_>>=_, each}
 use Rattle.clauses_rules.specs.Gates.{or}
@@ -18,8 +18,8 @@ use Rattle.clauses_rules.specs.Translation.{absent, both}
 use Rattle.clauses_emission.specs.declared.Pairing.the-variants.{Both}
 use Rattle.clauses_emission.specs.Emission.{EmitsLiteral}
 use Rattle.clauses_matrix.specs.Matrices.{matrixOf, cellsOf}
-use Rattle.clauses_emission.proofs.Ranges.{inside-grows, opposite-read}
-use Rattle.clauses_emission.proofs.Ors.{emits-turned}
+use Rattle.clauses_emission.proofs.Ranges.{inside-grows}
+use Rattle.clauses_emission.proofs.Ors.{emits-negated}
 use Rattle.clauses_emission.proofs.Steps.{regular-each, regular-pairing, regular-or, emits-bind, emits-as}
 use Rattle.clauses_matrix.proofs.Fills.{size-fits, fits-four, fits-next, operand-at, operand-inside, cells-length}
 use Rattle.clauses_matrix.proofs.Pairs.{rest, Passed, passed-start, passed-room, passed-stay}
@@ -195,31 +195,25 @@ or-requires c κs =
     let at = c .before .before .before in
     (at .loop .inv .emits .bounded, passed-inputs (cells at) (at .loop .t) (at .loop .i) (at .loop .j) (at .loop .pairs) (at .loop .inv) (few at))
 
-opposite-requires : tie.Need-opposite-requires Inv-loop μ-loop
-opposite-requires c κs = tt
+negate-requires : tie.Need-negate-requires Inv-loop μ-loop
+negate-requires c κs = (c .before .or .ensures .bounded, c .before .or .ensures .fine)
 
 same-length : tie.Need-same-length Inv-loop μ-loop
 same-length c =
-    c .before .before .before .before .or .ensures .kept
-    ∙ c .before .before .before .before .before .before .before .before .loop .inv .emits .kept
+    c .before .before .or .ensures .kept ∙ c .before .before .before .before .before .before .loop .inv .emits .kept
 
 returns : tie.Need-returns Inv-loop μ-loop
 returns c =
-    let at = c .before .before .before .before .before .before .before .before in
-    let call = c .before .before .before .before .or in
-    let w = call .result .literal in
+    let at = c .before .before .before .before .before .before in
+    let call = c .before .before .or in
     let ts = matrices.pairs (cells at) in
-    let o : literalOf (read (c .opposite .result)) ≡ opposite (literalOf w) =
-    opposite-read (call .result .tape .next) w (c .opposite .result) (call .ensures .bounded .last)
-    (search needs) (call .ensures .fine) (c .opposite .ensures) (record { sfits = c .opposite .ok })
-    in
     emits-as (never-both ts (at .before .args .tape .next)) refl
-    (emits-turned (each both ts >>= or) w (read (c .opposite .result))
+    (emits-negated (each both ts >>= or) (call .result) (c .negate .result)
     (emits-bind (each both ts) or (regular-each both (regular-pairing Both) ts) regular-or
     (passed-all (cells at) (at .loop .t) (at .loop .i) (at .loop .j) (at .loop .pairs) (at .loop .inv)
-    (rw (size-of at) (c .before .before .before .before .before .before .before .loop-test .left)))
+    (rw (size-of at) (c .before .before .before .before .before .loop-test .left)))
     (call .ensures))
-    o)
+    (c .negate .ensures))
 
 pub lone-spec : {M : Type 1} → statement M
 lone-spec =
@@ -247,6 +241,6 @@ lone-spec =
     array-share-prefix-pairs
     slice-aggregate-or
     or-requires
-    opposite-requires
+    negate-requires
     same-length
     returns)
