@@ -1,5 +1,5 @@
 -- Gates: their clauses, word by word, and OR by the number of its inputs.
-use mathlib.Core.Path.{_≡_, refl, sym, ap, _∙_}
+use mathlib.Core.Path.{_≡_, refl, sym, ap, _∙_, subst}
 use mathlib.Core.List.{List, [], _∷_, _++_, map, append-nil}
 use Prim.Native.Nat.{ℕ, suc, _+_, _*_, _≤_, _<_}
 use native.Mathlib.Omega.{arith}
@@ -12,13 +12,14 @@ use Rattle.relational.proofs.Places.{map-append}
 use Rattle.clauses_rules.specs.Builder.{Builder, return, _<$>_}
 use Rattle.clauses_rules.specs.Gates.{Clause, gateOf, or, inputClauses, gatesClauses}
 use Rattle.clauses_emission.specs.declared.Tape.{Tape}
+use Rattle.clauses_emission.specs.declared.Made.{Made}
 use Rattle.clauses_emission.specs.Emission.{Inside, literalsOf, wordsFor, Appends, Room, Bounded, Within, Emits, EmitsLiteral}
 use Rattle.clauses_emission.proofs.Writes.{writes-then, writes-as, writes-length}
 use Rattle.clauses_emission.proofs.Ranges.{inside-opposite}
 use Rattle.clauses_emission.proofs.Steps.{Regular, emits-map}
 
 -- ---- the clauses of a gate's inputs
-pub inputs-more : (g : ℕ) (ls : List Literal) (l : Literal)
+inputs-more : (g : ℕ) (ls : List Literal) (l : Literal)
     → inputClauses g (ls ++ (l ∷ [])) ≡ inputClauses g ls ++ ((positive g ∷ opposite l ∷ []) ∷ [])
 unfolding inputClauses
 inputs-more g [] l = refl
@@ -33,12 +34,12 @@ inputs-next g ws k h =
     ∙ ap (inputClauses g) (map-append literalOf (take k ws) (getD ws k (pos 0) ∷ []))
     ∙ inputs-more g (literalsOf (take k ws)) (literalOf (getD ws k (pos 0))))
 
-pub inputs-clauses : (g : ℕ) (ls : List Literal) → length (inputClauses g ls) ≡ length ls
+inputs-clauses : (g : ℕ) (ls : List Literal) → length (inputClauses g ls) ≡ length ls
 unfolding inputClauses
 inputs-clauses g [] = refl
 inputs-clauses g (l ∷ ls) = ap suc (inputs-clauses g ls)
 
-pub inputs-words : (g : ℕ) (ls : List Literal) → length (wordsFor (inputClauses g ls)) ≡ 3 * length ls
+inputs-words : (g : ℕ) (ls : List Literal) → length (wordsFor (inputClauses g ls)) ≡ 3 * length ls
 unfolding inputClauses wordsOf
 inputs-words g [] = refl
 inputs-words g (l ∷ ls) = omega (arith, inputs-words g ls)
@@ -136,7 +137,10 @@ opposites-all ws out k h l i =
     ap (λ (n : ℕ). literalsOf (take n out)) e ∙ i ∙ ap (λ (t : List ℤ). map opposite (literalsOf t)) (take-all k ws l)
 
 -- ---- the opposite of what a step gives
-pub emits-turned : (step : Builder Literal) (w r : ℤ) {old new : List ℤ} {a b : Tape}
-    → EmitsLiteral (step (a .next)) old a w new b → literalOf r ≡ opposite (literalOf w)
-    → EmitsLiteral ((opposite <$> step) (a .next)) old a r new b
-emits-turned step w r {old} {new} {a} {b} p e = emits-map opposite step p e (rw e (inside-opposite (literalOf w) (p .fine)))
+pub emits-negated : (step : Builder Literal) (x y : Made) {old new : List ℤ} {a : Tape}
+    → EmitsLiteral (step (a .next)) old a (x .literal) new (x .tape)
+    → (y .tape ≡ x .tape) × (literalOf (y .literal) ≡ opposite (literalOf (x .literal)))
+    → EmitsLiteral ((opposite <$> step) (a .next)) old a (y .literal) new (y .tape)
+emits-negated step x y {old} {new} {a} p e =
+    subst (EmitsLiteral ((opposite <$> step) (a .next)) old a (y .literal) new) (sym (e .0))
+    (emits-map opposite step p (e .1) (rw (e .1) (inside-opposite (literalOf (x .literal)) (p .fine))))

@@ -33,7 +33,7 @@ opposite-plain (pos zero) h = absurd (omega arith)
 opposite-plain (pos (suc n)) h = refl
 opposite-plain (negsuc n) h = refl
 
-pub opposite-word : (n : ℕ) (w : ℤ) → n ≤ 16002 → Inside n (literalOf w) → literalOf (oppositeWord w) ≡ opposite (literalOf w)
+opposite-word : (n : ℕ) (w : ℤ) → n ≤ 16002 → Inside n (literalOf w) → literalOf (oppositeWord w) ≡ opposite (literalOf w)
 opposite-word n w h i =
     let low : 1 ≤ natAbs w = omega (arith, i .low, variable-of w) in
     ap literalOf (opposite-is w (omega (arith, i .high, variable-of w))) ∙ opposite-plain w low

@@ -15,7 +15,7 @@ use Rattle.relational.specs.Matrices.{upto}
 use Rattle.relational.proofs.Places.{upto-suc}
 use Rattle.clauses_rules.specs.Builder.{Gate, Built, Builder, return, _>>=_, _<$>_, each}
 use Rattle.clauses_rules.specs.Gates.{or, and, gatesClauses}
-use Rattle.clauses_rules.specs.Translation.{Two, same}
+use Rattle.clauses_rules.specs.Translation.{Two}
 use Rattle.clauses_rules.proofs.Gate.{gates-append}
 use Rattle.clauses_emission.specs.declared.Tape.{Tape}
 use Rattle.clauses_emission.specs.declared.Pairing.{Pairing}
@@ -142,10 +142,6 @@ pub emits-as : {A : Type 0} {r s : Built A} {old new : List ℤ} {a b : Tape} {x
     → r ≡ s → x ≡ y → Emits r old a x new b F → Emits s old a y new b F
 emits-as {A} {r} {s} {old} {new} {a} {b} {x} {y} {F} e f p =
     subst (λ (z : Built A). Emits z old a y new b F) e (subst (λ (v : A). Emits r old a v new b F) f p)
-
-pub emits-fine : {A : Type 0} {r : Built A} {old new : List ℤ} {a b : Tape} {x : A} {F G : ℕ → Type 0}
-    → G (b .next) → Emits r old a x new b F → Emits r old a x new b G
-emits-fine g p = record { bounded = p .bounded; grows = p .grows; kept = p .kept; fine = g; done = p .done; over = p .over }
 
 -- the same literal by another name
 pub emits-literal : {r : Built Literal} {old new : List ℤ} {a b : Tape} {l m : Literal} → l ≡ m

@@ -23,7 +23,7 @@ pub words-append : (cs ds : List Clause) → wordsFor (cs ++ ds) ≡ wordsFor cs
 words-append cs ds = ap wordsOf (map-append (map wordOf) cs ds) ∙ list.words-append (map (map wordOf) cs) (map (map wordOf) ds)
 
 -- words are the words of their literals
-pub words-back : (ws : List ℤ) → map wordOf (literalsOf ws) ≡ ws
+words-back : (ws : List ℤ) → map wordOf (literalsOf ws) ≡ ws
 words-back [] = refl
 words-back (w ∷ ws) = rw (word-literal w, words-back ws)
 
@@ -34,7 +34,7 @@ put-others xs k ys h =
     let shift : 2 + (k + 1) ≡ (2 + k) + 1 = omega arith in
     rw (drop-cons ys k (pos 0) h, shift, add-one k) (put-next xs (2 + k) (getD ys k (pos 0)) (drop (suc k) ys))
 
-pub put-head : (xs : List ℤ) (count first : ℤ) (ys : List ℤ)
+put-head : (xs : List ℤ) (count first : ℤ) (ys : List ℤ)
     → putAll (set (set xs 0 count) 1 first) 2 ys ≡ putAll xs 0 (count ∷ first ∷ ys)
 unfolding putAll
 put-head xs count first ys = refl

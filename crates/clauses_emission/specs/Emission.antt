@@ -8,13 +8,13 @@
 use mathlib.Core.Path.{_≡_}
 use mathlib.Core.List.{List, map}
 use Prim.Native.Nat.{ℕ, _+_, _*_, _≤_, _<_}
-use lib.IntN.{ℤ, pos, negsuc}
-use lib.ListN.{length, getD, take}
+use lib.IntN.{ℤ}
+use lib.ListN.{length, getD}
 use Rattle.prelude.specs.Stores.{putAll}
 use Rattle.literal.specs.Literals.{Literal, variable, literalOf, wordOf}
 use Rattle.clause_list.specs.ClauseList.{wordsOf}
-use Rattle.clauses_rules.specs.Builder.{Built, Builder, _>>=_, _<$>_, each}
-use Rattle.clauses_rules.specs.Gates.{or, and, Clause, gatesClauses}
+use Rattle.clauses_rules.specs.Builder.{Built, Builder}
+use Rattle.clauses_rules.specs.Gates.{Clause, gatesClauses}
 use Rattle.clauses_rules.specs.Translation.{Two, absent, either, both, without, implies, same, apart}
 use Rattle.clauses_emission.specs.declared.Tape.{Tape}
 use Rattle.clauses_emission.specs.declared.Pairing.{Pairing}

@@ -1,6 +1,8 @@
 // OR, AND and IFF (document 01, "Clauses", second paragraph). Past the limit of variables no gate is made.
 ghost use mathlib.Core.Path.{_≡_};
+ghost use Prim.Native.Nat.{_≤_};
 ghost use lib.IntN.{pos};
+ghost use lib.ListN.{length};
 ghost use Rattle.literal.specs.Literals.{literalOf, opposite};
 ghost use Rattle.clauses_rules.specs.Gates as spec;
 ghost use Rattle.clauses_rules.specs.Gates.{gateOf, inputClauses};
@@ -18,7 +20,8 @@ fn gate_inputs(list: &mut [i32], tape: Tape, g: i32, inputs: &[i32]) -> Tape
     requires { ⌜ Within (tape .next) ⌝ }
     requires { ⌜ Inputs (tape .next) (now inputs) ⌝ }
     requires { ⌜ g ≡ pos (tape .next) ⌝ }
-    ensures { λ r. ⌜ Appends (inputClauses (tape .next) (literalsOf (now (inputs .entry)))) (now (list .entry)) tape (now (list .exit)) r ⌝ }
+    ensures { λ r. ⌜ Appends (inputClauses (tape .next) (literalsOf (now (inputs .entry))))
+        (now (list .entry)) tape (now (list .exit)) r ⌝ }
 {
     let mut after = tape;
     let mut k: usize = 0;
@@ -68,13 +71,27 @@ pub fn or(list: &mut [i32], tape: Tape, inputs: &[i32]) -> Made
     gate(list, tape, inputs)
 }
 
-// AND: the opposite of OR of the opposites.
+// Not: the opposite literal.
+pub fn negate(made: Made) -> Made
+    requires { ⌜ Bounded (made .tape) ⌝ }
+    requires { ⌜ Inside (made .tape .next) (literalOf (made .literal)) ⌝ }
+    ensures { λ r. ⌜ (r .tape ≡ made .tape) × (literalOf (r .literal) ≡ opposite (literalOf (made .literal))) ⌝ }
+{
+    let tape = made.tape;
+    Made {
+        literal: literal::opposite(made.literal),
+        tape,
+    }
+}
+
+// AND of at most 64 literals, as many as a matrix has cells: the opposite of OR of the opposites.
 pub fn and(list: &mut [i32], tape: Tape, inputs: &[i32]) -> Made
     requires { ⌜ Bounded tape ⌝ }
     requires { ⌜ Inputs (tape .next) (now inputs) ⌝ }
+    requires { ⌜ length (now inputs) ≤ 64 ⌝ }
     ensures { λ r. ⌜ EmitsList spec.and (now (inputs .entry)) (now (list .entry)) tape (r .literal) (now (list .exit)) (r .tape) ⌝ }
 {
-    let mut opposites = [-1; 2016];
+    let mut opposites = [-1; 64];
     let mut k: usize = 0;
     while k < inputs.len() {
         let l = inputs[k];
@@ -83,11 +100,7 @@ pub fn and(list: &mut [i32], tape: Tape, inputs: &[i32]) -> Made
     }
     let n = inputs.len();
     let made = or(list, tape, &opposites[..n]);
-    let after = made.tape;
-    Made {
-        literal: literal::opposite(made.literal),
-        tape: after,
-    }
+    negate(made)
 }
 
 pub fn either(list: &mut [i32], tape: Tape, p: i32, q: i32) -> Made
@@ -125,11 +138,7 @@ pub fn both(list: &mut [i32], tape: Tape, p: i32, q: i32) -> Made
     ensures { λ r. ⌜ EmitsTwo two.both p q (now (list .entry)) tape (r .literal) (now (list .exit)) (r .tape) ⌝ }
 {
     let made = apart(list, tape, p, q);
-    let after = made.tape;
-    Made {
-        literal: literal::opposite(made.literal),
-        tape: after,
-    }
+    negate(made)
 }
 
 // AND(p, -q): the opposite of OR(-p, q).
@@ -140,11 +149,7 @@ pub fn without(list: &mut [i32], tape: Tape, p: i32, q: i32) -> Made
     ensures { λ r. ⌜ EmitsTwo two.without p q (now (list .entry)) tape (r .literal) (now (list .exit)) (r .tape) ⌝ }
 {
     let made = implies(list, tape, p, q);
-    let after = made.tape;
-    Made {
-        literal: literal::opposite(made.literal),
-        tape: after,
-    }
+    negate(made)
 }
 
 // IFF(p, q): AND(OR(-p, q), OR(-q, p)).

@@ -21,7 +21,8 @@ fn put(list: &mut [i32], at: usize, word: i32)
 // The clause writer: writes a clause from the start of the part not yet filled.
 fn write_clause(rest: &mut [i32], first: i32, others: &[i32])
     requires { ⌜ length (now others) ≤ mostInputs ⌝ }
-    ensures { λ _. ⌜ now (rest .exit) ≡ putAll (now (rest .entry)) 0 (pos (suc (length (now (others .entry)))) ∷ first ∷ now (others .entry)) ⌝ }
+    ensures { λ _. ⌜ now (rest .exit) ≡ putAll (now (rest .entry)) 0
+        (pos (suc (length (now (others .entry)))) ∷ first ∷ now (others .entry)) ⌝ }
 {
     let count = literal::positive((1 + others.len()) as u32);
     put(rest, 0, count);
@@ -37,7 +38,8 @@ fn write_clause(rest: &mut [i32], first: i32, others: &[i32])
 // Lends the part not yet filled, if the list reaches that far, to the clause writer.
 fn write_at(list: &mut [i32], at: usize, first: i32, others: &[i32])
     requires { ⌜ length (now others) ≤ mostInputs ⌝ }
-    ensures { λ _. ⌜ now (list .exit) ≡ putAll (now (list .entry)) at (pos (suc (length (now (others .entry)))) ∷ first ∷ now (others .entry)) ⌝ }
+    ensures { λ _. ⌜ now (list .exit) ≡ putAll (now (list .entry)) at
+        (pos (suc (length (now (others .entry)))) ∷ first ∷ now (others .entry)) ⌝ }
 {
     if at <= list.len() {
         write_clause(&mut list[at..], first, others);

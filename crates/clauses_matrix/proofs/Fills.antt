@@ -8,7 +8,8 @@ use native.Mathlib.Omega.{arith}
 use mathlib.Core.Bool.{Bool, true, false, cond}
 use lib.Dec.{ltb, eqb}
 use lib.IntN.{ℤ, pos, negsuc}
-use lib.ListN.{length, getD, take, set, replicate, length-set, length-map, length-take, length-replicate, getD-replicate, List·getD-eq-default}
+use lib.ListN.{length, getD, take, set, replicate, length-set, length-map, length-take, length-replicate, getD-replicate}
+use lib.ListN.{List·getD-eq-default}
 use lib.Seq.{length-take-le, take-suc-set, getD-take, getD-set-other}
 use mir.Syntax.{w64}
 use mir.Val.{Fits}
@@ -32,7 +33,7 @@ blank-inside n zero h i = inside-absent n h
 blank-inside n (suc m) h zero = inside-absent n h
 blank-inside n (suc m) h (suc i) = blank-inside n m h i
 
-pub cells-blank : (n : ℕ) → 2 ≤ n → Cells 0 n (replicate 64 (negsuc 0))
+cells-blank : (n : ℕ) → 2 ≤ n → Cells 0 n (replicate 64 (negsuc 0))
 cells-blank n h = record {
   room = length-replicate 64 (negsuc 0);
   small = omega arith;
@@ -50,7 +51,7 @@ from-same : {A : Type 0} (f g : ℕ → A) (s n : ℕ) → ((j : ℕ) → j < s 
 from-same f g s zero h = refl
 from-same f g s (suc n) h = rw (h s (omega arith), from-same f g (suc s) n (λ j l. h j (omega arith)))
 
-pub map-same : {A : Type 0} (f g : ℕ → A) (n : ℕ) → ((j : ℕ) → j < n → f j ≡ g j) → map f (upto n) ≡ map g (upto n)
+map-same : {A : Type 0} (f g : ℕ → A) (n : ℕ) → ((j : ℕ) → j < n → f j ≡ g j) → map f (upto n) ≡ map g (upto n)
 map-same f g n h = from-same f g 0 n (λ j l. h j (omega arith))
 
 -- ---- one more cell
@@ -61,7 +62,7 @@ all-set n (v ∷ ws) zero w a i (suc j) = a (suc j)
 all-set n (v ∷ ws) (suc k) w a i zero = a 0
 all-set n (v ∷ ws) (suc k) w a i (suc j) = all-set n ws k w (λ m. a (suc m)) i j
 
-pub cells-grow : {size n m : ℕ} {ws : List ℤ} → n ≤ m → Cells size n ws → Cells size m ws
+cells-grow : {size n m : ℕ} {ws : List ℤ} → n ≤ m → Cells size n ws → Cells size m ws
 cells-grow {size} {n} {m} {ws} h c =
     record { room = c .room; small = c .small; rest = c .rest; inside = all-grows (literalsOf ws) h (c .inside) }
 
@@ -98,7 +99,7 @@ module _ {A : Type 0} (step : A → Builder Literal) (regular : (x : A) → Regu
 below-or-past : (k n : ℕ) → (k < n) ⊎ (n ≤ k)
 below-or-past k n = ⊎-elim (λ t. inl (ltb-true k n t)) (λ f. inr (ltb-false k n f)) (decided (ltb k n))
 
-pub cells-at : (size n : ℕ) (ws : List ℤ) (k : ℕ) → Cells size n ws → k < 64 → getD (cellsOf size ws) k absent ≡ literalOf (getD ws k (pos 0))
+cells-at : (size n : ℕ) (ws : List ℤ) (k : ℕ) → Cells size n ws → k < 64 → getD (cellsOf size ws) k absent ≡ literalOf (getD ws k (pos 0))
 cells-at size n ws k c h = ⊎-elim inner outer (below-or-past k size)
   where
     count : length (take size ws) ≡ size
@@ -137,7 +138,7 @@ abbrev pub pairAt : List ℤ → List ℤ → (ℕ → ℕ) → (ℕ → ℕ) �
 pairAt left right i j k = (literalOf (getD left (i k) (pos 0)), literalOf (getD right (j k) (pos 0)))
 
 -- ---- what the cells of a matrix go into
-pub few-cells : (r c : ℕ) → r ≤ 8 → c ≤ 8 → r * c ≤ 64
+few-cells : (r c : ℕ) → r ≤ 8 → c ≤ 8 → r * c ≤ 64
 few-cells r c h l = omega (arith, mul-le-mul h l)
 
 pub size-fits : (r c : ℕ) → r ≤ 8 → c ≤ 8 → Fits w64 (r * c)
@@ -171,6 +172,9 @@ all-front n zero ws h a i = inside-absent n h
 all-front n (suc k) [] h a i = inside-absent n h
 all-front n (suc k) (w ∷ ws) h a zero = a 0
 all-front n (suc k) (w ∷ ws) h a (suc i) = all-front n k ws h (λ j. a (suc j)) i
+
+pub front-few : {size n : ℕ} {ws : List ℤ} (k : ℕ) → Cells size n ws → length (take k ws) ≤ 64
+front-few {size} {n} {ws} k c = omega (arith, length-take k ws, c .room)
 
 pub front-inputs : (size k n : ℕ) (ws : List ℤ) → 2 ≤ n → Cells size n ws → Inputs n (take k ws)
 front-inputs size k n ws h c = record {

@@ -8,23 +8,25 @@ use native.Mathlib.Omega.{arith}
 use lib.IntN.{ℤ, negsuc}
 use lib.ListN.{length, getD, take, drop, set, replicate, length-append, length-map, length-set, length-replicate, drop-of-length-le}
 use lib.Seq.{drop-cons, take-suc-set, length-take-le}
-use Rattle.literal.specs.Literals.{Literal, literalOf}
+use Rattle.literal.specs.Literals.{Literal, opposite, literalOf}
 use Rattle.relational.specs.Matrices.{pairs}
 use Rattle.relational.proofs.Places.{map-append}
-use Rattle.clauses_rules.specs.Builder.{Builder, _<$>_, each}
-use Rattle.clauses_rules.specs.Translation.{Two, absent, apart}
+use Rattle.clauses_rules.specs.Builder.{Built, Builder, _>>=_, _<$>_, each}
+use Rattle.clauses_rules.specs.Gates.{or, and}
+use Rattle.clauses_rules.specs.Translation.{Two, absent, both, apart}
 use Rattle.clauses_emission.specs.declared.Tape.{Tape}
-use Rattle.clauses_emission.specs.declared.Pairing.the-variants.{Apart}
+use Rattle.clauses_emission.specs.declared.Pairing.the-variants.{Both}
 use Rattle.clauses_emission.specs.Emission.{AllInside, literalsOf, Inputs, Bounded, Emits, EmitsLiteral}
 use Rattle.clauses_emission.proofs.Ranges.{all-grows}
-use Rattle.clauses_emission.proofs.Steps.{regular-each, regular-map, regular-pairing, emits-return, emits-bind, emits-map, emits-as, each-more}
+use Rattle.clauses_emission.proofs.Steps.{regular-each, regular-map, regular-pairing, emits-return, emits-bind, emits-map, emits-as}
+use Rattle.clauses_emission.proofs.Steps.{each-more}
 use Rattle.clauses_matrix.proofs.Fills.{all-set, all-front, blank-inside}
 
 -- ---- the pairs from i and j on
 unfoldable pub rest : List Literal → ℕ → ℕ → List Two
 rest ls i j = map {B = Two} (λ y. (getD ls i absent, y)) (drop j ls) ++ pairs (drop (suc i) ls)
 
-pub pairs-rest : (ls : List Literal) (m : ℕ) → pairs (drop m ls) ≡ rest ls m (suc m)
+pairs-rest : (ls : List Literal) (m : ℕ) → pairs (drop m ls) ≡ rest ls m (suc m)
 unfolding rest
 pairs-rest [] zero = refl
 pairs-rest [] (suc m) = refl
@@ -66,7 +68,7 @@ pub record Passed (ls : List Literal) (t i j : ℕ) (old : List ℤ) (a : Tape) 
   pub later : i < j
   pub last : length ls ≤ j → j ≡ suc i
   pub room : length out ≡ 2016
-  pub emits : Emits (each apart done (a .next)) old a (literalsOf (take t out)) new b (λ m. AllInside m (literalsOf out))
+  pub emits : Emits (each both done (a .next)) old a (literalsOf (take t out)) new b (λ m. AllInside m (literalsOf out))
 
 pub passed-start : (ls : List Literal) (list : List ℤ) (tape : Tape) → Bounded tape → Passed ls 0 0 1 list tape (replicate 2016 (negsuc 0)) list tape
 unfolding each
@@ -99,21 +101,21 @@ module _ (ls : List Literal) (t i j : ℕ) {old mid : List ℤ} {a b : Tape} (ou
       rw (f, add-one i) (omega (arith, left-over, ap length w))
 
   module _ (w : ℤ) {new : List ℤ} {c : Tape}
-      (q : EmitsLiteral (apart (getD ls i absent, getD ls j absent) (b .next)) mid b w new c) where
-    more : Emits (each apart (p .done ++ ((getD ls i absent, getD ls j absent) ∷ [])) (a .next)) old a
+      (q : EmitsLiteral (both (getD ls i absent, getD ls j absent) (b .next)) mid b w new c) where
+    more : Emits (each both (p .done ++ ((getD ls i absent, getD ls j absent) ∷ [])) (a .next)) old a
         (literalsOf (take (suc t) (set out t w))) new c (λ m. AllInside m (literalsOf (set out t w)))
     more =
         let x : Two = (getD ls i absent, getD ls j absent) in
         let ys = literalsOf (take t out) in
-        let then : List Literal → Builder (List Literal) = λ zs. (λ z. zs ++ (z ∷ [])) <$> apart x in
+        let then : List Literal → Builder (List Literal) = λ zs. (λ z. zs ++ (z ∷ [])) <$> both x in
         let v : ys ++ (literalOf w ∷ []) ≡ literalsOf (take (suc t) (set out t w)) =
         sym (ap literalsOf (take-suc-set out t w (omega (arith, passed-room, p .room))) ∙ map-append literalOf (take t out) (w ∷ []))
         in
-        emits-as (sym (each-more apart (p .done) x (a .next))) v
-        (emits-bind (each apart (p .done)) then (regular-each apart (regular-pairing Apart) (p .done))
-        (λ zs. regular-map (λ z. zs ++ (z ∷ [])) (apart x) (regular-pairing Apart x))
+        emits-as (sym (each-more both (p .done) x (a .next))) v
+        (emits-bind (each both (p .done)) then (regular-each both (regular-pairing Both) (p .done))
+        (λ zs. regular-map (λ z. zs ++ (z ∷ [])) (both x) (regular-pairing Both x))
         (p .emits)
-        (emits-map (λ z. ys ++ (z ∷ [])) (apart x) q refl
+        (emits-map (λ z. ys ++ (z ∷ [])) (both x) q refl
         (all-set (c .next) out t w (all-grows (literalsOf out) (q .grows) (p .emits .fine)) (q .fine))))
 
     -- the pair is passed: what is left goes on from k and m
@@ -143,14 +145,26 @@ module _ (ls : List Literal) (t i j : ℕ) {old mid : List ℤ} {a b : Tape} (ou
         passed-to (i + 1) ((i + 1) + 1)
         (rest-wrap ls i (suc j) (omega (arith, e)) ∙ rw (f, add-one i)) (omega arith) (λ l. omega arith)
 
+-- both against apart: the same gates, the opposite literals
+each-both : (ts : List Two) (g : ℕ) → each both ts g ≡ (map opposite <$> each apart ts) g
+unfolding each
+each-both [] g = refl
+each-both (t ∷ ts) g =
+    ap (λ (u : Built (List Literal)). record { value = both t g .value ∷ u .value; gates = both t g .gates ++ u .gates; next = u .next })
+    (each-both ts (both t g .next))
+
+-- AND over the pairs of OR(-p, -q) is the opposite of OR over them of AND(p, q)
+pub never-both : (ts : List Two) (g : ℕ) → (opposite <$> (each both ts >>= or)) g ≡ (each apart ts >>= and) g
+never-both ts g = ap (λ (u : Built (List Literal)). (opposite <$> ((λ h. u) >>= or)) g) (each-both ts g)
+
 -- all are passed
 pub passed-all : (ls : List Literal) (t i j : ℕ) {old new : List ℤ} {a b : Tape} (out : List ℤ) → Passed ls t i j old a out new b → length ls ≤ j
-    → Emits (each apart (pairs ls) (a .next)) old a (literalsOf (take t out)) new b (λ m. AllInside m (literalsOf out))
+    → Emits (each both (pairs ls) (a .next)) old a (literalsOf (take t out)) new b (λ m. AllInside m (literalsOf out))
 passed-all ls t i j {old} {new} {a} {b} out p h =
     let e : p .done ≡ pairs ls =
     sym (p .whole ∙ ap (λ (r : List Two). p .done ++ r) (rest-end ls i j h (p .last h)) ∙ append-nil (p .done))
     in
-    emits-as (ap (λ (ts : List Two). each apart ts (a .next)) e) refl (p .emits)
+    emits-as (ap (λ (ts : List Two). each both ts (a .next)) e) refl (p .emits)
 
 pub passed-few : (ls : List Literal) (t i j : ℕ) {old new : List ℤ} {a b : Tape} (out : List ℤ) → Passed ls t i j old a out new b
     → length ls ≤ 64 → t ≤ 2016

@@ -14,7 +14,8 @@ use Rattle.clauses_rules.specs.Translation.{translateComparison, translateTest,
 use Rattle.clauses_emission.specs.declared.Pairing.{Pairing}
 use Rattle.clauses_emission.specs.declared.Pairing.the-variants.{Either, Both, Without, Implies, Same, Apart}
 use Rattle.clauses_matrix.specs.Matrices.{paired, compared, joinCell}
-use Rattle.clauses_emission.proofs.Steps.{Regular, regular-return, regular-map, regular-bind, regular-each, regular-or, regular-and, regular-pairing}
+use Rattle.clauses_emission.proofs.Steps.{Regular, regular-return, regular-map, regular-bind, regular-each, regular-or, regular-and}
+use Rattle.clauses_emission.proofs.Steps.{regular-pairing}
 
 -- ---- expressions
 pub regular-paired : (kind : Pairing) (p q : Matrix Literal) → Regular (paired kind p q)
@@ -46,7 +47,7 @@ regular-unary inverse p = regular-return _
 regular-unary closure p = regular-rounds (rounds (p .rows)) p
 
 -- ---- formulas
-pub regular-compared : (kind : Pairing) (p q : Matrix Literal) → Regular (compared kind p q)
+regular-compared : (kind : Pairing) (p q : Matrix Literal) → Regular (compared kind p q)
 regular-compared kind p q = regular-bind (paired kind p q) and (regular-paired kind p q) regular-and
 
 pub regular-comparison : (o : Comparison) (p q : Matrix Literal) → Regular (translateComparison o p q)

@@ -1,7 +1,6 @@
 // Expressions, operator by operator: cells in row order (document 01, "Clauses", the last list).
-ghost use mathlib.Core.Path.{_≡_};
 ghost use mathlib.Core.List.{List};
-ghost use Prim.Native.Nat.{_*_, _<_, _≤_};
+ghost use Prim.Native.Nat.{_*_, _<_};
 ghost use lib.IntN.{ℤ};
 ghost use Rattle.relational.specs.Trees.{join, product, inverse, closure};
 ghost use Rattle.relational.specs.Matrices as matrices;
@@ -36,13 +35,11 @@ pub fn matched_cells(
         (now (list .entry)) tape (r .cells) (now (list .exit)) (r .tape) ⌝ }
 {
     let size = p.rows * p.columns;
-    let left = p.cells;
-    let right = q.cells;
     let mut cells = [-1; 64];
     let mut after = tape;
     let mut k: usize = 0;
     while k < size {
-        let made = pair(list, after, kind, left[k], right[k]);
+        let made = pair(list, after, kind, p.cells[k], q.cells[k]);
         let l = made.literal;
         cells[k] = l;
         after = made.tape;
@@ -86,13 +83,11 @@ fn join_cell(list: &mut [i32], tape: Tape, p: Literals, q: Literals, i: usize, j
 {
     let columns = join_columns(q.arity, q.columns);
     let n = p.columns;
-    let left = p.cells;
-    let right = q.cells;
     let mut middles = [-1; 64];
     let mut after = tape;
     let mut k: usize = 0;
     while k < n {
-        let made = both(list, after, left[i * n + k], right[k * columns + j]);
+        let made = both(list, after, p.cells[i * n + k], q.cells[k * columns + j]);
         let l = made.literal;
         middles[k] = l;
         after = made.tape;
@@ -167,13 +162,11 @@ pub fn product(list: &mut [i32], tape: Tape, p: Literals, q: Literals) -> MadeMa
 {
     let columns = q.columns;
     let size = p.columns * columns;
-    let left = p.cells;
-    let right = q.cells;
     let mut cells = [-1; 64];
     let mut after = tape;
     let mut k: usize = 0;
     while k < size {
-        let made = both(list, after, left[k / columns], right[k % columns]);
+        let made = both(list, after, p.cells[k / columns], q.cells[k % columns]);
         let l = made.literal;
         cells[k] = l;
         after = made.tape;
@@ -199,12 +192,11 @@ pub fn inverse(tape: Tape, p: Literals) -> MadeMatrix
 {
     let rows = p.rows;
     let size = p.columns * rows;
-    let from = p.cells;
     let columns = p.columns;
     let mut cells = [-1; 64];
     let mut k: usize = 0;
     while k < size {
-        let l = from[(k % rows) * columns + k / rows];
+        let l = p.cells[(k % rows) * columns + k / rows];
         cells[k] = l;
         k += 1;
     }

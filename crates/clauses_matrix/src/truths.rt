@@ -10,7 +10,8 @@ use clauses_emission::Made;
 use clauses_emission::Pairing;
 use clauses_emission::Tape;
 use clauses_emission::gates::and;
-use clauses_emission::gates::apart;
+use clauses_emission::gates::both;
+use clauses_emission::gates::negate;
 use clauses_emission::gates::or;
 
 // Equal (Same) and within (Implies): AND over the cells.
@@ -38,7 +39,7 @@ pub fn some(list: &mut [i32], tape: Tape, p: Literals) -> Made
     or(list, tape, &cells[..n])
 }
 
-// AND of the cells.
+// AND of the cells, as some is OR of them.
 pub fn every(list: &mut [i32], tape: Tape, p: Literals) -> Made
     requires { ⌜ Bounded tape ⌝ }
     requires { ⌜ Operand (tape .next) p ⌝ }
@@ -55,20 +56,15 @@ pub fn none(list: &mut [i32], tape: Tape, p: Literals) -> Made
     ensures { λ r. ⌜ EmitsTest (translateTest none) p (now (list .entry)) tape (r .literal) (now (list .exit)) (r .tape) ⌝ }
 {
     let made = some(list, tape, p);
-    let after = made.tape;
-    Made {
-        literal: literal::opposite(made.literal),
-        tape: after,
-    }
+    negate(made)
 }
 
-// At most one: AND over pairs, in order, of OR(-p, -q).
+// At most one: AND over pairs, in order, of OR(-p, -q). It is made as the opposite of OR over pairs of AND(p, q): the same gates.
 pub fn lone(list: &mut [i32], tape: Tape, p: Literals) -> Made
     requires { ⌜ Bounded tape ⌝ }
     requires { ⌜ Operand (tape .next) p ⌝ }
     ensures { λ r. ⌜ EmitsTest (translateTest lone) p (now (list .entry)) tape (r .literal) (now (list .exit)) (r .tape) ⌝ }
 {
-    let cells = p.cells;
     let n = p.rows * p.columns;
     let mut pairs = [-1; 2016];
     let mut after = tape;
@@ -76,7 +72,7 @@ pub fn lone(list: &mut [i32], tape: Tape, p: Literals) -> Made
     let mut i: usize = 0;
     let mut j: usize = 1;
     while j < n {
-        let made = apart(list, after, cells[i], cells[j]);
+        let made = both(list, after, p.cells[i], p.cells[j]);
         let l = made.literal;
         pairs[t] = l;
         after = made.tape;
@@ -87,5 +83,6 @@ pub fn lone(list: &mut [i32], tape: Tape, p: Literals) -> Made
             j = i + 1;
         }
     }
-    and(list, after, &pairs[..t])
+    let met = or(list, after, &pairs[..t]);
+    negate(met)
 }

@@ -1,4 +1,4 @@
--- `emission::gates::and` meets its contract. The loop's invariant: the opposites of the inputs passed stand in the array.
+-- `gates::and` meets its contract. The loop's invariant: the opposites of the inputs passed stand in the array.
 use borrow.Author.Needs.{needs}
 use mathlib.Core.Path.{_≡_, refl, sym, subst}
 use mathlib.Core.List.{map}
@@ -8,25 +8,24 @@ use native.Mathlib.Omega.{arith}
 use lib.IntN.{pos, negsuc}
 use lib.ListN.{length, getD, take, length-set, length-replicate, length-take}
 use lib.Seq.{length-take-le}
-use borrow.Author.Needs.{needs}
 use Rattle.literal.specs.Literals.{opposite, literalOf}
 use Rattle.literal.proofs.Signs.{read}
 use Rattle.clauses_rules.specs.Gates.{or}
 use Rattle.clauses_emission.specs.Emission.{literalsOf, Inside, AllInside}
 use Rattle.clauses_emission.proofs.Ranges.{opposite-read, literal-at, all-opposites}
-use Rattle.clauses_emission.proofs.Ors.{opposites-next, opposites-all, emits-turned}
+use Rattle.clauses_emission.proofs.Ors.{opposites-next, opposites-all, emits-negated}
 use Rattle.clauses_emission.proofs.gates.and.Statement.{statement}
 use Rattle.clauses_emission.proofs.gates.and.Tie as tie
 
 abbrev Inv-loop : tie.InvT-loop
 Inv-loop list tape inputs opposites₀ k₀ opposites k =
-    (k ≤ length inputs) × (length opposites ≡ 2016) × (literalsOf (take k opposites) ≡ map opposite (literalsOf (take k inputs)))
+    (k ≤ length inputs) × (length opposites ≡ 64) × (literalsOf (take k opposites) ≡ map opposite (literalsOf (take k inputs)))
 
 abbrev μ-loop : tie.MeasureT-loop
 μ-loop list tape inputs opposites₀ k₀ opposites k = length inputs - k
 
 loop-holds : tie.Need-loop-holds Inv-loop μ-loop
-loop-holds c = (omega arith, length-replicate 2016 (negsuc 0), refl)
+loop-holds c = (omega arith, length-replicate 64 (negsuc 0), refl)
 
 mul-l : tie.Need-mul-l Inv-loop μ-loop
 mul-l c = search needs
@@ -57,14 +56,14 @@ loop-again c =
     let k = loop .k in
     let w = getD ws k (pos 0) in
     let h = c .before .before .loop-test .taken in
-    let i : Inside (start .args .tape .next) (literalOf w) = rw (literal-at ws k h) at (start .pre .1 .inside k) in
+    let i : Inside (start .args .tape .next) (literalOf w) = rw (literal-at ws k h) at (start .pre .1 .0 .inside k) in
     let o : literalOf (read (c .opposite .result)) ≡ opposite (literalOf w) =
     opposite-read (start .args .tape .next) w (c .opposite .result) (start .pre .0 .last)
     (record { sfits = c .before .l .given }) i (c .opposite .ensures) (record { sfits = c .opposite .ok })
     in (
       omega arith,
       simp length-set (loop .inv .1),
-      rw (add-one k) (opposites-next ws (loop .opposites) k (read (c .opposite .result)) h (omega (arith, loop .inv .1, start .pre .1 .few))
+      rw (add-one k) (opposites-next ws (loop .opposites) k (read (c .opposite .result)) h (omega (arith, loop .inv .1, start .pre .1 .1))
           (loop .inv .2) o),
     )
 
@@ -77,7 +76,7 @@ whole c =
     (c .loop-test .left) (c .before .loop .inv .2)
 
 array-share-prefix-opposites : tie.Need-array-share-prefix-opposites Inv-loop μ-loop
-array-share-prefix-opposites c = omega (arith, c .before .before .loop .inv .1, c .before .before .before .pre .1 .few)
+array-share-prefix-opposites c = omega (arith, c .before .before .loop .inv .1, c .before .before .before .pre .1 .1)
 
 slice-aggregate-or : tie.Need-slice-aggregate-or Inv-loop μ-loop
 slice-aggregate-or c =
@@ -92,29 +91,23 @@ or-requires c κs =
     let e = whole (c .before .before) in (
       start .pre .0,
       record {
-        few = omega (arith, length-take (length ws) (c .before .before .before .loop .opposites), start .pre .1 .few);
-        inside = subst (AllInside n) (sym e) (all-opposites (literalsOf ws) (start .pre .0 .first) (start .pre .1 .inside));
+        few = omega (arith, length-take (length ws) (c .before .before .before .loop .opposites), start .pre .1 .0 .few);
+        inside = subst (AllInside n) (sym e) (all-opposites (literalsOf ws) (start .pre .0 .first) (start .pre .1 .0 .inside));
       },
     )
 
-opposite-requires-2 : tie.Need-opposite-requires-2 Inv-loop μ-loop
-opposite-requires-2 c κs = tt
+negate-requires : tie.Need-negate-requires Inv-loop μ-loop
+negate-requires c κs = (c .before .or .ensures .bounded, c .before .or .ensures .fine)
 
 same-length : tie.Need-same-length Inv-loop μ-loop
 same-length c = search needs
 
 returns : tie.Need-returns Inv-loop μ-loop
 returns c =
-    let start = c .before .before .before .before .before .before .before .before .before in
-    let ws = start .args .inputs .now in
-    let call = c .before .before .before .before .or in
-    let w = call .result .literal in
-    let o : literalOf (read (c .opposite2 .result)) ≡ opposite (literalOf w) =
-    opposite-read (call .result .tape .next) w (c .opposite2 .result) (call .ensures .bounded .last)
-    (search needs) (call .ensures .fine) (c .opposite2 .ensures) (record { sfits = c .opposite2 .ok })
-    in
-    emits-turned (or (map opposite (literalsOf ws))) w (read (c .opposite2 .result))
-    (rw (whole (c .before .before .before .before .before .before .before)) at (call .ensures)) o
+    let at = c .before .before .before .before .before in
+    let call = c .before .before .or in
+    emits-negated (or (map opposite (literalsOf (at .before .before .args .inputs .now)))) (call .result) (c .negate .result)
+    (rw (whole at) at (call .ensures)) (c .negate .ensures)
 
 pub and-spec : {M : Type 1} → statement M
 and-spec =
@@ -134,6 +127,6 @@ and-spec =
     array-share-prefix-opposites
     slice-aggregate-or
     or-requires
-    opposite-requires-2
+    negate-requires
     same-length
     returns)

@@ -1,8 +1,7 @@
--- `emission::gates::apart` meets its contract.
+-- `gates::apart` meets its contract.
 use mathlib.Core.Path.{_≡_}
 use Rattle.literal.specs.Literals.{opposite, literalOf}
 use Rattle.literal.proofs.Signs.{read}
-use Rattle.clauses_rules.specs.Translation as two
 use Rattle.clauses_emission.proofs.Ranges.{opposite-read, inside-opposite}
 use borrow.Author.Needs.{needs}
 use Rattle.clauses_emission.proofs.gates.apart.Statement.{statement}

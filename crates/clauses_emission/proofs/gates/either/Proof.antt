@@ -1,4 +1,4 @@
--- `emission::gates::either` meets its contract.
+-- `gates::either` meets its contract.
 use mathlib.Core.Path.{ap}
 use native.Mathlib.Omega.{arith}
 use Rattle.literal.specs.Literals.{literalOf}

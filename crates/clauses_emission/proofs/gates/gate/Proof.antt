@@ -1,4 +1,4 @@
--- `emission::gates::gate` meets its contract.
+-- `gates::gate` meets its contract.
 use mathlib.Core.Path.{_≡_, refl, sym, ap, _∙_}
 use mathlib.Core.List.{List, [], _∷_}
 use Prim.Native.Nat.{suc}

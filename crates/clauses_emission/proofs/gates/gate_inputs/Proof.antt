@@ -1,4 +1,4 @@
--- `emission::gates::gate_inputs` meets its contract. The loop's invariant: the clauses of the inputs passed are written.
+-- `gates::gate_inputs` meets its contract. The loop's invariant: the clauses of the inputs passed are written.
 use borrow.Author.Needs.{needs}
 use mathlib.Core.Path.{_≡_, sym, ap, _∙_}
 use mathlib.Core.List.{List, [], _∷_}

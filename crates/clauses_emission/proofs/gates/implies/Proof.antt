@@ -1,4 +1,4 @@
--- `emission::gates::implies` meets its contract.
+-- `gates::implies` meets its contract.
 use mathlib.Core.Path.{_≡_}
 use Rattle.literal.specs.Literals.{opposite, literalOf}
 use Rattle.literal.proofs.Signs.{read, back}

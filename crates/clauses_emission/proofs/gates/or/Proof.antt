@@ -1,4 +1,4 @@
--- `emission::gates::or` meets its contract, by the number of the inputs.
+-- `gates::or` meets its contract, by the number of the inputs.
 use mathlib.Core.Path.{refl, sym, ap}
 use native.Mathlib.Omega.{arith}
 use lib.IntN.{pos}

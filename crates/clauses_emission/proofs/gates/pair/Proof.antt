@@ -1,4 +1,4 @@
--- `emission::gates::pair` meets its contract, kind by kind.
+-- `gates::pair` meets its contract, kind by kind.
 use mathlib.Core.Path.{_≡_, refl, sym, ap}
 use mathlib.Core.List.{List}
 use Prim.Native.Nat.{ℕ}

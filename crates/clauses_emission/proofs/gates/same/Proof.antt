@@ -1,4 +1,4 @@
--- `emission::gates::same` meets its contract.
+-- `gates::same` meets its contract.
 use mathlib.Core.List.{[], _∷_}
 use Rattle.literal.specs.Literals.{literalOf}
 use Rattle.literal.proofs.Signs.{back}

@@ -1,4 +1,4 @@
--- `emission::list::emit_clause` meets its contract.
+-- `list::emit_clause` meets its contract.
 use mathlib.Core.Path.{refl, sym, ap, _∙_}
 use native.Mathlib.Omega.{arith}
 use lib.ListN.{length}

@@ -1,4 +1,4 @@
--- `emission::list::put` meets its contract: past the end nothing is stored.
+-- `list::put` meets its contract: past the end nothing is stored.
 use mathlib.Core.Path.{sym}
 use lib.Seq.{set-out}
 use borrow.Author.Needs.{needs}

@@ -1,4 +1,4 @@
--- `emission::list::write_at` meets its contract: what was lent comes home.
+-- `list::write_at` meets its contract: what was lent comes home.
 use mathlib.Core.Path.{sym}
 use Prim.Native.Nat.{_≤_}
 use native.Mathlib.Omega.{arith}

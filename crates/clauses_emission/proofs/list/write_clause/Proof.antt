@@ -1,4 +1,4 @@
--- `emission::list::write_clause` meets its contract. The loop's invariant: what is still to be put are the others from the next one on.
+-- `list::write_clause` meets its contract. The loop's invariant: what is still to be put are the others from the next one on.
 use borrow.Author.Needs.{needs}
 use mathlib.Core.Path.{_≡_, refl, ap, _∙_}
 use Prim.Native.Nat.{suc, _+_, _-_, _≤_}

@@ -2,7 +2,6 @@
 use borrow.Author.Needs.{needs}
 use mathlib.Core.Path.{_≡_}
 use native.Mathlib.Omega.{arith}
-use Rattle.relational.specs.Trees.{closure}
 use Rattle.relational.specs.Matrices.{rounds}
 use Rattle.clauses_rules.specs.Translation.{roundOf, afterRounds}
 use Rattle.clauses_matrix.specs.Matrices.{matrixOf, EmitsMatrix}

@@ -13,7 +13,8 @@ use Rattle.clauses_rules.specs.Translation.{absent}
 use Rattle.clauses_matrix.specs.Matrices.{matrixOf, EmitsCells}
 use Rattle.clauses_emission.proofs.Steps.{regular-return, emits-return, emits-map, emits-as}
 use Rattle.clauses_matrix.proofs.Numbers.{placeOf, places-by-number, some-columns, row-below, column-below}
-use Rattle.clauses_matrix.proofs.Fills.{cells-start, cells-next, cells-done, operand-at, operand-inside, size-fits, cell-below, one-more}
+use Rattle.clauses_matrix.proofs.Fills.{cells-start, cells-next, cells-done, operand-at, operand-inside, size-fits, cell-below}
+use Rattle.clauses_matrix.proofs.Fills.{one-more}
 use Rattle.clauses_matrix.proofs.Fills.{fits-small, fits-part, fits-four, fits-next, place-in}
 use Rattle.clauses_matrix.proofs.Regulars.{each-return}
 use Rattle.relational.specs.Matrices.{Place, upto, cellAt, places, relationOf}
@@ -22,47 +23,46 @@ use Rattle.clauses_matrix.proofs.operators.inverse.Statement.{statement
 use Rattle.clauses_matrix.proofs.operators.inverse.Tie as tie
 
 abbrev Inv-loop : tie.InvT-loop
-Inv-loop tape rows size from columns cells₀ k₀ cells k =
+Inv-loop tape p rows size columns cells₀ k₀ cells k =
     (k ≤ size)
     × ((list : List ℤ) → EmitsCells k
-    (each (λ l. return l) (map (λ a. literalOf (getD from ((a % rows) * columns + a / rows) (pos 0))) (upto k))
+    (each (λ l. return l) (map (λ a. literalOf (getD (p .cells) ((a % rows) * columns + a / rows) (pos 0))) (upto k))
     (tape .next)) list tape cells list tape)
 
 abbrev μ-loop : tie.MeasureT-loop
-μ-loop tape rows size from columns cells₀ k₀ cells k = size - k
+μ-loop tape p rows size columns cells₀ k₀ cells k = size - k
 
 mul-size : tie.Need-mul-size Inv-loop μ-loop
-mul-size c = size-fits (c .before .args .p .columns) (c .before .args .p .rows) (c .before .pre .1 .columns) (c .before .pre .1 .rows)
+mul-size c = size-fits (c .args .t2 .columns) (c .args .t2 .rows) (c .pre .1 .columns) (c .pre .1 .rows)
 
 loop-holds : tie.Need-loop-holds Inv-loop μ-loop
 loop-holds c =
-    let start = c .before .before in
-    let p = start .args .p in (
+    let p = c .args .t2 in (
       omega arith,
       λ list. cells-start (λ l. return l) (λ a. literalOf (getD (p .cells) ((a % p .rows) * p .columns + a / p .rows) (pos 0))) list
-          (start .args .tape) (start .pre .0),
+          (c .args .tape) (c .pre .0),
     )
 
 below : (c : tie.In-loop Inv-loop μ-loop) → c .before .loop .k < 64
 below c =
-    let start = c .before .before .before .before in
-    cell-below (start .args .p .columns) (start .args .p .rows) (c .before .loop .k) (start .pre .1 .columns) (start .pre .1 .rows)
+    let start = c .before .before in
+    cell-below (start .args .t2 .columns) (start .args .t2 .rows) (c .before .loop .k) (start .pre .1 .columns) (start .pre .1 .rows)
     (c .loop-test .taken)
 
 -- the place that the cell comes from
 place-below : (c : tie.In-loop Inv-loop μ-loop)
-    → (c .before .loop .k % c .before .before .before .before .args .p .rows) * c .before .before .before .before .args .p .columns
-    + c .before .loop .k / c .before .before .before .before .args .p .rows < 64
+    → (c .before .loop .k % c .before .before .args .t2 .rows) * c .before .before .args .t2 .columns
+    + c .before .loop .k / c .before .before .args .t2 .rows < 64
 place-below c =
-    let start = c .before .before .before .before in
-    let p = start .args .p in
+    let start = c .before .before in
+    let p = start .args .t2 in
     let k = c .before .loop .k in
     place-in (p .rows) (p .columns) (k % p .rows) (k / p .rows) (start .pre .1 .rows) (start .pre .1 .columns)
     (column-below (p .columns) (p .rows) k (c .loop-test .taken)) (row-below (p .columns) (p .rows) k (c .loop-test .taken))
 
 rem-l : tie.Need-rem-l Inv-loop μ-loop
 rem-l c =
-    some-columns (c .before .before .before .before .args .p .columns) (c .before .before .before .before .args .p .rows) (c .before .loop .k)
+    some-columns (c .before .before .args .t2 .columns) (c .before .before .args .t2 .rows) (c .before .loop .k)
     (c .loop-test .taken)
 
 mul-l : tie.Need-mul-l Inv-loop μ-loop
@@ -70,7 +70,7 @@ mul-l c = fits-part _ _ (place-below c)
 
 div-l : tie.Need-div-l Inv-loop μ-loop
 div-l c =
-    some-columns (c .before .before .before .before .args .p .columns) (c .before .before .before .before .args .p .rows) (c .before .loop .k)
+    some-columns (c .before .before .args .t2 .columns) (c .before .before .args .t2 .rows) (c .before .loop .k)
     (c .loop-test .taken)
 
 add-l : tie.Need-add-l Inv-loop μ-loop
@@ -79,8 +79,8 @@ add-l c = fits-small _ (place-below c)
 mul-l-2 : tie.Need-mul-l-2 Inv-loop μ-loop
 mul-l-2 c = fits-four _ (place-below c)
 
-array-copy-out-l : tie.Need-array-copy-out-l Inv-loop μ-loop
-array-copy-out-l c = place-below c
+element-copy-out-l : tie.Need-element-copy-out-l Inv-loop μ-loop
+element-copy-out-l c = place-below c
 
 mul-cells : tie.Need-mul-cells Inv-loop μ-loop
 mul-cells c = fits-four _ (below (c .before))
@@ -96,10 +96,10 @@ loop-less c = omega arith
 
 loop-again : tie.Need-loop-again Inv-loop μ-loop
 loop-again c =
-    let start = c .before .before .before .before .before in
+    let start = c .before .before .before in
     let loop = c .before .before .loop in
     let turn = c .before in
-    let p = start .args .p in
+    let p = start .args .t2 in
     let k = loop .k in
     let at = (k % p .rows) * p .columns + k / p .rows in
     let w = getD (p .cells) at (pos 0) in (
@@ -115,9 +115,9 @@ loop-again c =
 
 returns : tie.Need-returns Inv-loop μ-loop
 returns c =
-    let start = c .before .before .before .before in
+    let start = c .before .before in
     let loop = c .before .loop in
-    let p = start .args .p in
+    let p = start .args .t2 in
     let o = start .pre .1 in
     let n = start .args .tape .next in
     let turned : Place → Literal = λ t. cellAt absent (matrixOf p) (t .1 * p .columns + t .0) in
@@ -160,7 +160,7 @@ inverse-spec =
     div-l
     add-l
     mul-l-2
-    array-copy-out-l
+    element-copy-out-l
     mul-cells
     array-set-from-cells
     add-k

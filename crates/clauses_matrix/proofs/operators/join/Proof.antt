@@ -1,7 +1,6 @@
 -- `operators::join` meets its contract: a relation where both are, else a set.
 use mathlib.Core.Path.{refl, sym, ap, _∙_}
 use native.Mathlib.Omega.{arith}
-use Rattle.relational.specs.Trees.{join}
 use Rattle.relational.specs.Matrices.{joinColumns, joinSize}
 use Rattle.clauses_rules.specs.Translation.{joinCells}
 use Rattle.clauses_matrix.specs.Matrices.{matrixOf}

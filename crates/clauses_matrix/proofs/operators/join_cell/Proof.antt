@@ -9,7 +9,7 @@ use lib.ListN.{getD}
 use borrow.Author.Needs.{needs}
 use Rattle.literal.specs.Literals.{literalOf}
 use Rattle.literal.proofs.Signs.{back}
-use Rattle.relational.specs.Matrices.{upto, cellAt, joinColumns, middles, places}
+use Rattle.relational.specs.Matrices.{upto, cellAt, joinColumns, middles}
 use Rattle.clauses_rules.specs.Builder.{each}
 use Rattle.clauses_rules.specs.Gates.{or}
 use Rattle.clauses_rules.specs.Translation.{Two, absent, both}
@@ -23,51 +23,51 @@ use Rattle.clauses_matrix.proofs.operators.join_cell.Statement.{stateme
 use Rattle.clauses_matrix.proofs.operators.join_cell.Tie as tie
 
 abbrev Inv-loop : tie.InvT-loop
-Inv-loop list₀ i j columns n left right middles₀ after₀ k₀ list middles after k =
+Inv-loop list₀ i j p q columns n middles₀ after₀ k₀ list middles after k =
     (k ≤ n)
-    × EmitsCells k (each both (map (pairAt left right (λ a. i * n + a) (λ a. a * columns + j)) (upto k))
+    × EmitsCells k (each both (map (pairAt (p .cells) (q .cells) (λ a. i * n + a) (λ a. a * columns + j)) (upto k))
     (after₀ .next)) list₀ after₀ middles list after
 
 abbrev μ-loop : tie.MeasureT-loop
-μ-loop list₀ i j columns n left right middles₀ after₀ k₀ list middles after k = n - k
+μ-loop list₀ i j p q columns n middles₀ after₀ k₀ list middles after k = n - k
 
 join-columns-requires : tie.Need-join-columns-requires Inv-loop μ-loop
 join-columns-requires c κs = c .pre .1 .1 .0 .columns
 
 loop-holds : tie.Need-loop-holds Inv-loop μ-loop
 loop-holds c =
-    let start = c .before .before .before in (
+    let start = c .before in (
       omega arith,
-      cells-start both (pairAt (start .args .p .cells) (start .args .q .cells) (λ a. start .args .i * start .args .p .columns + a)
-          (λ a. a * c .before .before .join-columns .result + start .args .j)) (start .args .list .now) (start .args .tape) (start .pre .0),
+      cells-start both (pairAt (start .args .t3 .cells) (start .args .t4 .cells) (λ a. start .args .i * start .args .t3 .columns + a)
+          (λ a. a * c .join-columns .result + start .args .j)) (start .args .list .now) (start .args .tape) (start .pre .0),
     )
 
 -- what a turn knows of its places
-columns-few : (c : tie.Start Inv-loop μ-loop) → c .args .p .columns ≤ 8
+columns-few : (c : tie.Start Inv-loop μ-loop) → c .args .t3 .columns ≤ 8
 columns-few c = c .pre .1 .0 .columns
 
 below : (c : tie.In-loop Inv-loop μ-loop) → c .before .loop .k < 64
 below c =
-    let start = c .before .before .before .before .before in
-    less (c .before .loop .k) (start .args .p .columns) (c .loop-test .taken) (columns-few start)
+    let start = c .before .before .before in
+    less (c .before .loop .k) (start .args .t3 .columns) (c .loop-test .taken) (columns-few start)
   where
     less : (k n : ℕ) → k < n → n ≤ 8 → k < 64
     less k n h l = omega arith
 
 left-below : (c : tie.In-loop Inv-loop μ-loop)
-    → c .before .before .before .before .before .args .i * c .before .before .before .before .before .args .p .columns + c .before .loop .k < 64
+    → c .before .before .before .args .i * c .before .before .before .args .t3 .columns + c .before .loop .k < 64
 left-below c =
-    let start = c .before .before .before .before .before in
-    place-in (start .args .p .rows) (start .args .p .columns) (start .args .i) (c .before .loop .k) (start .pre .1 .0 .rows) (columns-few start)
+    let start = c .before .before .before in
+    place-in (start .args .t3 .rows) (start .args .t3 .columns) (start .args .i) (c .before .loop .k) (start .pre .1 .0 .rows) (columns-few start)
     (start .pre .1 .1 .1 .0) (c .loop-test .taken)
 
 right-below : (c : tie.In-loop Inv-loop μ-loop)
-    → c .before .loop .k * c .before .before .before .before .join-columns .result + c .before .before .before .before .before .args .j < 64
+    → c .before .loop .k * c .before .before .join-columns .result + c .before .before .before .args .j < 64
 right-below c =
-    let start = c .before .before .before .before .before in
-    rw (c .before .before .before .before .join-columns .ensures .0)
-    (place-in (start .args .p .columns) (joinColumns (matrixOf (start .args .q))) (c .before .loop .k) (start .args .j) (columns-few start)
-    (join-few (start .args .tape .next) (start .args .q) (start .pre .1 .1 .0)) (c .loop-test .taken) (start .pre .1 .1 .1 .1))
+    let start = c .before .before .before in
+    rw (c .before .before .join-columns .ensures .0)
+    (place-in (start .args .t3 .columns) (joinColumns (matrixOf (start .args .t4))) (c .before .loop .k) (start .args .j) (columns-few start)
+    (join-few (start .args .tape .next) (start .args .t4) (start .pre .1 .1 .0)) (c .loop-test .taken) (start .pre .1 .1 .1 .1))
 
 mul-both : tie.Need-mul-both Inv-loop μ-loop
 mul-both c = fits-part _ _ (left-below (c .before))
@@ -78,8 +78,8 @@ add-both c = fits-small _ (left-below (c .before))
 mul-both-2 : tie.Need-mul-both-2 Inv-loop μ-loop
 mul-both-2 c = fits-four _ (left-below (c .before))
 
-array-copy-out-both : tie.Need-array-copy-out-both Inv-loop μ-loop
-array-copy-out-both c = left-below (c .before)
+element-copy-out-both : tie.Need-element-copy-out-both Inv-loop μ-loop
+element-copy-out-both c = left-below (c .before)
 
 mul-both-3 : tie.Need-mul-both-3 Inv-loop μ-loop
 mul-both-3 c = fits-part _ _ (right-below (c .before .before))
@@ -90,17 +90,17 @@ add-both-2 c = fits-small _ (right-below (c .before .before))
 mul-both-4 : tie.Need-mul-both-4 Inv-loop μ-loop
 mul-both-4 c = fits-four _ (right-below (c .before .before))
 
-array-copy-out-both-2 : tie.Need-array-copy-out-both-2 Inv-loop μ-loop
-array-copy-out-both-2 c = right-below (c .before .before)
+element-copy-out-both-2 : tie.Need-element-copy-out-both-2 Inv-loop μ-loop
+element-copy-out-both-2 c = right-below (c .before .before)
 
 both-requires : tie.Need-both-requires Inv-loop μ-loop
 both-requires c κs =
-    let start = c .before .before .before .before .before .before .before .before in
-    let columns = c .before .before .before .before .before .before .before .join-columns .result in
+    let start = c .before .before .before .before .before .before in
+    let columns = c .before .before .before .before .before .join-columns .result in
     let loop = c .before .before .before .before .loop in
     let turn = c .before .before .before in
-    let p = start .args .p in
-    let q = start .args .q in
+    let p = start .args .t3 in
+    let q = start .args .t4 in
     let n = start .args .tape .next in
     let i = start .args .i * p .columns + loop .k in
     let j = loop .k * columns + start .args .j in (
@@ -127,21 +127,21 @@ loop-less c = omega arith
 
 loop-again : tie.Need-loop-again Inv-loop μ-loop
 loop-again c =
-    let start = c .before .before .before .before .before .before .before .before .before .before .before .before in
-    let columns = c .before .before .before .before .before .before .before .before .before .before .before .join-columns .result in
+    let start = c .before .before .before .before .before .before .before .before .before .before in
+    let columns = c .before .before .before .before .before .before .before .before .before .join-columns .result in
     let loop = c .before .before .before .before .before .before .before .before .loop in
     let turn = c .before .before .before .before .before .before .before in
-    let left = start .args .p .cells in
-    let right = start .args .q .cells in
+    let left = start .args .t3 .cells in
+    let right = start .args .t4 .cells in
     let k = loop .k in
-    let i = start .args .i * start .args .p .columns + k in
+    let i = start .args .i * start .args .t3 .columns + k in
     let j = k * columns + start .args .j in
     let call = c .before .before .before .both in
     let w = call .result .literal in (
       one-more k _ (turn .loop-test .taken),
       rw (add-one k, back w (search needs))
           (cells-next both (regular-pairing Both)
-          (pairAt left right (λ a. start .args .i * start .args .p .columns + a) (λ a. a * columns + start .args .j)) k (loop .middles) w
+          (pairAt left right (λ a. start .args .i * start .args .t3 .columns + a) (λ a. a * columns + start .args .j)) k (loop .middles) w
           (below turn) (loop .inv .1)
           (rw (
             back (getD left i (pos 0)) (record { sfits = c .before .before .before .before .before .both-arg2 .given }),
@@ -152,19 +152,19 @@ loop-again c =
 
 array-share-prefix-middles : tie.Need-array-share-prefix-middles Inv-loop μ-loop
 array-share-prefix-middles c =
-    omega (arith, c .before .before .loop .inv .1 .fine .room, columns-few (c .before .before .before .before .before .before))
+    omega (arith, c .before .before .loop .inv .1 .fine .room, columns-few (c .before .before .before .before))
 
 slice-aggregate-or : tie.Need-slice-aggregate-or Inv-loop μ-loop
 slice-aggregate-or c =
     let loop = c .before .before .before .loop in
-    front-length (loop .k) (c .before .before .before .before .before .before .before .args .p .columns) (loop .after .next) (loop .middles)
-    (loop .inv .1 .fine) (omega (arith, columns-few (c .before .before .before .before .before .before .before)))
+    front-length (loop .k) (c .before .before .before .before .before .args .t3 .columns) (loop .after .next) (loop .middles)
+    (loop .inv .1 .fine) (omega (arith, columns-few (c .before .before .before .before .before)))
 
 or-requires : tie.Need-or-requires Inv-loop μ-loop
 or-requires c κs =
     let loop = c .before .before .before .loop in (
       loop .inv .1 .bounded,
-      front-inputs (loop .k) (c .before .before .before .before .before .before .before .args .p .columns)
+      front-inputs (loop .k) (c .before .before .before .before .before .args .t3 .columns)
           (loop .after .next) (loop .middles) (loop .inv .1 .bounded .first) (loop .inv .1 .fine),
     )
 
@@ -175,11 +175,11 @@ same-length c =
 
 returns : tie.Need-returns Inv-loop μ-loop
 returns c =
-    let start = c .before .before .before .before .before .before .before .before .before in
-    let columns = c .before .before .before .before .before .before .before .before .join-columns in
+    let start = c .before .before .before .before .before .before .before in
+    let columns = c .before .before .before .before .before .before .join-columns in
     let loop = c .before .before .before .before .before .loop in
-    let p = start .args .p in
-    let q = start .args .q in
+    let p = start .args .t3 in
+    let q = start .args .t4 in
     let i = start .args .i in
     let j = start .args .j in
     let n = start .args .tape .next in
@@ -215,11 +215,11 @@ join-cell-spec =
     mul-both
     add-both
     mul-both-2
-    array-copy-out-both
+    element-copy-out-both
     mul-both-3
     add-both-2
     mul-both-4
-    array-copy-out-both-2
+    element-copy-out-both-2
     both-requires
     mul-middles
     array-set-from-middles

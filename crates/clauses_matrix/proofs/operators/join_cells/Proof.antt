@@ -5,7 +5,6 @@ use mathlib.Core.List.{map}
 use Prim.Native.Nat.{_-_, _*_, _≤_, _<_}
 use native.Mathlib.Numerals.{add-one}
 use native.Mathlib.Omega.{arith}
-use borrow.Author.Needs.{needs}
 use Rattle.literal.proofs.Signs.{back}
 use Rattle.clauses_rules.specs.Builder.{each}
 use Rattle.clauses_matrix.specs.Matrices.{matrixOf, EmitsCells, joinCell}

@@ -16,53 +16,55 @@ use Rattle.clauses_emission.specs.Emission.{pairing}
 use Rattle.clauses_matrix.specs.Matrices.{matrixOf, EmitsCells}
 use Rattle.clauses_emission.proofs.Ranges.{inside-grows}
 use Rattle.clauses_emission.proofs.Steps.{regular-pairing}
-use Rattle.clauses_matrix.proofs.Fills.{cells-start, cells-next, cells-done, operand-at, operand-inside, pairAt, size-fits, cell-below, one-more}
+use Rattle.clauses_matrix.proofs.Fills.{cells-start, cells-next, cells-done, operand-at, operand-inside, pairAt, size-fits}
+use Rattle.clauses_matrix.proofs.Fills.{cell-below, one-more}
 use Rattle.clauses_matrix.proofs.operators.matched_cells.Statement.{statement}
 use Rattle.clauses_matrix.proofs.operators.matched_cells.Tie as tie
 
 abbrev Inv-loop : tie.InvT-loop
-Inv-loop list₀ kind size left right cells₀ after₀ k₀ list cells after k =
-    (k ≤ size) × EmitsCells k (each (pairing kind) (map (pairAt left right (λ i. i) (λ i. i)) (upto k)) (after₀ .next)) list₀ after₀ cells list after
+Inv-loop list₀ kind p q size cells₀ after₀ k₀ list cells after k =
+    (k ≤ size)
+    × EmitsCells k (each (pairing kind) (map (pairAt (p .cells) (q .cells) (λ i. i) (λ i. i)) (upto k)) (after₀ .next))
+    list₀ after₀ cells list after
 
 abbrev μ-loop : tie.MeasureT-loop
-μ-loop list₀ kind size left right cells₀ after₀ k₀ list cells after k = size - k
+μ-loop list₀ kind p q size cells₀ after₀ k₀ list cells after k = size - k
 
 mul-size : tie.Need-mul-size Inv-loop μ-loop
-mul-size c = size-fits (c .before .args .p .rows) (c .before .args .p .columns) (c .before .pre .1 .0 .rows) (c .before .pre .1 .0 .columns)
+mul-size c = size-fits (c .args .t4 .rows) (c .args .t4 .columns) (c .pre .1 .0 .rows) (c .pre .1 .0 .columns)
 
 loop-holds : tie.Need-loop-holds Inv-loop μ-loop
-loop-holds c =
-    let start = c .before .before .before in (
-      omega arith,
-      cells-start (pairing (start .args .kind)) (pairAt (start .args .p .cells) (start .args .q .cells) (λ i. i) (λ i. i))
-          (start .args .list .now) (start .args .tape) (start .pre .0),
-    )
+loop-holds c = (
+  omega arith,
+  cells-start (pairing (c .args .kind)) (pairAt (c .args .t4 .cells) (c .args .t5 .cells) (λ i. i) (λ i. i))
+      (c .args .list .now) (c .args .tape) (c .pre .0),
+)
 
 below : (c : tie.In-loop Inv-loop μ-loop) → c .before .loop .k < 64
 below c =
-    let start = c .before .before .before .before .before in
-    cell-below (start .args .p .rows) (start .args .p .columns) (c .before .loop .k) (start .pre .1 .0 .rows) (start .pre .1 .0 .columns)
+    let start = c .before .before in
+    cell-below (start .args .t4 .rows) (start .args .t4 .columns) (c .before .loop .k) (start .pre .1 .0 .rows) (start .pre .1 .0 .columns)
     (c .loop-test .taken)
 
 mul-pair : tie.Need-mul-pair Inv-loop μ-loop
 mul-pair c = omega (arith, below (c .before))
 
-array-copy-out-pair : tie.Need-array-copy-out-pair Inv-loop μ-loop
-array-copy-out-pair c = below (c .before)
+element-copy-out-pair : tie.Need-element-copy-out-pair Inv-loop μ-loop
+element-copy-out-pair c = below (c .before)
 
 mul-pair-2 : tie.Need-mul-pair-2 Inv-loop μ-loop
 mul-pair-2 c = omega (arith, below (c .before .before))
 
-array-copy-out-pair-2 : tie.Need-array-copy-out-pair-2 Inv-loop μ-loop
-array-copy-out-pair-2 c = below (c .before .before)
+element-copy-out-pair-2 : tie.Need-element-copy-out-pair-2 Inv-loop μ-loop
+element-copy-out-pair-2 c = below (c .before .before)
 
 pair-requires : tie.Need-pair-requires Inv-loop μ-loop
 pair-requires c κs =
-    let start = c .before .before .before .before .before .before .before .before in
+    let start = c .before .before .before .before .before in
     let loop = c .before .before .before .before .loop in
     let h = below (c .before .before .before) in
-    let p = start .args .p in
-    let q = start .args .q in
+    let p = start .args .t4 in
+    let q = start .args .t5 in
     let n = start .args .tape .next in (
       loop .inv .1 .bounded,
       (
@@ -87,12 +89,12 @@ loop-less c = omega arith
 
 loop-again : tie.Need-loop-again Inv-loop μ-loop
 loop-again c =
-    let start = c .before .before .before .before .before .before .before .before .before .before .before .before in
+    let start = c .before .before .before .before .before .before .before .before .before in
     let loop = c .before .before .before .before .before .before .before .before .loop in
     let turn = c .before .before .before .before .before .before .before in
     let kind = start .args .kind in
-    let left = start .args .p .cells in
-    let right = start .args .q .cells in
+    let left = start .args .t4 .cells in
+    let right = start .args .t5 .cells in
     let k = loop .k in
     let call = c .before .before .before .pair in
     let w = call .result .literal in (
@@ -111,11 +113,11 @@ same-length c = c .before .loop .inv .1 .kept
 
 returns : tie.Need-returns Inv-loop μ-loop
 returns c =
-    let start = c .before .before .before .before .before in
+    let start = c .before .before in
     let loop = c .before .loop in
     let kind = start .args .kind in
-    let p = start .args .p in
-    let q = start .args .q in
+    let p = start .args .t4 in
+    let q = start .args .t5 in
     let n = start .args .tape .next in
     let same : (j : ℕ) → j < p .rows * p .columns
     → _≡_ {A = Two} (literalOf (getD (p .cells) j (pos 0)), literalOf (getD (q .cells) j (pos 0)))
@@ -137,9 +139,9 @@ matched-cells-spec =
     mul-size
     loop-holds
     mul-pair
-    array-copy-out-pair
+    element-copy-out-pair
     mul-pair-2
-    array-copy-out-pair-2
+    element-copy-out-pair-2
     pair-requires
     mul-cells
     array-set-from-cells

@@ -18,82 +18,82 @@ use Rattle.clauses_emission.specs.declared.Pairing.the-variants.{Both}
 use Rattle.clauses_emission.proofs.Ranges.{inside-grows}
 use Rattle.clauses_emission.proofs.Steps.{regular-pairing, emits-map, emits-as}
 use Rattle.clauses_matrix.proofs.Numbers.{placeOf, places-by-number, some-columns, row-below, column-below}
-use Rattle.clauses_matrix.proofs.Fills.{cells-start, cells-next, cells-done, operand-at, operand-inside, pairAt, size-fits, cell-below, one-more}
+use Rattle.clauses_matrix.proofs.Fills.{cells-start, cells-next, cells-done, operand-at, operand-inside, pairAt, size-fits}
+use Rattle.clauses_matrix.proofs.Fills.{cell-below, one-more}
 use Rattle.clauses_matrix.proofs.Fills.{fits-four, fits-next}
 use Rattle.clauses_matrix.proofs.operators.product.Statement.{statement}
 use Rattle.clauses_matrix.proofs.operators.product.Tie as tie
 
 abbrev Inv-loop : tie.InvT-loop
-Inv-loop list₀ p columns size left right cells₀ after₀ k₀ list cells after k =
+Inv-loop list₀ p q columns size cells₀ after₀ k₀ list cells after k =
     (k ≤ size)
-    × EmitsCells k (each both (map (pairAt left right (λ a. a / columns) (λ a. a % columns)) (upto k)) (after₀ .next)) list₀ after₀ cells list after
+    × EmitsCells k (each both (map (pairAt (p .cells) (q .cells) (λ a. a / columns) (λ a. a % columns)) (upto k)) (after₀ .next))
+    list₀ after₀ cells list after
 
 abbrev μ-loop : tie.MeasureT-loop
-μ-loop list₀ p columns size left right cells₀ after₀ k₀ list cells after k = size - k
+μ-loop list₀ p q columns size cells₀ after₀ k₀ list cells after k = size - k
 
 mul-size : tie.Need-mul-size Inv-loop μ-loop
 mul-size c =
-    let start = c .before in
-    size-fits (start .args .p .columns) (start .args .q .columns) (start .pre .1 .0 .columns) (start .pre .1 .1 .columns)
+    size-fits (c .args .t3 .columns) (c .args .t4 .columns) (c .pre .1 .0 .columns) (c .pre .1 .1 .columns)
 
 loop-holds : tie.Need-loop-holds Inv-loop μ-loop
-loop-holds c =
-    let start = c .before .before .before in (
-      omega arith,
-      cells-start both (pairAt (start .args .p .cells) (start .args .q .cells) (λ a. a / start .args .q .columns)
-          (λ a. a % start .args .q .columns)) (start .args .list .now) (start .args .tape) (start .pre .0),
-    )
+loop-holds c = (
+  omega arith,
+  cells-start both (pairAt (c .args .t3 .cells) (c .args .t4 .cells) (λ a. a / c .args .t4 .columns)
+      (λ a. a % c .args .t4 .columns)) (c .args .list .now) (c .args .tape) (c .pre .0),
+)
 
 below : (c : tie.In-loop Inv-loop μ-loop) → c .before .loop .k < 64
 below c =
-    let start = c .before .before .before .before .before in
-    cell-below (start .args .p .columns) (start .args .q .columns) (c .before .loop .k) (start .pre .1 .0 .columns) (start .pre .1 .1 .columns)
+    let start = c .before .before in
+    cell-below (start .args .t3 .columns) (start .args .t4 .columns) (c .before .loop .k) (start .pre .1 .0 .columns) (start .pre .1 .1 .columns)
     (c .loop-test .taken)
 
 small : (k n : ℕ) → k < n → n ≤ 8 → k < 64
 small k n h l = omega arith
 
-left-below : (c : tie.In-loop Inv-loop μ-loop) → c .before .loop .k / c .before .before .before .before .before .args .q .columns < 64
+left-below : (c : tie.In-loop Inv-loop μ-loop) → c .before .loop .k / c .before .before .args .t4 .columns < 64
 left-below c =
-    let start = c .before .before .before .before .before in
-    small _ (start .args .p .columns) (row-below (start .args .p .columns) (start .args .q .columns) (c .before .loop .k) (c .loop-test .taken))
+    let start = c .before .before in
+    small _ (start .args .t3 .columns) (row-below (start .args .t3 .columns) (start .args .t4 .columns) (c .before .loop .k) (c .loop-test .taken))
     (start .pre .1 .0 .columns)
 
-right-below : (c : tie.In-loop Inv-loop μ-loop) → c .before .loop .k % c .before .before .before .before .before .args .q .columns < 64
+right-below : (c : tie.In-loop Inv-loop μ-loop) → c .before .loop .k % c .before .before .args .t4 .columns < 64
 right-below c =
-    let start = c .before .before .before .before .before in
-    small _ (start .args .q .columns) (column-below (start .args .p .columns) (start .args .q .columns) (c .before .loop .k) (c .loop-test .taken))
+    let start = c .before .before in
+    small _ (start .args .t4 .columns) (column-below (start .args .t3 .columns) (start .args .t4 .columns) (c .before .loop .k) (c .loop-test .taken))
     (start .pre .1 .1 .columns)
 
 div-both : tie.Need-div-both Inv-loop μ-loop
 div-both c =
-    let a = c .before .before .before .before .before .before .args in
-    some-columns (a .p .columns) (a .q .columns) (c .before .before .loop .k) (c .before .loop-test .taken)
+    let a = c .before .before .before .args in
+    some-columns (a .t3 .columns) (a .t4 .columns) (c .before .before .loop .k) (c .before .loop-test .taken)
 
 mul-both : tie.Need-mul-both Inv-loop μ-loop
 mul-both c = fits-four _ (left-below (c .before))
 
-array-copy-out-both : tie.Need-array-copy-out-both Inv-loop μ-loop
-array-copy-out-both c = left-below (c .before)
+element-copy-out-both : tie.Need-element-copy-out-both Inv-loop μ-loop
+element-copy-out-both c = left-below (c .before)
 
 rem-both : tie.Need-rem-both Inv-loop μ-loop
 rem-both c =
-    let a = c .before .before .before .before .before .before .before .args in
-    some-columns (a .p .columns) (a .q .columns) (c .before .before .before .loop .k) (c .before .before .loop-test .taken)
+    let a = c .before .before .before .before .args in
+    some-columns (a .t3 .columns) (a .t4 .columns) (c .before .before .before .loop .k) (c .before .before .loop-test .taken)
 
 mul-both-2 : tie.Need-mul-both-2 Inv-loop μ-loop
 mul-both-2 c = fits-four _ (right-below (c .before .before))
 
-array-copy-out-both-2 : tie.Need-array-copy-out-both-2 Inv-loop μ-loop
-array-copy-out-both-2 c = right-below (c .before .before)
+element-copy-out-both-2 : tie.Need-element-copy-out-both-2 Inv-loop μ-loop
+element-copy-out-both-2 c = right-below (c .before .before)
 
 both-requires : tie.Need-both-requires Inv-loop μ-loop
 both-requires c κs =
-    let start = c .before .before .before .before .before .before .before .before in
+    let start = c .before .before .before .before .before in
     let loop = c .before .before .before .before .loop in
     let turn = c .before .before .before in
-    let p = start .args .p in
-    let q = start .args .q in
+    let p = start .args .t3 in
+    let q = start .args .t4 in
     let n = start .args .tape .next in
     let i = loop .k / q .columns in
     let j = loop .k % q .columns in (
@@ -120,12 +120,12 @@ loop-less c = omega arith
 
 loop-again : tie.Need-loop-again Inv-loop μ-loop
 loop-again c =
-    let start = c .before .before .before .before .before .before .before .before .before .before .before .before in
+    let start = c .before .before .before .before .before .before .before .before .before in
     let loop = c .before .before .before .before .before .before .before .before .loop in
     let turn = c .before .before .before .before .before .before .before in
-    let left = start .args .p .cells in
-    let right = start .args .q .cells in
-    let columns = start .args .q .columns in
+    let left = start .args .t3 .cells in
+    let right = start .args .t4 .cells in
+    let columns = start .args .t4 .columns in
     let k = loop .k in
     let call = c .before .before .before .both in
     let w = call .result .literal in (
@@ -145,10 +145,10 @@ same-length c = c .before .loop .inv .1 .kept
 
 returns : tie.Need-returns Inv-loop μ-loop
 returns c =
-    let start = c .before .before .before .before .before in
+    let start = c .before .before in
     let loop = c .before .loop in
-    let p = start .args .p in
-    let q = start .args .q in
+    let p = start .args .t3 in
+    let q = start .args .t4 in
     let rows = p .columns in
     let columns = q .columns in
     let n = start .args .tape .next in
@@ -188,10 +188,10 @@ product-spec =
     loop-holds
     div-both
     mul-both
-    array-copy-out-both
+    element-copy-out-both
     rem-both
     mul-both-2
-    array-copy-out-both-2
+    element-copy-out-both-2
     both-requires
     mul-cells
     array-set-from-cells

@@ -3,7 +3,7 @@ use Prim.Native.Nat.{_*_}
 use Rattle.clauses_rules.specs.Gates.{and}
 use Rattle.clauses_matrix.specs.Matrices.{matrixOf, paired}
 use Rattle.clauses_emission.proofs.Steps.{regular-and, emits-bind}
-use Rattle.clauses_matrix.proofs.Fills.{front-inputs, front-length}
+use Rattle.clauses_matrix.proofs.Fills.{front-inputs, front-few, front-length}
 use Rattle.clauses_matrix.proofs.Regulars.{regular-paired}
 use borrow.Author.Needs.{needs}
 use Rattle.clauses_matrix.proofs.truths.all_matched.Statement.{statement}
@@ -31,8 +31,11 @@ and-requires c κs =
     let made = c .before .before .before .before .before .before .matched-cells in
     let size = start .args .p .rows * start .args .p .columns in (
       made .ensures .bounded,
-      front-inputs size size (made .result .tape .next) (made .result .cells) (made .ensures .bounded .first)
-          (made .ensures .fine),
+      (
+        front-inputs size size (made .result .tape .next) (made .result .cells) (made .ensures .bounded .first)
+            (made .ensures .fine),
+        front-few size (made .ensures .fine),
+      ),
     )
 
 same-length : tie.Need-same-length

@@ -1,6 +1,6 @@
 -- `truths::every` meets its contract.
 use Prim.Native.Nat.{_*_}
-use Rattle.clauses_matrix.proofs.Fills.{front-inputs, front-length}
+use Rattle.clauses_matrix.proofs.Fills.{front-inputs, front-few, front-length}
 use borrow.Author.Needs.{needs}
 use Rattle.clauses_matrix.proofs.truths.every.Statement.{statement}
 use Rattle.clauses_matrix.proofs.truths.every.Tie as tie
@@ -22,8 +22,13 @@ and-requires : tie.Need-and-requires
 and-requires c κs =
     let start = c .before .before .before .before in
     let p = start .args .p in
-    let size = p .rows * p .columns in
-    (start .pre .0, front-inputs size size (start .args .tape .next) (p .cells) (start .pre .0 .first) (start .pre .1 .cells))
+    let size = p .rows * p .columns in (
+      start .pre .0,
+      (
+        front-inputs size size (start .args .tape .next) (p .cells) (start .pre .0 .first) (start .pre .1 .cells),
+        front-few size (start .pre .1 .cells),
+      ),
+    )
 
 same-length : tie.Need-same-length
 same-length c = search needs

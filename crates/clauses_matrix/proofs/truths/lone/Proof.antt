@@ -1,6 +1,6 @@
 -- `truths::lone` meets its contract. The loop's invariant: the pairs passed are worked out.
 use borrow.Author.Needs.{needs}
-use mathlib.Core.Path.{_≡_, sym, _∙_}
+use mathlib.Core.Path.{_≡_, refl, sym, _∙_}
 use Prim.Native.Nat.{ℕ, _+_, _*_, _≤_, _<_}
 use native.Mathlib.Omega.{arith}
 use mathlib.Core.List.{List}
@@ -12,48 +12,49 @@ use mir.Val.{Fits}
 use Rattle.literal.specs.Literals.{Literal}
 use Rattle.literal.proofs.Signs.{back}
 use Rattle.relational.specs.Matrices as matrices
-use Rattle.clauses_rules.specs.Builder.{each}
-use Rattle.clauses_rules.specs.Gates.{and}
-use Rattle.clauses_rules.specs.Translation.{absent, apart}
-use Rattle.clauses_emission.specs.declared.Pairing.the-variants.{Apart}
+use Rattle.clauses_rules.specs.Builder.{_>>=_, each}
+use Rattle.clauses_rules.specs.Gates.{or}
+use Rattle.clauses_rules.specs.Translation.{absent, both}
+use Rattle.clauses_emission.specs.declared.Pairing.the-variants.{Both}
 use Rattle.clauses_emission.specs.Emission.{EmitsLiteral}
 use Rattle.clauses_matrix.specs.Matrices.{matrixOf, cellsOf}
 use Rattle.clauses_emission.proofs.Ranges.{inside-grows}
-use Rattle.clauses_emission.proofs.Steps.{regular-each, regular-pairing, regular-and, emits-bind}
+use Rattle.clauses_emission.proofs.Ors.{emits-negated}
+use Rattle.clauses_emission.proofs.Steps.{regular-each, regular-pairing, regular-or, emits-bind, emits-as}
 use Rattle.clauses_matrix.proofs.Fills.{size-fits, fits-four, fits-next, operand-at, operand-inside, cells-length}
 use Rattle.clauses_matrix.proofs.Pairs.{rest, Passed, passed-start, passed-room, passed-stay}
-use Rattle.clauses_matrix.proofs.Pairs.{passed-wrap, passed-all, passed-few, passed-inputs, less-stay, less-wrap}
+use Rattle.clauses_matrix.proofs.Pairs.{passed-wrap, passed-all, passed-few, passed-inputs, never-both, less-stay, less-wrap}
 use Rattle.clauses_matrix.proofs.truths.lone.Statement.{statement}
 use Rattle.clauses_matrix.proofs.truths.lone.Tie as tie
 
 abbrev Inv-loop : tie.InvT-loop
-Inv-loop list₀ cells n pairs₀ after₀ t₀ i₀ j₀ list pairs after t i j = Passed (cellsOf n cells) t i j list₀ after₀ pairs list after
+Inv-loop list₀ p n pairs₀ after₀ t₀ i₀ j₀ list pairs after t i j = Passed (cellsOf n (p .cells)) t i j list₀ after₀ pairs list after
 
 abbrev μ-loop : tie.MeasureT-loop
-μ-loop list₀ cells n pairs₀ after₀ t₀ i₀ j₀ list pairs after t i j = length (rest (cellsOf n cells) i j)
+μ-loop list₀ p n pairs₀ after₀ t₀ i₀ j₀ list pairs after t i j = length (rest (cellsOf n (p .cells)) i j)
 
 mul-n : tie.Need-mul-n Inv-loop μ-loop
 mul-n c =
-    size-fits (c .before .before .args .p .rows) (c .before .before .args .p .columns) (c .before .before .pre .1 .rows)
-    (c .before .before .pre .1 .columns)
+    size-fits (c .args .t3 .rows) (c .args .t3 .columns) (c .pre .1 .rows)
+    (c .pre .1 .columns)
 
 loop-holds : tie.Need-loop-holds Inv-loop μ-loop
 loop-holds c =
-    passed-start (matrixOf (c .before .before .args .p) .cells) (c .before .before .args .list .now) (c .before .before .args .tape)
-    (c .before .before .pre .0)
+    passed-start (matrixOf (c .args .t3) .cells) (c .args .list .now) (c .args .tape)
+    (c .pre .0)
 
 -- what a turn knows
 abbrev cells : tie.At-loop Inv-loop μ-loop → List Literal
-cells c = matrixOf (c .before .before .before .args .p) .cells
+cells c = matrixOf (c .before .args .t3) .cells
 
 size-of : (c : tie.At-loop Inv-loop μ-loop)
-    → length (cells c) ≡ c .before .before .before .args .p .rows * c .before .before .before .args .p .columns
+    → length (cells c) ≡ c .before .args .t3 .rows * c .before .args .t3 .columns
 size-of c =
-    let start = c .before .before .before in
-    cells-length (start .args .p .rows * start .args .p .columns) (start .args .tape .next) (start .args .p .cells) (start .pre .1 .cells)
+    let start = c .before in
+    cells-length (start .args .t3 .rows * start .args .t3 .columns) (start .args .tape .next) (start .args .t3 .cells) (start .pre .1 .cells)
 
 few : (c : tie.At-loop Inv-loop μ-loop) → length (cells c) ≤ 64
-few c = rw (size-of c) (c .before .before .before .pre .1 .cells .small)
+few c = rw (size-of c) (c .before .pre .1 .cells .small)
 
 inner : (c : tie.In-loop Inv-loop μ-loop) → c .before .loop .j < length (cells (c .before))
 inner c = rw (size-of (c .before)) (c .loop-test .taken)
@@ -79,53 +80,53 @@ fits-two : (i : ℕ) → i < 64 → Fits w64 ((i + 1) + 1)
 fits-two i h = record { fits = omega arith }
 
 -- what a pair's step made
-made : (c : tie.After-apart Inv-loop μ-loop)
+made : (c : tie.After-both Inv-loop μ-loop)
     → EmitsLiteral
-    (apart (
+    (both (
       getD (cells (c .before .before .before .before .before)) (c .before .before .before .before .before .loop .i) absent,
       getD (cells (c .before .before .before .before .before)) (c .before .before .before .before .before .loop .j) absent,
     )
     (c .before .before .before .before .before .loop .after .next))
     (c .before .before .before .before .before .loop .list) (c .before .before .before .before .before .loop .after)
-    (c .apart .result .literal) (c .apart .last .0) (c .apart .result .tape)
+    (c .both .result .literal) (c .both .last .0) (c .both .result .tape)
 made c =
     let turn = c .before .before .before .before in
     let loop = turn .before .loop in
-    let start = turn .before .before .before .before in
-    let p = start .args .p in
+    let start = turn .before .before in
+    let p = start .args .t3 in
     let n = start .args .tape .next in
     rw (
-      back (getD (p .cells) (loop .i) (pos 0)) (record { sfits = c .before .before .apart-arg2 .given }),
-      back (getD (p .cells) (loop .j) (pos 0)) (record { sfits = c .before .apart-arg3 .given }),
+      back (getD (p .cells) (loop .i) (pos 0)) (record { sfits = c .before .before .both-arg2 .given }),
+      back (getD (p .cells) (loop .j) (pos 0)) (record { sfits = c .before .both-arg3 .given }),
       operand-at n p (loop .i) (start .pre .1) (below-i turn),
       operand-at n p (loop .j) (start .pre .1) (below-j turn),
     )
-    at (c .apart .ensures)
+    at (c .both .ensures)
 
-mul-apart : tie.Need-mul-apart Inv-loop μ-loop
-mul-apart c = fits-four _ (below-i (c .before))
+mul-both : tie.Need-mul-both Inv-loop μ-loop
+mul-both c = fits-four _ (below-i (c .before))
 
-array-copy-out-apart : tie.Need-array-copy-out-apart Inv-loop μ-loop
-array-copy-out-apart c = below-i (c .before)
+element-copy-out-both : tie.Need-element-copy-out-both Inv-loop μ-loop
+element-copy-out-both c = below-i (c .before)
 
-mul-apart-2 : tie.Need-mul-apart-2 Inv-loop μ-loop
-mul-apart-2 c = fits-four _ (below-j (c .before .before))
+mul-both-2 : tie.Need-mul-both-2 Inv-loop μ-loop
+mul-both-2 c = fits-four _ (below-j (c .before .before))
 
-array-copy-out-apart-2 : tie.Need-array-copy-out-apart-2 Inv-loop μ-loop
-array-copy-out-apart-2 c = below-j (c .before .before)
+element-copy-out-both-2 : tie.Need-element-copy-out-both-2 Inv-loop μ-loop
+element-copy-out-both-2 c = below-j (c .before .before)
 
-apart-requires : tie.Need-apart-requires Inv-loop μ-loop
-apart-requires c κs =
-    let start = c .before .before .before .before .before .before .before in
+both-requires : tie.Need-both-requires Inv-loop μ-loop
+both-requires c κs =
+    let start = c .before .before .before .before .before in
     let loop = c .before .before .before .before .loop in
     let turn = c .before .before .before in
-    let p = start .args .p in
+    let p = start .args .t3 in
     let n = start .args .tape .next in (
       loop .inv .emits .bounded,
       (
-        rw (back (getD (p .cells) (loop .i) (pos 0)) (record { sfits = c .before .apart-arg2 .given }))
+        rw (back (getD (p .cells) (loop .i) (pos 0)) (record { sfits = c .before .both-arg2 .given }))
             (inside-grows (loop .inv .emits .grows) (operand-inside n p (loop .i) (start .pre .1) (below-i turn))),
-        rw (back (getD (p .cells) (loop .j) (pos 0)) (record { sfits = c .apart-arg3 .given }))
+        rw (back (getD (p .cells) (loop .j) (pos 0)) (record { sfits = c .both-arg3 .given }))
             (inside-grows (loop .inv .emits .grows) (operand-inside n p (loop .j) (start .pre .1) (below-j turn))),
       ),
     )
@@ -159,7 +160,7 @@ loop-again : tie.Need-loop-again Inv-loop μ-loop
 loop-again c =
     let turn = c .before .before .before .before .before .before .before .before in
     let loop = turn .before .loop in
-    let w = c .before .before .before .before .apart .result .literal in
+    let w = c .before .before .before .before .both .result .literal in
     rw (back w (search needs))
     (passed-wrap (cells (turn .before)) (loop .t) (loop .i) (loop .j) (loop .pairs) (loop .inv) (inner turn) (few (turn .before)) w
     (made (c .before .before .before .before)) (c .if1 .taken ∙ sym (size-of (turn .before))))
@@ -174,7 +175,7 @@ loop-again-2 : tie.Need-loop-again-2 Inv-loop μ-loop
 loop-again-2 c =
     let turn = c .before .before .before .before .before .before .before .before in
     let loop = turn .before .loop in
-    let w = c .before .before .before .before .apart .result .literal in
+    let w = c .before .before .before .before .both .result .literal in
     rw (back w (search needs))
     (passed-stay (cells (turn .before)) (loop .t) (loop .i) (loop .j) (loop .pairs) (loop .inv) (inner turn) (few (turn .before)) w
     (made (c .before .before .before .before))
@@ -185,26 +186,34 @@ array-share-prefix-pairs c =
     let at = c .before .before in
     omega (arith, at .loop .inv .room, passed-few (cells at) (at .loop .t) (at .loop .i) (at .loop .j) (at .loop .pairs) (at .loop .inv) (few at))
 
-slice-aggregate-and : tie.Need-slice-aggregate-and Inv-loop μ-loop
-slice-aggregate-and c =
+slice-aggregate-or : tie.Need-slice-aggregate-or Inv-loop μ-loop
+slice-aggregate-or c =
     sym (length-take-le (c .before .before .before .loop .t) (c .before .before .before .loop .pairs) (array-share-prefix-pairs (c .before)))
 
-and-requires : tie.Need-and-requires Inv-loop μ-loop
-and-requires c κs =
+or-requires : tie.Need-or-requires Inv-loop μ-loop
+or-requires c κs =
     let at = c .before .before .before in
     (at .loop .inv .emits .bounded, passed-inputs (cells at) (at .loop .t) (at .loop .i) (at .loop .j) (at .loop .pairs) (at .loop .inv) (few at))
 
+negate-requires : tie.Need-negate-requires Inv-loop μ-loop
+negate-requires c κs = (c .before .or .ensures .bounded, c .before .or .ensures .fine)
+
 same-length : tie.Need-same-length Inv-loop μ-loop
-same-length c = c .before .and .ensures .kept ∙ c .before .before .before .before .before .loop .inv .emits .kept
+same-length c =
+    c .before .before .or .ensures .kept ∙ c .before .before .before .before .before .before .loop .inv .emits .kept
 
 returns : tie.Need-returns Inv-loop μ-loop
 returns c =
-    let at = c .before .before .before .before .before in
-    let ls = cells at in
-    emits-bind (each apart (matrices.pairs ls)) and (regular-each apart (regular-pairing Apart) (matrices.pairs ls)) regular-and
-    (passed-all ls (at .loop .t) (at .loop .i) (at .loop .j) (at .loop .pairs) (at .loop .inv)
-    (rw (size-of at) (c .before .before .before .before .loop-test .left)))
-    (c .before .and .ensures)
+    let at = c .before .before .before .before .before .before in
+    let call = c .before .before .or in
+    let ts = matrices.pairs (cells at) in
+    emits-as (never-both ts (at .before .args .tape .next)) refl
+    (emits-negated (each both ts >>= or) (call .result) (c .negate .result)
+    (emits-bind (each both ts) or (regular-each both (regular-pairing Both) ts) regular-or
+    (passed-all (cells at) (at .loop .t) (at .loop .i) (at .loop .j) (at .loop .pairs) (at .loop .inv)
+    (rw (size-of at) (c .before .before .before .before .before .loop-test .left)))
+    (call .ensures))
+    (c .negate .ensures))
 
 pub lone-spec : {M : Type 1} → statement M
 lone-spec =
@@ -214,11 +223,11 @@ lone-spec =
     μ-loop
     mul-n
     loop-holds
-    mul-apart
-    array-copy-out-apart
-    mul-apart-2
-    array-copy-out-apart-2
-    apart-requires
+    mul-both
+    element-copy-out-both
+    mul-both-2
+    element-copy-out-both-2
+    both-requires
     mul-pairs
     array-set-from-pairs
     add-t
@@ -230,7 +239,8 @@ lone-spec =
     loop-less-2
     loop-again-2
     array-share-prefix-pairs
-    slice-aggregate-and
-    and-requires
+    slice-aggregate-or
+    or-requires
+    negate-requires
     same-length
     returns)
