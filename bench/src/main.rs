@@ -1,8 +1,6 @@
 //! Measures of the library beside Rust, both in this one program, in turns; the best of some rounds counts.
 //! Before anything is timed, both sides are held to the same answers.
 
-#[path = "../../tests/src/library.rs"]
-mod library;
 mod search;
 mod translation;
 

@@ -2,8 +2,6 @@
 //! calls of them whose answers have the form of the reference's. A slice passes as pointer and length.
 //! The first field of an answer is a refusal's number, 0 where nothing is refused.
 
-#![allow(dead_code)]
-
 use reference::clauses::Size;
 use reference::search::{Answer, End};
 
@@ -16,7 +14,6 @@ fn unless<T>(refusal: u32, answer: T) -> Result<T, u32> {
     }
 }
 
-#[cfg(on = "read")]
 pub fn read(sheet: &[u8]) -> Result<(), u32> {
     extern "C" {
         fn fawnloom_read(sheet: *const u8, length: usize) -> u32;
@@ -30,7 +27,6 @@ struct CheckAnswer {
     satisfies: u32,
 }
 
-#[cfg(on = "check")]
 pub fn check(sheet: &[u8], instance: &[u8]) -> Result<bool, u32> {
     extern "C" {
         fn fawnloom_check(sheet: *const u8, length: usize, instance: *const u8, cells: usize) -> CheckAnswer;
@@ -54,7 +50,6 @@ impl CountAnswer {
     }
 }
 
-#[cfg(on = "count")]
 pub fn count(sheet: &[u8]) -> Result<Size, u32> {
     extern "C" {
         fn fawnloom_count(sheet: *const u8, length: usize) -> CountAnswer;
@@ -62,7 +57,6 @@ pub fn count(sheet: &[u8]) -> Result<Size, u32> {
     unsafe { fawnloom_count(sheet.as_ptr(), sheet.len()) }.size()
 }
 
-#[cfg(on = "count")]
 pub fn write(sheet: &[u8], list: &mut [i32]) -> Result<Size, u32> {
     extern "C" {
         fn fawnloom_write(sheet: *const u8, length: usize, list: *mut i32, words: usize) -> CountAnswer;
@@ -91,7 +85,6 @@ impl SearchAnswer {
     }
 }
 
-#[cfg(on = "search")]
 pub fn search(list: &[i32], v: u32, values: &mut [u8], trail: &mut [i32], budget: u64) -> Result<Answer, u32> {
     extern "C" {
         fn fawnloom_search(
@@ -117,7 +110,6 @@ struct TextAnswer {
     bytes: usize,
 }
 
-#[cfg(on = "dimacs")]
 pub fn text_size(list: &[i32], v: u32) -> Result<u64, u32> {
     extern "C" {
         fn fawnloom_text_size(list: *const i32, words: usize, v: u32) -> TextAnswer;
@@ -126,7 +118,6 @@ pub fn text_size(list: &[i32], v: u32) -> Result<u64, u32> {
     unless(answer.refusal, answer.bytes as u64)
 }
 
-#[cfg(on = "dimacs")]
 pub fn text(list: &[i32], v: u32, text: &mut [u8]) -> Result<u64, u32> {
     extern "C" {
         fn fawnloom_text(list: *const i32, words: usize, v: u32, text: *mut u8, length: usize) -> TextAnswer;
@@ -142,7 +133,6 @@ struct ReadBackAnswer {
 }
 
 /// The cells copied.
-#[cfg(on = "solve")]
 pub fn read_back(sheet: &[u8], values: &[u8], instance: &mut [u8]) -> Result<usize, u32> {
     extern "C" {
         fn fawnloom_read_back(
@@ -161,7 +151,6 @@ pub fn read_back(sheet: &[u8], values: &[u8], instance: &mut [u8]) -> Result<usi
     unless(answer.refusal, answer.cells)
 }
 
-#[cfg(on = "solve")]
 pub fn find(
     sheet: &[u8],
     list: &mut [i32],

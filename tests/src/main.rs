@@ -1,9 +1,6 @@
 //! The suites: the Rattle library and its programs held to the reference of `lib.rs`, and both to
 //! off-the-shelf solvers. A suite prints one line; the first mismatch ends the run.
 
-#[cfg(any(on = "read", on = "check", on = "count", on = "search", on = "dimacs", on = "solve"))]
-mod library;
-#[cfg(on = "stack")]
 mod painted;
 mod solver;
 mod suites;

@@ -8,11 +8,11 @@ use Rattle.clauses.specs.Answers as counted
 use Rattle.dimacs.specs.Answers as text
 use Rattle.search.specs.Answers as searched
 use Rattle.solve_rules.specs.Answers as back
-use Rattle.boundary.specs.declared.sheets.CheckAnswer.{CheckAnswer}
-use Rattle.boundary.specs.declared.lists.CountAnswer.{CountAnswer}
-use Rattle.boundary.specs.declared.runs.SearchAnswer.{SearchAnswer}
-use Rattle.boundary.specs.declared.runs.ReadBackAnswer.{ReadBackAnswer}
-use Rattle.boundary.specs.declared.lists.TextAnswer.{TextAnswer}
+use Rattle.boundary.specs.declared.answer.CheckAnswer.{CheckAnswer}
+use Rattle.boundary.specs.declared.answer.CountAnswer.{CountAnswer}
+use Rattle.boundary.specs.declared.answer.SearchAnswer.{SearchAnswer}
+use Rattle.boundary.specs.declared.answer.ReadBackAnswer.{ReadBackAnswer}
+use Rattle.boundary.specs.declared.answer.TextAnswer.{TextAnswer}
 
 -- reading
 abbrev pub readNumber : sheets.Answer → ℕ

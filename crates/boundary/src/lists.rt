@@ -3,17 +3,10 @@ ghost use mathlib.Core.Path.{_≡_};
 ghost use Rattle.clauses.specs.Answers as counted;
 ghost use Rattle.dimacs.specs.Answers as texts;
 ghost use Rattle.boundary.specs.Numbers.{countNumbers, textNumbers};
+use super::answer::CountAnswer;
+use super::answer::TextAnswer;
 use clauses::answer::Count;
-use dimacs::TextSize;
-
-// The numbers of variables, clauses and words.
-#[repr(C)]
-pub struct CountAnswer {
-    pub refusal: u32,
-    pub variables: usize,
-    pub clauses: usize,
-    pub words: usize,
-}
+use dimacs::answer::TextSize;
 
 fn count_numbers(answer: Count) -> CountAnswer
     ensures { λ r. ⌜ r ≡ countNumbers (counted.answerOf answer) ⌝ }
@@ -47,13 +40,6 @@ pub extern "C" fn fawnloom_write(sheet: &[u8], list: &mut [i32]) -> CountAnswer
     ensures { λ r. ⌜ now (list .exit) ≡ counted.listAfter (now (sheet .entry)) (now (list .entry)) ⌝ }
 {
     count_numbers(clauses::write(sheet, list))
-}
-
-// The bytes of a clause text: those that it needs, or those written.
-#[repr(C)]
-pub struct TextAnswer {
-    pub refusal: u32,
-    pub bytes: usize,
 }
 
 fn text_numbers(answer: TextSize) -> TextAnswer

@@ -6,16 +6,10 @@ ghost use Rattle.solve_rules.specs.Answers as back;
 ghost use Rattle.solve.specs.Answers.{answerOf};
 ghost use Rattle.solve_rules.specs.Finding.{slices, finding};
 ghost use Rattle.boundary.specs.Numbers.{searchNumbers, copyNumbers};
+use super::answer::ReadBackAnswer;
+use super::answer::SearchAnswer;
 use search::answer::Search;
 use solve::answer::ReadBack;
-
-// How a search ended, 1 found, 2 none, 3 spent, and its steps. Both are 0 under a refusal.
-#[repr(C)]
-pub struct SearchAnswer {
-    pub refusal: u32,
-    pub end: u32,
-    pub steps: u64,
-}
 
 fn search_numbers(answer: Search) -> SearchAnswer
     ensures { λ r. ⌜ r ≡ searchNumbers (searched.answerOf answer) ⌝ }
@@ -59,21 +53,11 @@ pub extern "C" fn fawnloom_search(
     search_numbers(search::search(list, v, values, trail, budget))
 }
 
-// The cells that read-back copied.
-#[repr(C)]
-pub struct ReadBackAnswer {
-    pub refusal: u32,
-    pub cells: usize,
-}
-
 fn copy_numbers(answer: ReadBack) -> ReadBackAnswer
     ensures { λ r. ⌜ r ≡ copyNumbers (answerOf answer) ⌝ }
 {
     match answer {
-        ReadBack::Copied(cells) => ReadBackAnswer {
-            refusal: 0,
-            cells: cells,
-        },
+        ReadBack::Copied(cells) => ReadBackAnswer { refusal: 0, cells },
         ReadBack::Refused(r) => ReadBackAnswer {
             refusal: refusal::number(r),
             cells: 0,
@@ -103,9 +87,11 @@ pub extern "C" fn fawnloom_find(
     budget: u64,
 ) -> SearchAnswer
     ensures { λ r. ⌜ r ≡ searchNumbers
-        (finding (now (sheet .entry)) (slices (now (list .entry)) (now (values .entry)) (now (trail .entry)) (now (instance .entry))) budget .answer) ⌝ }
+        (finding (now (sheet .entry))
+        (slices (now (list .entry)) (now (values .entry)) (now (trail .entry)) (now (instance .entry))) budget .answer) ⌝ }
     ensures { λ r. ⌜ slices (now (list .exit)) (now (values .exit)) (now (trail .exit)) (now (instance .exit))
-        ≡ finding (now (sheet .entry)) (slices (now (list .entry)) (now (values .entry)) (now (trail .entry)) (now (instance .entry))) budget .left ⌝ }
+        ≡ finding (now (sheet .entry))
+        (slices (now (list .entry)) (now (values .entry)) (now (trail .entry)) (now (instance .entry))) budget .left ⌝ }
 {
     search_numbers(solve::find(sheet, list, values, trail, instance, budget))
 }

@@ -5,8 +5,9 @@ ghost use Rattle.sheet.specs.Answers.{answerOf};
 ghost use Rattle.instance.specs.Answers as checked;
 ghost use Rattle.instance.specs.Held.{checkAnswer};
 ghost use Rattle.boundary.specs.Numbers.{readNumber, checkNumbers, Checked};
+use super::answer::CheckAnswer;
 use instance::answer::Check;
-use sheet::Reading;
+use sheet::answer::Reading;
 
 fn read_number(answer: Reading) -> u32
     ensures { λ r. ⌜ r ≡ readNumber (answerOf answer) ⌝ }
@@ -23,13 +24,6 @@ pub extern "C" fn fawnloom_read(sheet: &[u8]) -> u32
     ensures { λ r. ⌜ r ≡ readNumber (reading (now (sheet .entry))) ⌝ }
 {
     read_number(sheet::read(sheet))
-}
-
-// Whether an instance satisfies marks and formula: 1 yes, 0 no.
-#[repr(C)]
-pub struct CheckAnswer {
-    pub refusal: u32,
-    pub satisfies: u32,
 }
 
 fn check_numbers(answer: Check) -> CheckAnswer

@@ -94,7 +94,8 @@ pub struct Cells {
 // All of these, in one pass.
 pub fn first_cells(sheet: &[u8], layout: Layout) -> Cells
     requires { ⌜ reading (now sheet) ≡ accepted layout ⌝ }
-    ensures { λ c. ⌜ (c .count ≡ cellCount (sheetOf (now (sheet .entry)))) × ((c .count ≤ 1024) × Starts (sheetOf (now (sheet .entry))) (c .starts)) ⌝ }
+    ensures { λ c. ⌜ (c .count ≡ cellCount (sheetOf (now (sheet .entry)))) ×
+        ((c .count ≤ 1024) × Starts (sheetOf (now (sheet .entry))) (c .starts)) ⌝ }
 {
     let relations = layout.relations;
     let n = relations.count;

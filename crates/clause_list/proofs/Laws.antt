@@ -7,11 +7,11 @@ use native.Mathlib.Nat.{not-suc-le-zero, le-refl, suc-add}
 use native.Mathlib.Omega.{arith}
 use lib.Dec.{leb}
 use lib.IntN.{ℤ, pos, negsuc, natAbs}
-use lib.ListN.{length, getD, take, drop, length-append, length-take, length-drop, take-append-drop}
-use lib.Seq.{drop-cons, take-append-seam, drop-append-seam, drop-drop, length-take-le, getD-take, getD-drop}
+use lib.ListN.{length, getD, take, drop, length-append, length-drop, take-append-drop}
+use lib.Seq.{drop-cons, take-append-seam, drop-append-seam, drop-drop, length-take-le}
 use borrow.Author.Tests.{leb-true, le-leb, lt-leb}
 use Rattle.prelude.specs.Tests.{between, all}
-use Rattle.prelude.proofs.Laws.{clash, all-at, and-left, and-right, and-both, and-rest, and-not-left, and-not-right}
+use Rattle.prelude.proofs.Laws.{clash, and-left, and-right, and-both, and-rest, and-not-left, and-not-right}
 use Rattle.prelude.proofs.Laws.{between-low, between-high, is-between, below-not-between, above-not-between}
 use Rattle.literal.specs.Literals.{isLiteral}
 use Rattle.clause_list.specs.ClauseList.{cut, clausesOf, wordsOf, isCount, wellCut, isList}
@@ -115,14 +115,6 @@ module _ (v : ℕ) (ws : List ℤ) (at : ℕ) (h : at < length ws) (e : wellCutW
         rest = rw m at (and-right (all (isLiteral v) (take n tail)) _ r);
       }
 
--- a literal of the clause at a place
-pub literal-at : (v : ℕ) (ws : List ℤ) (at n : ℕ) → ClauseAt v ws at n → (i : ℕ) → i < n → isLiteral v (getD ws (suc at + i) (pos 0)) ≡ true
-literal-at v ws at n c i h =
-    let tail = drop (suc at) ws in
-    let f : i < length (take n tail) = omega (arith, c .fits, length-take n tail, length-drop (suc at) ws) in
-    ap (isLiteral v) (sym (getD-take n tail i (pos 0) h ∙ getD-drop (suc at) ws i (pos 0)))
-    ∙ all-at (isLiteral v) (take n tail) (c .literals) i (pos 0) f
-
 -- each clause takes a word at least
 pub cut-few : (r : ℕ) (ws : List ℤ) → length (cut r ws) ≤ r
 unfolding cut
@@ -148,33 +140,14 @@ clauses-literals v (suc r) (count ∷ ws) e =
     (and-left (all (isLiteral v) (take n ws)) (wellCut v r (drop n ws)) s)
     (clauses-literals v r (drop n ws) (and-right (all (isLiteral v) (take n ws)) (wellCut v r (drop n ws)) s))
 
-pub clauses-some : (v r : ℕ) (ws : List ℤ) → wellCut v r ws ≡ true → all hasLiteral (cut r ws) ≡ true
-unfolding cut wellCut all
-clauses-some v zero ws e = refl
-clauses-some v (suc r) [] e = refl
-clauses-some v (suc r) (count ∷ ws) e =
-    let n = natAbs count in
-    let c = and-left (isCount (length ws) count) (all (isLiteral v) (take n ws) && wellCut v r (drop n ws)) e in
-    let s = and-right (isCount (length ws) count) (all (isLiteral v) (take n ws) && wellCut v r (drop n ws)) e in
-    and-both (hasLiteral (take n ws)) (all hasLiteral (cut r (drop n ws)))
-    (le-leb 1 (length (take n ws)) (omega (arith, count-low (length ws) count c, count-high (length ws) count c, length-take n ws)))
-    (clauses-some v r (drop n ws) (and-right (all (isLiteral v) (take n ws)) (wellCut v r (drop n ws)) s))
-
 -- what number 12 lets pass
 module _ (v : ℕ) (ws : List ℤ) (e : isList v ws ≡ true) where
   pub list-variables : between 1 16000 v ≡ true
   unfolding isList
   list-variables = and-left (between 1 16000 v) _ e
 
-  pub list-some-variable : 1 ≤ v
-  list-some-variable = between-low 1 16000 v list-variables
-
   pub list-most-variables : v ≤ 16000
   list-most-variables = between-high 1 16000 v list-variables
-
-  pub list-words : length ws ≤ 2147483647
-  unfolding isList
-  list-words = leb-true (length ws) 2147483647 (and-left (leb (length ws) 2147483647) _ (and-right (between 1 16000 v) _ e))
 
   pub list-well-cut : wellCutWords v ws ≡ true
   unfolding isList
@@ -182,9 +155,6 @@ module _ (v : ℕ) (ws : List ℤ) (e : isList v ws ≡ true) where
 
   pub list-literals : all (all (isLiteral v)) (clausesOf ws) ≡ true
   list-literals = clauses-literals v (length ws) ws list-well-cut
-
-  pub list-some : all hasLiteral (clausesOf ws) ≡ true
-  list-some = clauses-some v (length ws) ws list-well-cut
 
 -- the tests before the cut, in their order
 module _ (v : ℕ) (ws : List ℤ) where

@@ -8,7 +8,7 @@ use answer::Size;
 use clauses_emission::LIMIT;
 use clauses_emission::Tape;
 use refusal::Refusal;
-use sheet::Reading;
+use sheet::answer::Reading;
 use sheet::read;
 use sheet_rules::Layout;
 use whole::translate;

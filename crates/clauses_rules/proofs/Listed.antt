@@ -1,5 +1,5 @@
 -- The search takes the list as it is written: number 12 does not apply to the words of an accepted sheet that fits the limits.
-use mathlib.Core.Path.{_≡_, refl, sym, ap, _∙_, subst}
+use mathlib.Core.Path.{_≡_, refl, sym, _∙_, subst}
 use mathlib.Core.Bool.{Bool, true}
 use mathlib.Core.List.{List, [], _∷_, _++_, map}
 use Prim.Native.Nat.{ℕ, zero, suc, _≤_, _<_}
@@ -15,6 +15,7 @@ use Rattle.clause_list.proofs.Laws.{hasLiteral, words-list}
 use Rattle.sheet_rules.specs.Blocks.{Sheet, relationCount, multiplicity}
 use Rattle.relational.specs.Cells.{rowCount, rowLength, cell}
 use Rattle.relational.specs.Matrices.{from, pairs}
+use Rattle.relational.proofs.Places.{length-from}
 use Rattle.clauses_rules.specs.Builder.{Gate}
 use Rattle.clauses_rules.specs.Gates.{Clause, inputClauses, gateClauses, gatesClauses}
 use Rattle.clauses_rules.specs.Translation.{Two, literalAt}
@@ -65,10 +66,6 @@ series-some : (n : ℕ) (f : ℕ → List Clause) → ((i : ℕ) → i < n → a
 unfolding series all
 series-some zero f h = refl
 series-some (suc n) f h = append-some (series n f) (f n) (series-some n f (λ i l. h i (omega arith))) (h n (omega arith))
-
-length-from : (s n : ℕ) → length (from s n) ≡ n
-length-from s zero = refl
-length-from s (suc n) = ap suc (length-from (suc s) n)
 
 same-some : (cs : List Clause) → all (λ c. hasLiteral (map wordOf c)) cs ≡ all isSome cs
 unfolding all

@@ -9,7 +9,7 @@ use Rattle.prelude.specs.Tests.{all, any}
 use Rattle.prelude.proofs.Laws.{all-map}
 use Rattle.literal.specs.Literals.{Literal}
 use Rattle.relational.specs.Trees.{Binary, union, intersection, difference, join, product, Unary, inverse, closure, Comparison, equal}
-use Rattle.relational.specs.Trees.{within, some, Connective, conjunction, disjunction, implication, equivalence, Quantifier, for-all}
+use Rattle.relational.specs.Trees.{within, Connective, conjunction, disjunction, implication, equivalence, Quantifier, for-all}
 use Rattle.relational.specs.Trees.{for-some}
 use Rattle.relational.specs.Matrices.{upto, Place, places, rounds, Matrix, setOf, relationOf, size, sameSize, joinColumns, joinPlaces}
 use Rattle.relational.specs.Matrices.{joinSize, productPlaces, productSize, matched, middles, crossed, inverted}

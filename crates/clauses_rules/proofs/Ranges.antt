@@ -1,6 +1,5 @@
 -- Every literal of the clauses is a literal of the variables 1 to n - 1.
-use mathlib.Core.Path.{_≡_, refl}
-use mathlib.Core.List.{List, [], _∷_, _++_, map}
+use mathlib.Core.List.{List, [], _∷_, map, map-append}
 use Prim.Native.Nat.{ℕ, zero, suc, _+_, _≤_}
 use native.Mathlib.Omega.{arith}
 use lib.ListN.{length, getD}
@@ -37,10 +36,6 @@ gates-in n g (ls ∷ gates) p q s =
 with-each-in : (n : ℕ) (l : Literal) (ks : List Literal) → In n l → AllIn n ks → ClausesIn n (map pairClause (map {B = Two} (λ k. (l, k)) ks))
 with-each-in n l [] i h = tt
 with-each-in n l (k ∷ ks) i h = ((in-opposite l i, (in-opposite k (h .0), tt)), with-each-in n l ks i (h .1))
-
-map-append : {A B : Type 0} (f : A → B) (xs ys : List A) → map f (xs ++ ys) ≡ map f xs ++ map f ys
-map-append f [] ys = refl
-map-append f (x ∷ xs) ys = rw (map-append f xs ys)
 
 pairs-in : (n : ℕ) (ls : List Literal) → AllIn n ls → ClausesIn n (map pairClause (pairs ls))
 pairs-in n [] h = tt

@@ -11,14 +11,15 @@ use Rattle.sheet_rules.specs.Blocks.{Sheet, relationCount, multiplicity}
 use Rattle.relational.specs.Cells.{rowCount, rowLength, cell}
 use Rattle.relational.specs.Matrices.{from, pairs}
 use Rattle.relational.specs.Evaluation.{count, rowHolds, rowCells, marksHold}
+use Rattle.relational.proofs.Counts.{notBoth, pairs-count, some-count, exactly-one}
 use Rattle.clauses_rules.specs.Gates.{Clause}
 use Rattle.clauses_rules.specs.Translation.{Two}
 use Rattle.clauses_rules.specs.Whole.{series, pairClause, rowClauses, rowLiterals, markClauses}
-use Rattle.clauses_rules.proofs.Values.{value, satisfied, satisfied-append}
+use Rattle.clauses_rules.proofs.Values.{satisfied, satisfied-append}
 use Rattle.clauses_rules.proofs.Build.{Pairwise, nothing, more, Mean}
 use Rattle.clauses_rules.proofs.Connect.{means-opposite, mean-some}
 use Rattle.clauses_rules.proofs.Operators.{Both, pairwise-maps}
-use Rattle.clauses_rules.proofs.Counts.{notBoth, pairs-mean, pairs-count, some-count, exactly-one}
+use Rattle.clauses_rules.proofs.Counts.{pairs-mean}
 use Rattle.clauses_rules.proofs.Walk.{Ready, means-cell}
 
 satisfied-series : (a : List Bool) (n : ℕ) (f : ℕ → List Clause) → satisfied a (series n f) ≡ each n (λ i. satisfied a (f i))

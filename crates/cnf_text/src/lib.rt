@@ -10,7 +10,7 @@ ghost use Rattle.cnf_text.specs.Private.{PrintsText};
 ghost use Rattle.cnf_text.specs.Printed.{clauseText, listLeft};
 use clauses::answer::Count;
 use clauses::answer::Size;
-use dimacs::TextSize;
+use dimacs::answer::TextSize;
 use text::put_end;
 
 // The text of a list's first words, which are a list of clauses.

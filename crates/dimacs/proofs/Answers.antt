@@ -17,8 +17,8 @@ use Rattle.text.specs.Puts.{Put}
 use Rattle.clause_list.specs.ClauseList.{isList}
 use Rattle.dimacs.specs.Text.{textOf, textRoom}
 use Rattle.dimacs.specs.Answers.{bytes, refused, answerOf, sizeAnswer, writeAnswer, textAfter}
-use Rattle.dimacs.specs.declared.TextSize.{TextSize}
-use Rattle.dimacs.specs.declared.TextSize.the-variants.{Bytes, Refused}
+use Rattle.dimacs.specs.declared.answer.TextSize.{TextSize}
+use Rattle.dimacs.specs.declared.answer.TextSize.the-variants.{Bytes, Refused}
 use Rattle.dimacs.proofs.Lines.{text-fits}
 
 module _ (v : ℕ) (ws : List ℤ) where

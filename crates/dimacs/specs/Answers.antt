@@ -8,8 +8,8 @@ use lib.ListN.{length, drop}
 use Rattle.refusal.specs.Refusals.{numberOf}
 use Rattle.clause_list.specs.ClauseList.{isList}
 use Rattle.dimacs.specs.Text.{textOf, textRoom}
-use Rattle.dimacs.specs.declared.TextSize.{TextSize}
-use Rattle.dimacs.specs.declared.TextSize.the-variants.{Bytes, Refused}
+use Rattle.dimacs.specs.declared.answer.TextSize.{TextSize}
+use Rattle.dimacs.specs.declared.answer.TextSize.the-variants.{Bytes, Refused}
 
 -- an answer in the paper's terms: a number of bytes, or the number of a refusal
 pub data Answer : Type 0 where

@@ -1,4 +1,5 @@
 // Clause text in the DIMACS CNF format (document 01): its size, and the text itself.
+use answer::TextSize;
 use refusal::Refusal;
 use text::put_bytes;
 use text::put_decimal;
@@ -12,10 +13,7 @@ ghost use Rattle.dimacs.specs.Text.{literalText, clauseLine, clauseLines
 ghost use Rattle.dimacs.specs.Answers.{answerOf, sizeAnswer, writeAnswer, textAfter};
 ghost use Rattle.dimacs.specs.Private.{Proper, Listed};
 
-pub enum TextSize {
-    Bytes(usize),
-    Refused(Refusal),
-}
+pub mod answer;
 
 // Puts a literal: a minus where it says that its variable is false, then the variable.
 fn put_literal(text: &mut [u8], at: usize, l: i32) -> usize

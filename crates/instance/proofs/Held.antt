@@ -10,7 +10,7 @@ use lib.ListN.{length}
 use borrow.Author.Tests.{eq-eqb, ne-eqb}
 use Rattle.prelude.specs.Tests.{all}
 use Rattle.sheet_rules.specs.declared.Layout.{Layout}
-use Rattle.sheet_rules.specs.Blocks.{Sheet, sheetOf}
+use Rattle.sheet_rules.specs.Blocks.{sheetOf}
 use Rattle.sheet_rules.specs.Reading as sheets
 use Rattle.sheet_rules.specs.Reading.{reading}
 use Rattle.relational.specs.Cells.{cellCount, withinScopes}
@@ -33,7 +33,8 @@ by-truth layout true false statement h = (
 )
 
 by-reading : (sheet instance : List ℕ) (judged : sheets.Answer) → reading sheet ≡ judged
-    → Answers judged (withinScopes (sheetOf sheet) instance) (Satisfies (sheetOf sheet) instance) (checkAfter judged (sheetOf sheet) instance)
+    → Answers judged (withinScopes (sheetOf sheet) instance) (Satisfies (sheetOf sheet) instance)
+    (checkAfter judged (sheetOf sheet) instance)
 unfolding heldAnswer
 by-reading sheet instance (sheets.refused n) e = refl
 by-reading sheet instance (sheets.accepted layout) e =
@@ -50,27 +51,26 @@ pub ensured : (sheet instance : List ℕ) {answer : Answer} → answer ≡ check
     → CheckAnswers sheet instance answer × (answer ≡ checkAnswer sheet instance)
 ensured sheet instance e = (subst (CheckAnswers sheet instance) (sym e) (answers sheet instance), e)
 
-pub held : (sheet instance : List ℕ) (layout : Layout) → reading sheet ≡ sheets.accepted layout
-    → heldAnswer (sheetOf sheet) instance ≡ checkAnswer sheet instance
-unfolding checkAnswer
-held sheet instance layout e = ap (λ a. checkAfter a (sheetOf sheet) instance) (sym e)
-
 pub declined : (sheet instance : List ℕ) (n : ℕ) → reading sheet ≡ sheets.refused n → refused n ≡ checkAnswer sheet instance
 unfolding checkAnswer
 declined sheet instance n e = ap (λ a. checkAfter a (sheetOf sheet) instance) (sym e)
 
--- ---- the two tests of 11, and then the evaluation
-module _ (sheet : Sheet) (instance : List ℕ) (count : ℕ) (e : count ≡ cellCount sheet) where
-  pub other-length : (length instance ≡ count → ⊥) → refused 11 ≡ heldAnswer sheet instance
-  unfolding heldAnswer withinScopes
-  other-length h = rw (ne-eqb (length instance) (cellCount sheet) (λ q. h (q ∙ sym e)))
+-- ---- of an accepted sheet: the two tests of 11, and then the evaluation
+module _ (sheet instance : List ℕ) {layout : Layout} (taken : reading sheet ≡ sheets.accepted layout) where
+  held : heldAnswer (sheetOf sheet) instance ≡ checkAnswer sheet instance
+  unfolding checkAnswer
+  held = ap (λ a. checkAfter a (sheetOf sheet) instance) (sym taken)
 
-  pub other-cells : (fine : Bool) → length instance ≡ count → fine ≡ all (λ (b : ℕ). leb b 1) instance → fine ≡ false
-      → refused 11 ≡ heldAnswer sheet instance
-  unfolding heldAnswer withinScopes
-  other-cells fine l h f = rw (eq-eqb (length instance) (cellCount sheet) (l ∙ e), ← h, f)
+  module _ {count : ℕ} (e : count ≡ cellCount (sheetOf sheet)) where
+    pub other-length : (length instance ≡ count → ⊥) → refused 11 ≡ checkAnswer sheet instance
+    unfolding heldAnswer withinScopes
+    other-length h = rw (ne-eqb (length instance) (cellCount (sheetOf sheet)) (λ q. h (q ∙ sym e))) at held
 
-  pub evaluated : (fine truth : Bool) → length instance ≡ count → fine ≡ all (λ (b : ℕ). leb b 1) instance → fine ≡ true
-      → truth ≡ holds sheet instance → cond truth yes no ≡ heldAnswer sheet instance
-  unfolding heldAnswer withinScopes
-  evaluated fine truth l h f t = rw (eq-eqb (length instance) (cellCount sheet) (l ∙ e), ← h, f, ← t)
+    module _ {fine : Bool} (l : length instance ≡ count) (bits : fine ≡ all (λ (b : ℕ). leb b 1) instance) where
+      pub other-cells : fine ≡ false → refused 11 ≡ checkAnswer sheet instance
+      unfolding heldAnswer withinScopes
+      other-cells f = rw (eq-eqb (length instance) (cellCount (sheetOf sheet)) (l ∙ e), ← bits, f) at held
+
+      pub evaluated : fine ≡ true → {truth : Bool} → truth ≡ holds (sheetOf sheet) instance → cond truth yes no ≡ checkAnswer sheet instance
+      unfolding heldAnswer withinScopes
+      evaluated f t = rw (eq-eqb (length instance) (cellCount (sheetOf sheet)) (l ∙ e), ← bits, f, ← t) at held

@@ -1,3 +1,2 @@
-mod Flags
 mod Held
 pub mod Exact

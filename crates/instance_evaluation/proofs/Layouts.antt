@@ -1,34 +1,53 @@
--- What a leaf that is a relation stands for, and the rows of a relation.
+-- A located sheet's relations: where they start, what a leaf that is one stands for, and its rows.
 use mathlib.Core.Path.{_≡_, refl, sym, _∙_}
 use mathlib.Core.Logic.{_⊎_, inl, inr}
 use mathlib.Core.List.{List}
-use Prim.Native.Nat.{ℕ, _+_, _*_}
+use Prim.Native.Nat.{ℕ, _+_, _*_, _≤_, _<_}
 use native.Mathlib.Omega.{arith}
-use Rattle.sheet_rules.specs.Blocks.{Sheet, columns, multiplicity}
+use lib.ListN.{length, getD}
+use Rattle.sheet_rules.specs.declared.Layout.{Layout}
+use Rattle.sheet_rules.specs.Blocks as blocks
+use Rattle.sheet_rules.specs.Blocks.{Sheet, sheetOf, relationCount}
+use Rattle.sheet_rules.specs.Facts.{Facts}
+use Rattle.sheet_rules.proofs.Acceptance.{accepted-facts}
 use Rattle.relational.specs.Trees.{relation}
 use Rattle.relational.specs.Cells.{rowCount, rowLength, firstCell, cell}
 use Rattle.relational.specs.Meaning.{Environment}
-use Rattle.relational.specs.Evaluation.{count, valueLeaf, rowHolds, rowCells}
-use Rattle.cells.proofs.Layouts.{set-rows}
+use Rattle.relational.specs.Evaluation.{valueLeaf, rowCells}
+use Rattle.cells.specs.Private.{Located}
+use Rattle.cells.proofs.Layouts.{set-rows, first-most}
 use Rattle.instance_matrix.specs.Values.{SetOrRelation, sized, flagsFrom}
-use Rattle.instance_matrix.specs.Numbers.{rowBy}
-use Rattle.instance_matrix.proofs.Symbols.{row-of}
 
-module _ (sheet : Sheet) where
-  pub set-or-relation : (r : ℕ) → (columns sheet r ≡ 1) ⊎ (columns sheet r ≡ 2) → SetOrRelation (columns sheet r) (rowCount sheet r)
-  set-or-relation r (inl e) = inl (e, sym (set-rows sheet r {sorts = sheet .sorts} refl refl refl e))
-  set-or-relation r (inr e) = inr e
+module _ (sheet : Sheet) (r : ℕ) where
+  pub set-or-relation : {arity rows : ℕ} → (blocks.columns sheet r ≡ 1) ⊎ (blocks.columns sheet r ≡ 2)
+      → arity ≡ blocks.columns sheet r → rows ≡ rowCount sheet r → SetOrRelation arity rows
+  set-or-relation (inl e) ea er = inl (ea ∙ e, er ∙ sym (set-rows sheet r refl e))
+  set-or-relation (inr e) ea er = inr (ea ∙ e)
 
-  pub relation-leaf : (instance : List ℕ) (r first arity rows columns : ℕ) (env : Environment) → first ≡ firstCell sheet r
-      → arity ≡ Rattle.sheet_rules.specs.Blocks.columns sheet r → rows ≡ rowCount sheet r → columns ≡ rowLength sheet r
+  pub relation-leaf : (instance : List ℕ) {first arity rows columns : ℕ} (env : Environment) → first ≡ firstCell sheet r
+      → arity ≡ blocks.columns sheet r → rows ≡ rowCount sheet r → columns ≡ rowLength sheet r
       → sized arity rows columns (flagsFrom instance first (rows * columns)) ≡ valueLeaf sheet instance relation r env
-  relation-leaf instance r first arity rows columns env ef ea er ec =
-      λ i. sized (ea i) (er i) (ec i) (flagsFrom instance (ef i) (er i * ec i))
+  relation-leaf instance env ef ea er ec = λ i. sized (ea i) (er i) (ec i) (flagsFrom instance (ef i) (er i * ec i))
 
-  pub row-law : (instance : List ℕ) (r i mark first columns : ℕ) → mark ≡ multiplicity sheet r → first ≡ firstCell sheet r
-      → columns ≡ rowLength sheet r
-      → rowBy mark (count (flagsFrom instance (first + i * columns) columns))
-      ≡ rowHolds sheet instance (multiplicity sheet r) (rowCells sheet instance r i)
-  row-law instance r i mark first columns em ef ec =
+  -- row i of it, read as a set
+  pub row-cells : (instance : List ℕ) (i : ℕ) {first columns : ℕ} → first ≡ firstCell sheet r → columns ≡ rowLength sheet r
+      → flagsFrom instance (first + i * columns) (1 * columns) ≡ rowCells sheet instance r i
+  row-cells instance i {first} {columns} ef ec =
       let place : first + i * columns ≡ cell sheet r i 0 = rw (ef, ec) (omega arith) in
-      (λ j. rowBy (em j) (count (flagsFrom instance (place j) (ec j)))) ∙ row-of sheet instance (multiplicity sheet r) (rowCells sheet instance r i)
+      let one : 1 * columns ≡ rowLength sheet r = rw ec (omega arith) in
+      λ j. flagsFrom instance (place j) (one j)
+
+-- ---- a relation that is there, and its first cell
+module _ {s starts : List ℕ} {l : Layout} (h : Located s l starts) where
+  pub facts-of : Facts (sheetOf s)
+  facts-of = accepted-facts s l (h .taken)
+
+  module _ {r : ℕ} (there : r < relationCount (sheetOf s)) where
+    pub low : r < length starts
+    low = omega (arith, facts-of .counts .few-relations, h .cells .long)
+
+    pub few : r < 16
+    few = omega (arith, facts-of .counts .few-relations)
+
+    pub first-few : getD starts r 0 ≤ 960
+    first-few = omega (arith, h .cells .first r there, first-most (sheetOf s) facts-of r, few)

@@ -1,3 +1,2 @@
 mod Steps
 mod Layouts
-mod Loops

@@ -1,41 +1,29 @@
 -- What a node gives, from what its operands give: a lemma for each form.
-use mathlib.Core.Path.{_≡_, refl, ap}
+use mathlib.Core.Path.{_≡_, refl, ap, _∙_}
 use mathlib.Core.Bool.{Bool, not}
 use mathlib.Core.List.{List}
 use Prim.Native.Nat.{ℕ}
 use lib.ListN.{replicate}
-use Rattle.sheet_rules.specs.Blocks.{Sheet, scope, sortOf}
-use Rattle.relational.specs.Trees.{Leaf, relation, variable, atoms, identity, Quantifier, for-all, for-some, leaf-symbol, quantifier-symbol}
-use Rattle.relational.specs.Trees.{symbolOf, Tree, expression, formula, broken}
-use Rattle.relational.specs.Matrices.{Matrix, setOf}
+use Rattle.sheet_rules.specs.Blocks.{Sheet}
+use Rattle.relational.specs.Trees.{Leaf, Binary, Unary, Comparison, Test, Connective, Quantifier}
+use Rattle.relational.specs.Trees.{leaf-symbol, binary-symbol, unary-symbol, comparison-symbol, test-symbol, connective-symbol}
+use Rattle.relational.specs.Trees.{quantifier-symbol, symbolOf, Tree, expression, formula, broken}
+use Rattle.relational.specs.Matrices.{Matrix}
 use Rattle.relational.specs.Meaning.{Environment}
-use Rattle.relational.specs.Evaluation.{count, truthQuantifier, valueOf, valueLeaf, truthOfTree}
+use Rattle.relational.specs.Evaluation.{valueBinary, valueUnary, truthComparison, truthTest, truthConnective, truthQuantifier}
+use Rattle.relational.specs.Evaluation.{valueOf, valueLeaf, truthOfTree}
 use Rattle.nodes.specs.declared.forms.Node.{Node}
 use Rattle.nodes.specs.declared.forms.ExpressionForm.the-variants as form
 use Rattle.nodes.specs.declared.forms.FormulaForm.the-variants as claim
 use Rattle.nodes.specs.Environments.{environment}
 use Rattle.nodes.specs.Nodes.{treeAt, IsExpression, IsFormula}
 use Rattle.nodes.proofs.Binding.{zero-atoms}
-use Rattle.nodes.proofs.Numbers.{number-of}
 use Rattle.nodes.proofs.Views.{Reached}
 use Rattle.nodes.proofs.ExpressionViews.{at-leaf, at-binary, at-unary, at-comprehension}
 use Rattle.nodes.proofs.FormulaViews.{at-comparison, at-test, at-negation, at-connective, at-quantifier}
-use Rattle.instance_matrix.specs.Numbers.{binaryBy, unaryBy, comparisonBy, testBy, connectiveBy}
-use Rattle.instance_matrix.proofs.Symbols.{binary-of, unary-of, comparison-of, test-of, connective-of}
-use Rattle.instance_evaluation.specs.Walking.{leafBy, valueOfTree, truthInTree, truths, quantifierBy}
-
-leaf-of : (sheet : Sheet) (instance : List ℕ) (env : Environment) (k : ℕ) (l : Leaf) (a : ℕ) → symbolOf k ≡ leaf-symbol l
-    → leafBy sheet instance env k a ≡ valueLeaf sheet instance l a env
-unfolding leafBy
-leaf-of sheet instance env k relation a e = rw (number-of k (leaf-symbol relation) e refl)
-leaf-of sheet instance env k variable a e = rw (number-of k (leaf-symbol variable) e refl)
-leaf-of sheet instance env k atoms a e = rw (number-of k (leaf-symbol atoms) e refl)
-leaf-of sheet instance env k identity a e = rw (number-of k (leaf-symbol identity) e refl)
-
-quantifier-of : (k : ℕ) (o : Quantifier) (l : List Bool) → symbolOf k ≡ quantifier-symbol o → quantifierBy k l ≡ truthQuantifier o l
-unfolding quantifierBy
-quantifier-of k for-all l e = rw (number-of k (quantifier-symbol for-all) e refl)
-quantifier-of k for-some l e = rw (number-of k (quantifier-symbol for-some) e refl)
+use Rattle.instance_matrix.specs.declared.Value.{Value}
+use Rattle.instance_matrix.specs.Values.{Gives, matrixOf}
+use Rattle.instance_evaluation.specs.Walking.{valueOfTree, truthInTree, bodiesOf}
 
 -- ---- expressions
 module _ {sheet : Sheet} {v : ℕ} {node : Node} (h : Reached sheet v node IsExpression) where
@@ -43,25 +31,30 @@ module _ {sheet : Sheet} {v : ℕ} {node : Node} (h : Reached sheet v node IsExp
     abbrev value : ℕ → Matrix Bool
     value w = valueOfTree sheet instance env (treeAt sheet w)
 
-    pub leaf-value : node .expression ≡ form.Leaf → leafBy sheet instance env (node .kind) (node .a) ≡ value v
+    pub leaf-value : {r : Value} → node .expression ≡ form.Leaf
+        → ((l : Leaf) → symbolOf (node .kind) ≡ leaf-symbol l → Gives r (valueLeaf sheet instance l (node .a) env)) → Gives r (value v)
     unfolding valueOfTree valueOf
-    leaf-value p = let l = at-leaf h p in rw (h .tree .is, l .is) (leaf-of sheet instance env (node .kind) (l .it) (node .a) (l .symbol))
+    leaf-value p g = let l = at-leaf h p in rw (h .tree .is, l .is) (g (l .it) (l .symbol))
 
-    pub binary-value : {P Q : Matrix Bool} → node .expression ≡ form.Binary → P ≡ value (node .a) → Q ≡ value (node .b)
-        → binaryBy (node .kind) P Q ≡ value v
+    pub binary-value : {p q r : Value} → node .expression ≡ form.Binary → Gives p (value (node .a)) → Gives q (value (node .b))
+        → ((o : Binary) → symbolOf (node .kind) ≡ binary-symbol o → Gives r (valueBinary o (matrixOf p) (matrixOf q))) → Gives r (value v)
     unfolding valueOfTree valueOf
-    binary-value p i j =
-        let b = at-binary h p in
-        rw (i, j, h .tree .is, b .is, b .left .is, b .right .is) (binary-of (node .kind) (b .it) _ _ (b .symbol))
+    binary-value e i j g =
+        let b = at-binary h e in
+        rw (h .tree .is, b .is)
+        (rw (i .is, j .is, b .left .is, b .right .is) at (g (b .it) (b .symbol)))
 
-    pub unary-value : {P : Matrix Bool} → node .expression ≡ form.Unary → P ≡ value (node .a) → unaryBy (node .kind) P ≡ value v
+    pub unary-value : {p r : Value} → node .expression ≡ form.Unary → Gives p (value (node .a))
+        → ((o : Unary) → symbolOf (node .kind) ≡ unary-symbol o → Gives r (valueUnary o (matrixOf p))) → Gives r (value v)
     unfolding valueOfTree valueOf
-    unary-value p i = let b = at-unary h p in rw (i, h .tree .is, b .is, b .left .is) (unary-of (node .kind) (b .it) _ (b .symbol))
+    unary-value e i g =
+        let b = at-unary h e in
+        rw (h .tree .is, b .is) (rw (i .is, b .left .is) at (g (b .it) (b .symbol)))
 
-    pub comprehension-value : node .expression ≡ form.Comprehension
-        → setOf (scope sheet (sortOf sheet (node .a))) (truths sheet instance env (node .a) (treeAt sheet (node .b))) ≡ value v
+    pub comprehension-value : {r : Value} → node .expression ≡ form.Comprehension
+        → Gives r (bodiesOf sheet instance env (treeAt sheet (node .b)) (node .a)) → Gives r (value v)
     unfolding valueOfTree truthInTree valueOf
-    comprehension-value p = let b = at-comprehension h p in rw (h .tree .is, b .is, b .body .is)
+    comprehension-value e g = let b = at-comprehension h e in rw (h .tree .is, b .is) (rw (b .body .is) at g)
 
 -- ---- formulas
 module _ {sheet : Sheet} {v : ℕ} {node : Node} (h : Reached sheet v node IsFormula) where
@@ -72,32 +65,41 @@ module _ {sheet : Sheet} {v : ℕ} {node : Node} (h : Reached sheet v node IsFor
     abbrev truth : ℕ → Bool
     truth w = truthInTree sheet instance env (treeAt sheet w)
 
-    pub comparison-truth : {P Q : Matrix Bool} → node .formula ≡ claim.Comparison → P ≡ operand (node .a) → Q ≡ operand (node .b)
-        → comparisonBy (node .kind) P Q ≡ truth v
+    pub comparison-truth : {p q : Value} {r : Bool} → node .formula ≡ claim.Comparison → Gives p (operand (node .a))
+        → Gives q (operand (node .b))
+        → ((o : Comparison) → symbolOf (node .kind) ≡ comparison-symbol o → r ≡ truthComparison o (matrixOf p) (matrixOf q)) → r ≡ truth v
     unfolding valueOfTree truthInTree valueOf
-    comparison-truth p i j =
-        let b = at-comparison h p in
-        rw (i, j, h .tree .is, b .is, b .left .is, b .right .is) (comparison-of (node .kind) (b .it) _ _ (b .symbol))
+    comparison-truth e i j g =
+        let b = at-comparison h e in
+        rw (h .tree .is, b .is) (rw (i .is, j .is, b .left .is, b .right .is) at (g (b .it) (b .symbol)))
 
-    pub test-truth : {P : Matrix Bool} → node .formula ≡ claim.Test → P ≡ operand (node .a) → testBy (node .kind) (count (P .cells)) ≡ truth v
+    pub test-truth : {p : Value} {r : Bool} → node .formula ≡ claim.Test → Gives p (operand (node .a))
+        → ((o : Test) → symbolOf (node .kind) ≡ test-symbol o → r ≡ truthTest o (matrixOf p .cells)) → r ≡ truth v
     unfolding valueOfTree truthInTree valueOf
-    test-truth p i = let b = at-test h p in rw (i, h .tree .is, b .is, b .left .is) (test-of (node .kind) (b .it) _ (b .symbol))
+    test-truth e i g =
+        let b = at-test h e in
+        rw (h .tree .is, b .is)
+        (rw (b .left .is) at (g (b .it) (b .symbol) ∙ ap (λ (m : Matrix Bool). truthTest (b .it) (m .cells)) (i .is)))
 
-    pub negation-truth : node .formula ≡ claim.Negation → not (truth (node .a)) ≡ truth v
+    pub negation-truth : {f : Bool} → node .formula ≡ claim.Negation → f ≡ truth (node .a) → not f ≡ truth v
     unfolding truthInTree valueOf
-    negation-truth p = let b = at-negation h p in rw (h .tree .is, b .is, b .left .is)
+    negation-truth e i = let b = at-negation h e in rw (i, h .tree .is, b .is, b .left .is)
 
-    pub connective-truth : {f g : Bool} → node .formula ≡ claim.Connective → f ≡ truth (node .a) → g ≡ truth (node .b)
-        → connectiveBy (node .kind) (f, g) ≡ truth v
+    pub connective-truth : {f g r : Bool} → node .formula ≡ claim.Connective → f ≡ truth (node .a) → g ≡ truth (node .b)
+        → ((o : Connective) → symbolOf (node .kind) ≡ connective-symbol o → r ≡ truthConnective o f g) → r ≡ truth v
     unfolding truthInTree valueOf
-    connective-truth p i j =
-        let b = at-connective h p in
-        rw (i, j, h .tree .is, b .is, b .left .is, b .right .is) (connective-of (node .kind) (b .it) _ _ (b .symbol))
+    connective-truth e i j k =
+        let b = at-connective h e in
+        rw (h .tree .is, b .is) (rw (i, j, b .left .is, b .right .is) at (k (b .it) (b .symbol)))
 
-    pub quantifier-truth : node .formula ≡ claim.Quantifier
-        → quantifierBy (node .kind) (truths sheet instance env (node .a) (treeAt sheet (node .b))) ≡ truth v
+    pub quantifier-truth : {p : Value} {r : Bool} → node .formula ≡ claim.Quantifier
+        → Gives p (bodiesOf sheet instance env (treeAt sheet (node .b)) (node .a))
+        → ((o : Quantifier) → symbolOf (node .kind) ≡ quantifier-symbol o → r ≡ truthQuantifier o (matrixOf p .cells)) → r ≡ truth v
     unfolding truthInTree valueOf
-    quantifier-truth p = let b = at-quantifier h p in rw (h .tree .is, b .is, b .body .is) (quantifier-of (node .kind) (b .it) _ (b .symbol))
+    quantifier-truth e i g =
+        let b = at-quantifier h e in
+        rw (h .tree .is, b .is)
+        (rw (b .body .is) at (g (b .it) (b .symbol) ∙ ap (λ (m : Matrix Bool). truthQuantifier (b .it) (m .cells)) (i .is)))
 
 -- the walk of the root starts with atom 0 for each variable
 pub root-truth : (sheet : Sheet) (instance : List ℕ) (t : Tree)

@@ -2,19 +2,20 @@
 use mathlib.Core.Path.{_≡_, refl, sym, ap, _∙_}
 use mathlib.Core.Bool.{Bool, true, false, _&&_, _||_}
 use mathlib.Core.List.{List, [], _∷_, _++_, map}
-use Prim.Native.Nat.{ℕ, suc, _+_, _≤_, _<_}
+use Prim.Native.Nat.{ℕ, zero, suc, _+_, _≤_, _<_}
 use native.Mathlib.Numerals.{add-one}
 use native.Mathlib.Omega.{arith}
+use lib.Dec.{eqb, eqb·suc-suc}
 use lib.ListN.{length, getD, take}
 use lib.Seq.{take-suc}
+use borrow.Author.Tests.{ne-eqb}
 use Rattle.prelude.specs.Tests.{all, any}
 use Rattle.prelude.proofs.Laws.{all-append, any-append}
 use Rattle.relational.specs.Matrices.{upto}
-use Rattle.relational.specs.Evaluation.{count}
-use Rattle.relational.proofs.Places.{from-suc, upto-suc}
-use Rattle.instance_matrix.specs.Values.{counted, flagsFrom}
-use Rattle.sheet_rules.specs.Blocks.{byte}
-use lib.Dec.{eqb}
+use Rattle.sheet_rules.specs.Blocks.{Sheet}
+use Rattle.relational.specs.Evaluation.{count, rowHolds}
+use Rattle.relational.proofs.Places.{upto-suc}
+use Rattle.instance_matrix.specs.Values.{counted}
 
 or-last : (a b : Bool) → (a || (b || false)) ≡ (a || b)
 or-last true b = refl
@@ -35,14 +36,16 @@ unfolding all
 all-none p = refl
 
 module _ {A : Type 0} (p : A → Bool) (f : ℕ → A) where
-  pub any-more : (k : ℕ) (found more : Bool) → found ≡ any p (map f (upto k)) → more ≡ (found || p (f k)) → more ≡ any p (map f (upto (k + 1)))
+  pub any-more : (k : ℕ) (found more : Bool) → found ≡ any p (map f (upto k)) → more ≡ (found || p (f k))
+      → more ≡ any p (map f (upto (k + 1)))
   unfolding any
   any-more k found more e h =
       let step : map f (upto (k + 1)) ≡ map f (upto k) ++ (f k ∷ []) = rw add-one (upto-suc f k) in
       h ∙ ap (λ (b : Bool). b || p (f k)) e ∙ sym (or-last (any p (map f (upto k))) (p (f k)))
       ∙ sym (any-append p (map f (upto k)) (f k ∷ [])) ∙ ap (any p) (sym step)
 
-  pub all-more : (k : ℕ) (fine more : Bool) → fine ≡ all p (map f (upto k)) → more ≡ (fine && p (f k)) → more ≡ all p (map f (upto (k + 1)))
+  pub all-more : (k : ℕ) (fine more : Bool) → fine ≡ all p (map f (upto k)) → more ≡ (fine && p (f k))
+      → more ≡ all p (map f (upto (k + 1)))
   unfolding all
   all-more k fine more e h =
       let step : map f (upto (k + 1)) ≡ map f (upto k) ++ (f k ∷ []) = rw add-one (upto-suc f k) in
@@ -68,10 +71,20 @@ count-take xs k total more l e h =
     h ∙ ap (λ (n : ℕ). counted n (getD xs k false)) e ∙ sym (count-last (take k xs) (getD xs k false))
     ∙ ap count (sym step)
 
-pub count-from : (instance : List ℕ) (first k total more : ℕ) → total ≡ count (flagsFrom instance first k)
-    → more ≡ counted total (eqb (byte instance (first + k)) 1) → more ≡ count (flagsFrom instance first (k + 1))
-count-from instance first k total more e h =
-    let flag : ℕ → Bool = λ i. eqb (byte instance i) 1 in
-    let step : flagsFrom instance first (k + 1) ≡ flagsFrom instance first k ++ (flag (first + k) ∷ []) = rw add-one (from-suc flag first k) in
-    h ∙ ap (λ (n : ℕ). counted n (flag (first + k))) e ∙ sym (count-last (flagsFrom instance first k) (flag (first + k)))
-    ∙ ap count (sym step)
+count-few : (xs : List Bool) → count xs ≤ length xs
+count-few [] = omega arith
+count-few (true ∷ xs) = omega (arith, count-few xs)
+count-few (false ∷ xs) = omega (arith, count-few xs)
+
+pub count-all : (xs : List Bool) → eqb (count xs) (length xs) ≡ all (λ (b : Bool). b) xs
+unfolding all
+count-all [] = refl
+count-all (true ∷ xs) = eqb·suc-suc (count xs) (length xs) ∙ count-all xs
+count-all (false ∷ xs) = ne-eqb (count xs) (suc (length xs)) (λ e. omega (arith, count-few xs))
+
+-- a mark that is neither 0 nor 1
+pub exact-row : (sheet : Sheet) (instance : List ℕ) (mark : ℕ) (cells : List Bool) → (mark ≡ 0 → ⊥) → (mark ≡ 1 → ⊥)
+    → rowHolds sheet instance mark cells ≡ eqb (count cells) 1
+exact-row sheet instance zero cells h g = absurd (h refl)
+exact-row sheet instance (suc zero) cells h g = absurd (g refl)
+exact-row sheet instance (suc (suc m)) cells h g = refl

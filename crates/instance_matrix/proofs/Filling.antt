@@ -34,7 +34,8 @@ none-set (suc n) (suc j) = none-set n j
 pub filled-none : (f : ℕ → Bool) → Filled (replicate 64 false) f 0
 filled-none f = record { long = length-replicate 64 false; done = λ j h. absurd (omega arith); rest = λ j h. none-set 64 j }
 
-pub filled-more : (cells : List Bool) (f : ℕ → Bool) (k : ℕ) (b : Bool) → Filled cells f k → k < 64 → b ≡ f k → Filled (set cells k b) f (k + 1)
+pub filled-more : (cells : List Bool) (f : ℕ → Bool) (k : ℕ) (b : Bool) → Filled cells f k → k < 64 → b ≡ f k
+    → Filled (set cells k b) f (k + 1)
 filled-more cells f k b u h e =
     let l : k < length cells = omega (arith, u .long) in
     record {
@@ -101,3 +102,8 @@ module _ (v : Value) (f : Fine v) where
 
   pub cells-of : _≡_ {A = ℕ → Bool} (λ k. cellAt false (matrixOf v) k) (λ k. getD (v .cells) k false)
   cells-of = fun-ext cell-of
+
+  pub cells-counted : length (matrixOf v .cells) ≡ v .rows * v .columns
+  cells-counted =
+      length-take-le (v .rows * v .columns) (v .cells)
+      (omega (arith, f .long, small-product (v .rows) (v .columns) (f .few-rows) (f .few-columns)))

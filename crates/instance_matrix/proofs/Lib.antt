@@ -2,4 +2,3 @@ pub mod Filling
 pub mod Results
 pub mod Counting
 mod Arities
-pub mod Symbols

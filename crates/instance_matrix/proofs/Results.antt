@@ -15,8 +15,8 @@ use Rattle.relational.specs.Matrices.{Matrix, upto, Place, places, setOf, relat
 use Rattle.relational.specs.Evaluation.{both, joinCells, valueBinary, valueUnary}
 use Rattle.relational.proofs.Places.{map-map, length-map-from, from-at}
 use Rattle.instance_matrix.specs.declared.Value.{Value}
-use Rattle.instance_matrix.specs.Values.{matrixOf, sized, flagsFrom, SetOrRelation, Fine, Gives}
-use Rattle.instance_matrix.specs.Numbers.{combined}
+use Rattle.instance_matrix.specs.declared.flags.Pairing.{Pairing}
+use Rattle.instance_matrix.specs.Values.{matrixOf, sized, flagsFrom, SetOrRelation, Fine, Gives, paired}
 use Rattle.instance_matrix.proofs.Filling.{small-product, Filled, filled-list, filled-upto, filled-places, cells-of}
 
 abbrev pub value : ℕ → ℕ → ℕ → List Bool → Value
@@ -27,7 +27,8 @@ gives-as v m n e g = record { fine = g .fine; is = g .is ∙ e }
 
 -- ---- any matrix, and a set of n
 pub gives : (arity rows columns : ℕ) (cells : List Bool) (f : ℕ → Bool) (l : List Bool) → rows ≤ 8 → columns ≤ 8 → SetOrRelation arity rows
-    → Filled cells f (rows * columns) → take (rows * columns) cells ≡ l → Gives (value arity rows columns cells) (sized arity rows columns l)
+    → Filled cells f (rows * columns) → take (rows * columns) cells ≡ l
+    → Gives (value arity rows columns cells) (sized arity rows columns l)
 gives arity rows columns cells f l hr hc s u e =
     record {
       fine = record { few-rows = hr; few-columns = hc; set-or-relation = s; long = u .long; rest = u .rest };
@@ -75,7 +76,8 @@ module _ (p q : Value) (fp : Fine p) (fq : Fine q) where
 
   pub middle-cells : (i j : ℕ) → middles false (matrixOf p) (matrixOf q) (i, j)
       ≡ map {B = Bool × Bool}
-      (λ (k : ℕ). (getD (p .cells) (i * p .columns + k) false, getD (q .cells) (k * joinColumns (matrixOf q) + j) false)) (upto (p .columns))
+      (λ (k : ℕ). (getD (p .cells) (i * p .columns + k) false, getD (q .cells) (k * joinColumns (matrixOf q) + j) false))
+      (upto (p .columns))
   middle-cells i j =
       ap₂
       (λ (x y : ℕ → Bool).
@@ -83,24 +85,25 @@ module _ (p q : Value) (fp : Fine p) (fq : Fine q) where
       (cells-of p fp) (cells-of q fq)
 
   crossed-cells : crossed false (matrixOf p) (matrixOf q)
-      ≡ map {B = Bool × Bool} (λ (t : Place). (getD (p .cells) (t .0) false, getD (q .cells) (t .1) false)) (places (p .columns) (q .columns))
+      ≡ map {B = Bool × Bool} (λ (t : Place). (getD (p .cells) (t .0) false, getD (q .cells) (t .1) false))
+      (places (p .columns) (q .columns))
   crossed-cells =
-      ap₂ (λ (x y : ℕ → Bool). map {B = Bool × Bool} (λ (t : Place). (x (t .0), y (t .1))) (places (p .columns) (q .columns))) (cells-of p fp)
-      (cells-of q fq)
+      ap₂ (λ (x y : ℕ → Bool). map {B = Bool × Bool} (λ (t : Place). (x (t .0), y (t .1))) (places (p .columns) (q .columns)))
+      (cells-of p fp) (cells-of q fq)
 
-  pub combine-law : (kind : ℕ) (cells : List Bool) (k : ℕ) → k ≡ p .rows * p .columns
-      → Filled cells (λ j. combined kind (getD (p .cells) j false, getD (q .cells) j false)) k
+  pub matched-law : (pairing : Pairing) (cells : List Bool) (k : ℕ) → k ≡ p .rows * p .columns
+      → Filled cells (λ j. paired pairing (getD (p .cells) j false, getD (q .cells) j false)) k
       → Gives (value (p .arity) (p .rows) (p .columns) cells)
-      (sameSize (matrixOf p) (map (combined kind) (matched false (matrixOf p) (matrixOf q))))
-  combine-law kind cells k e u =
+      (sameSize (matrixOf p) (map (paired pairing) (matched false (matrixOf p) (matrixOf q))))
+  matched-law pairing cells k e u =
       let n : ℕ = p .rows * p .columns in
       let pair : ℕ → Bool × Bool = λ j. (getD (p .cells) j false, getD (q .cells) j false) in
-      let f : ℕ → Bool = λ j. combined kind (pair j) in
+      let f : ℕ → Bool = λ j. paired pairing (pair j) in
       let w : Filled cells f n = subst (λ (m : ℕ). Filled cells f m) e u in
-      gives (p .arity) (p .rows) (p .columns) cells f (map (combined kind) (matched false (matrixOf p) (matrixOf q))) (fp .few-rows)
+      gives (p .arity) (p .rows) (p .columns) cells f (map (paired pairing) (matched false (matrixOf p) (matrixOf q))) (fp .few-rows)
       (fp .few-columns) (fp .set-or-relation) w
       (filled-upto cells f n w (small-product (p .rows) (p .columns) (fp .few-rows) (fp .few-columns)) f (λ j l. refl)
-      ∙ sym (map-map (combined kind) pair (upto n)) ∙ ap (map (combined kind)) (sym matched-cells))
+      ∙ sym (map-map (paired pairing) pair (upto n)) ∙ ap (map (paired pairing)) (sym matched-cells))
 
   pub product-law : (cells : List Bool) (k : ℕ) → k ≡ p .columns * q .columns
       → Filled cells (λ j. both (getD (p .cells) (j / q .columns) false, getD (q .cells) (j % q .columns) false)) k

@@ -9,7 +9,10 @@ use lib.Dec.{eqb}
 use lib.ListN.{length, getD, take}
 use Rattle.sheet_rules.specs.Blocks.{byte}
 use Rattle.relational.specs.Matrices.{Matrix, from}
+use Rattle.relational.specs.Evaluation.{either, both, without, implies, same}
 use Rattle.instance_matrix.specs.declared.Value.{Value}
+use Rattle.instance_matrix.specs.declared.flags.Pairing.{Pairing}
+use Rattle.instance_matrix.specs.declared.flags.Pairing.the-variants.{Either, Both, Without, Implies, Same}
 
 -- the first rows * columns cells are the matrix
 abbrev pub matrixOf : Value → Matrix Bool
@@ -43,3 +46,11 @@ pub record Gives (v : Value) (m : Matrix Bool) : Type 0 where
 abbrev pub counted : ℕ → Bool → ℕ
 counted n true = suc n
 counted n false = n
+
+-- what two flags make
+abbrev pub paired : Pairing → Bool × Bool → Bool
+paired Either = either
+paired Both = both
+paired Without = without
+paired Implies = implies
+paired Same = same

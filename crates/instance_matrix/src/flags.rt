@@ -1,67 +1,40 @@
-// Operators on two flags: cell by cell, and of the truths of two formulas.
+// Two flags: cells at the same place, and the truths of two formulas.
 ghost use mathlib.Core.Path.{_≡_};
-ghost use Rattle.relational.specs.Evaluation as spec;
-ghost use Rattle.instance_matrix.specs.Numbers as numbers;
+ghost use Rattle.relational.specs.Trees.{Connective, connective-symbol, symbolOf};
+ghost use Rattle.relational.specs.Evaluation.{truthConnective};
+ghost use Rattle.instance_matrix.specs.Values.{paired};
+use prelude::both;
+use prelude::either;
 
-pub fn both(a: bool, b: bool) -> bool
-    ensures { λ r. ⌜ r ≡ spec.both (a, b) ⌝ }
-{
-    if a { b } else { false }
+// What two flags make.
+pub enum Pairing {
+    Either,
+    Both,
+    Without,
+    Implies,
+    Same,
 }
 
-pub fn either(a: bool, b: bool) -> bool
-    ensures { λ r. ⌜ r ≡ spec.either (a, b) ⌝ }
+pub(crate) fn pair(pairing: Pairing, a: bool, b: bool) -> bool
+    ensures { λ r. ⌜ r ≡ paired pairing (a, b) ⌝ }
 {
-    if a { true } else { b }
-}
-
-fn without(a: bool, b: bool) -> bool
-    ensures { λ r. ⌜ r ≡ spec.without (a, b) ⌝ }
-{
-    both(a, !b)
-}
-
-fn implies(a: bool, b: bool) -> bool
-    ensures { λ r. ⌜ r ≡ spec.implies (a, b) ⌝ }
-{
-    either(!a, b)
-}
-
-fn same(a: bool, b: bool) -> bool
-    ensures { λ r. ⌜ r ≡ spec.same (a, b) ⌝ }
-{
-    both(implies(a, b), implies(b, a))
-}
-
-// Kinds 5 to 7: union, intersection, difference.
-pub(crate) fn combined(kind: usize, a: bool, b: bool) -> bool
-    ensures { λ r. ⌜ r ≡ numbers.combined kind (a, b) ⌝ }
-{
-    match kind {
-        5 => either(a, b),
-        6 => both(a, b),
-        _ => without(a, b),
-    }
-}
-
-// Kinds 20 and 21: equal, within.
-pub(crate) fn compared(kind: usize, a: bool, b: bool) -> bool
-    ensures { λ r. ⌜ r ≡ numbers.compared kind (a, b) ⌝ }
-{
-    match kind {
-        20 => same(a, b),
-        _ => implies(a, b),
+    match pairing {
+        Pairing::Either => either(a, b),
+        Pairing::Both => both(a, b),
+        Pairing::Without => both(a, !b),
+        Pairing::Implies => either(!a, b),
+        Pairing::Same => both(either(!a, b), either(!b, a)),
     }
 }
 
 // Kinds 31 to 34: and, or, implies, iff.
 pub fn connect(kind: usize, a: bool, b: bool) -> bool
-    ensures { λ r. ⌜ r ≡ numbers.connectiveBy kind (a, b) ⌝ }
+    ensures { λ r. ⌜ ((o : Connective) → symbolOf kind ≡ connective-symbol o → r ≡ truthConnective o a b) ⌝ }
 {
     match kind {
-        31 => both(a, b),
-        32 => either(a, b),
-        33 => implies(a, b),
-        _ => same(a, b),
+        31 => pair(Pairing::Both, a, b),
+        32 => pair(Pairing::Either, a, b),
+        33 => pair(Pairing::Implies, a, b),
+        _ => pair(Pairing::Same, a, b),
     }
 }

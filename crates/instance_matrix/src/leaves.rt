@@ -9,7 +9,7 @@ use super::Value;
 use super::size;
 use sheet::bytes::byte;
 
-// The cells of a relation, from its first on: the bytes that are 1.
+// The cells of a relation, or of a row of one, from the first on: the bytes that are 1.
 pub fn given(instance: &[u8], first: usize, arity: usize, rows: usize, columns: usize) -> Value
     requires { ⌜ (first ≤ 1024) × ((rows ≤ 8) × (columns ≤ 8)) ⌝ }
     requires { ⌜ SetOrRelation arity rows ⌝ }

@@ -5,7 +5,7 @@ ghost use Prim.Native.Nat.{_+_, _*_, _<_, _≤_};
 pub mod flags; // flags.rt: two flags
 pub mod leaves; // leaves.rt: relations, variables, sorts, identities
 pub mod operators; // operators.rt: union to closure
-pub mod truths; // truths.rt: comparisons, tests, multiplicities
+pub mod truths; // truths.rt: comparisons, tests, quantifiers, multiplicities
 
 // A set is a single row of arity 1, a relation has arity 2; scopes are at most 8.
 pub struct Value {

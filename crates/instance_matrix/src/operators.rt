@@ -5,28 +5,31 @@ ghost use mathlib.Core.List.{map};
 ghost use Prim.Native.Nat.{_<_, _≤_};
 ghost use Rattle.prelude.specs.Tests.{any};
 ghost use Rattle.relational.specs.Trees as trees;
+ghost use Rattle.relational.specs.Trees.{Binary, Unary, binary-symbol, unary-symbol, symbolOf};
 ghost use Rattle.relational.specs.Matrices as matrices;
 ghost use Rattle.relational.specs.Evaluation as spec;
-ghost use Rattle.instance_matrix.specs.Values.{matrixOf, Fine, Gives};
-ghost use Rattle.instance_matrix.specs.Numbers as numbers;
+ghost use Rattle.instance_matrix.specs.Values.{matrixOf, Fine, Gives, paired};
 use super::Value;
-use super::flags::both;
-use super::flags::combined;
-use super::flags::either;
+use super::flags::Pairing;
+use super::flags::pair;
 use super::index;
 use super::size;
+use nodes::sizes::join_columns;
+use nodes::sizes::rounds;
+use prelude::both;
+use prelude::either;
 
-// Kinds 5 to 7, cell by cell.
-fn combine(kind: usize, p: Value, q: Value) -> Value
+// The cells at the same place, pair by pair.
+fn matched(pairing: Pairing, p: Value, q: Value) -> Value
     requires { ⌜ Fine p ⌝ }
     requires { ⌜ Fine q ⌝ }
-    ensures { λ r. ⌜ Gives r (matrices.sameSize (matrixOf p) (map (numbers.combined kind) (matrices.matched false (matrixOf p) (matrixOf q)))) ⌝ }
+    ensures { λ r. ⌜ Gives r (matrices.sameSize (matrixOf p) (map (paired pairing) (matrices.matched false (matrixOf p) (matrixOf q)))) ⌝ }
 {
     let n = size(p.rows, p.columns);
     let mut cells = [false; 64];
     let mut k: usize = 0;
     while k < n {
-        cells[k] = combined(kind, p.cells[k], q.cells[k]);
+        cells[k] = pair(pairing, p.cells[k], q.cells[k]);
         k += 1;
     }
     Value {
@@ -35,14 +38,6 @@ fn combine(kind: usize, p: Value, q: Value) -> Value
         columns: p.columns,
         cells,
     }
-}
-
-// How many columns the right operand of a join has: a set on the right is a column.
-fn join_columns(q: Value) -> usize
-    requires { ⌜ Fine q ⌝ }
-    ensures { λ r. ⌜ (r ≡ matrices.joinColumns (matrixOf q)) × (r ≤ 8) ⌝ }
-{
-    if q.arity == 1 { 1 } else { q.columns }
 }
 
 // "join OR over the middle atoms of AND": row i of p with column j of q.
@@ -69,7 +64,7 @@ fn join(p: Value, q: Value) -> Value
     requires { ⌜ Fine q ⌝ }
     ensures { λ r. ⌜ Gives r (spec.valueBinary trees.join (matrixOf p) (matrixOf q)) ⌝ }
 {
-    let columns = join_columns(q);
+    let columns = join_columns(q.arity, q.columns);
     let n = size(p.rows, columns);
     let mut cells = [false; 64];
     let mut k: usize = 0;
@@ -137,26 +132,12 @@ fn inverse(p: Value) -> Value
     }
 }
 
-// "as many rounds as the least k with 2^k at least n"
-fn rounds(n: usize) -> usize
-    requires { ⌜ n ≤ 8 ⌝ }
-    ensures { λ r. ⌜ r ≡ matrices.rounds n ⌝ }
-{
-    let mut power: usize = 1;
-    let mut k: usize = 0;
-    while power < n {
-        power = 2 * power;
-        k += 1;
-    }
-    k
-}
-
 // "A round works out the whole join of the matrix with itself, then OR of the old and new cell."
 fn round(p: Value) -> Value
     requires { ⌜ Fine p ⌝ }
     ensures { λ r. ⌜ Gives r (spec.roundOf (matrixOf p)) ⌝ }
 {
-    combine(5, p, join(p, p))
+    matched(Pairing::Either, p, join(p, p))
 }
 
 // Kind 11.
@@ -174,23 +155,25 @@ fn closure(p: Value) -> Value
     closed
 }
 
-// Kinds 5 to 9.
+// Kinds 5 to 9: union, intersection, difference, join, product.
 pub fn binary(kind: usize, p: Value, q: Value) -> Value
     requires { ⌜ Fine p ⌝ }
     requires { ⌜ Fine q ⌝ }
-    ensures { λ r. ⌜ Gives r (numbers.binaryBy kind (matrixOf p) (matrixOf q)) ⌝ }
+    ensures { λ r. ⌜ ((o : Binary) → symbolOf kind ≡ binary-symbol o → Gives r (spec.valueBinary o (matrixOf p) (matrixOf q))) ⌝ }
 {
     match kind {
+        5 => matched(Pairing::Either, p, q),
+        6 => matched(Pairing::Both, p, q),
+        7 => matched(Pairing::Without, p, q),
         8 => join(p, q),
-        9 => product(p, q),
-        _ => combine(kind, p, q),
+        _ => product(p, q),
     }
 }
 
-// Kinds 10 and 11.
+// Kinds 10 and 11: inverse, closure.
 pub fn unary(kind: usize, p: Value) -> Value
     requires { ⌜ Fine p ⌝ }
-    ensures { λ r. ⌜ Gives r (numbers.unaryBy kind (matrixOf p)) ⌝ }
+    ensures { λ r. ⌜ ((o : Unary) → symbolOf kind ≡ unary-symbol o → Gives r (spec.valueUnary o (matrixOf p))) ⌝ }
 {
     match kind {
         10 => inverse(p),

@@ -1,29 +1,46 @@
-// Comparisons and tests of matrices, and the multiplicity of a row.
+// Truths of matrices: comparisons, tests, quantifiers, and the multiplicity of a row.
 ghost use mathlib.Core.Path.{_≡_};
-ghost use Prim.Native.Nat.{_<_, _≤_};
+ghost use mathlib.Core.Bool.{false};
+ghost use mathlib.Core.List.{List};
+ghost use Prim.Native.Nat.{ℕ, _<_};
+ghost use Rattle.prelude.specs.Tests.{all};
+ghost use Rattle.sheet_rules.specs.Blocks.{Sheet};
+ghost use Rattle.relational.specs.Trees.{Comparison, Test, Quantifier, comparison-symbol, test-symbol, quantifier-symbol, symbolOf};
+ghost use Rattle.relational.specs.Matrices as matrices;
 ghost use Rattle.relational.specs.Evaluation as spec;
-ghost use Rattle.instance_matrix.specs.Values.{matrixOf, Fine, counted, flagsFrom};
-ghost use Rattle.instance_matrix.specs.Numbers as numbers;
+ghost use Rattle.instance_matrix.specs.Values.{matrixOf, Fine, counted, paired};
 use super::Value;
-use super::flags::both;
-use super::flags::compared;
+use super::flags::Pairing;
+use super::flags::pair;
 use super::size;
-use sheet::bytes::byte;
+use prelude::both;
 
-// Kinds 20 and 21.
-pub fn compare(kind: usize, p: Value, q: Value) -> bool
+// Whether each pair of cells at the same place makes true.
+fn all_matched(pairing: Pairing, p: Value, q: Value) -> bool
     requires { ⌜ Fine p ⌝ }
     requires { ⌜ Fine q ⌝ }
-    ensures { λ r. ⌜ r ≡ numbers.comparisonBy kind (matrixOf p) (matrixOf q) ⌝ }
+    ensures { λ r. ⌜ r ≡ all (paired pairing) (matrices.matched false (matrixOf p) (matrixOf q)) ⌝ }
 {
     let n = size(p.rows, p.columns);
     let mut fine = true;
     let mut k: usize = 0;
     while k < n {
-        fine = both(fine, compared(kind, p.cells[k], q.cells[k]));
+        fine = both(fine, pair(pairing, p.cells[k], q.cells[k]));
         k += 1;
     }
     fine
+}
+
+// Kinds 20 and 21: equal, within.
+pub fn compare(kind: usize, p: Value, q: Value) -> bool
+    requires { ⌜ Fine p ⌝ }
+    requires { ⌜ Fine q ⌝ }
+    ensures { λ r. ⌜ ((o : Comparison) → symbolOf kind ≡ comparison-symbol o → r ≡ spec.truthComparison o (matrixOf p) (matrixOf q)) ⌝ }
+{
+    match kind {
+        20 => all_matched(Pairing::Same, p, q),
+        _ => all_matched(Pairing::Implies, p, q),
+    }
 }
 
 // One more flag.
@@ -52,7 +69,7 @@ fn count(p: Value) -> usize
 // Kinds 22 to 24: some, none, at most one.
 pub fn test(kind: usize, p: Value) -> bool
     requires { ⌜ Fine p ⌝ }
-    ensures { λ r. ⌜ r ≡ numbers.testBy kind (spec.count (matrixOf p .cells)) ⌝ }
+    ensures { λ r. ⌜ ((o : Test) → symbolOf kind ≡ test-symbol o → r ≡ spec.truthTest o (matrixOf p .cells)) ⌝ }
 {
     let n = count(p);
     match kind {
@@ -62,26 +79,24 @@ pub fn test(kind: usize, p: Value) -> bool
     }
 }
 
-// How many values a row of an instance has.
-fn row_count(instance: &[u8], first: usize, columns: usize) -> usize
-    requires { ⌜ (first ≤ 1024) × (columns ≤ 8) ⌝ }
-    ensures { λ r. ⌜ r ≡ spec.count (flagsFrom (now (instance .entry)) first columns) ⌝ }
+// Kinds 40 and 41, over the truths of the bodies: for all, for some.
+pub fn quantify(kind: usize, p: Value) -> bool
+    requires { ⌜ Fine p ⌝ }
+    ensures { λ r. ⌜ ((o : Quantifier) → symbolOf kind ≡ quantifier-symbol o → r ≡ spec.truthQuantifier o (matrixOf p .cells)) ⌝ }
 {
-    let mut total: usize = 0;
-    let mut k: usize = 0;
-    while k < columns {
-        total = add_flag(total, byte(instance, first + k) == 1);
-        k += 1;
+    let n = count(p);
+    match kind {
+        40 => n == size(p.rows, p.columns),
+        _ => 1 <= n,
     }
-    total
 }
 
 // "Mark 0 is free, 1 at most one value, 2 exactly one."
-pub fn row_holds(instance: &[u8], mark: usize, first: usize, columns: usize) -> bool
-    requires { ⌜ (first ≤ 1024) × (columns ≤ 8) ⌝ }
-    ensures { λ r. ⌜ r ≡ numbers.rowBy mark (spec.count (flagsFrom (now (instance .entry)) first columns)) ⌝ }
+pub fn row_holds(mark: usize, p: Value) -> bool
+    requires { ⌜ Fine p ⌝ }
+    ensures { λ r. ⌜ ((sheet : Sheet) (instance : List ℕ) → r ≡ spec.rowHolds sheet instance mark (matrixOf p .cells)) ⌝ }
 {
-    let n = row_count(instance, first, columns);
+    let n = count(p);
     match mark {
         0 => true,
         1 => n <= 1,

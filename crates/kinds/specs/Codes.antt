@@ -7,7 +7,8 @@ use Rattle.kinds.specs.declared.Codes.{Codes}
 use Rattle.kinds.specs.declared.Field.{Field}
 use Rattle.kinds.specs.declared.Field.the-variants.{Unused, Node, Relation, Variable, Sort}
 use Rattle.kinds.specs.declared.Rule.{Rule}
-use Rattle.kinds.specs.declared.Rule.the-variants.{Unknown, OfRelation, OfVariable, OfSort, OfIdentity, Same, Join, Product, Inverse, Closure, Comprehension, Comparison, Test, Negation, Connective, Quantifier}
+use Rattle.kinds.specs.declared.Rule.the-variants.{Unknown, OfRelation, OfVariable, OfSort, OfIdentity, Same, Join, Product, Inverse}
+use Rattle.kinds.specs.declared.Rule.the-variants.{Closure, Comprehension, Comparison, Test, Negation, Connective, Quantifier}
 
 abbrev pub namedFields : List Field
 namedFields = Node ∷ Relation ∷ Variable ∷ Sort ∷ []

@@ -6,7 +6,8 @@ use lib.Dec.{eqb}
 use Rattle.kinds.specs.declared.Field.{Field}
 use Rattle.kinds.specs.declared.Field.the-variants.{Unused, Node, Relation, Variable, Sort}
 use Rattle.kinds.specs.declared.Rule.{Rule}
-use Rattle.kinds.specs.declared.Rule.the-variants.{Unknown, OfRelation, OfVariable, OfSort, OfIdentity, Same, Join, Product, Inverse, Closure, Comprehension, Comparison, Test, Negation, Connective, Quantifier}
+use Rattle.kinds.specs.declared.Rule.the-variants.{Unknown, OfRelation, OfVariable, OfSort, OfIdentity, Same, Join, Product, Inverse}
+use Rattle.kinds.specs.declared.Rule.the-variants.{Closure, Comprehension, Comparison, Test, Negation, Connective, Quantifier}
 use Rattle.kinds.specs.declared.Row.{Row}
 
 abbrev pub row : Field → Field → Rule → Row

@@ -85,59 +85,60 @@ const CONNECTIVE: u8 = 14;
 
 const QUANTIFIER: u8 = 15;
 
+// The row of each number.
 const KINDS: [Codes; 42] = [
-    Codes(UNUSED, UNUSED, UNKNOWN),
-    Codes(RELATION, UNUSED, OF_RELATION),
-    Codes(VARIABLE, UNUSED, OF_VARIABLE),
-    Codes(SORT, UNUSED, OF_SORT),
-    Codes(SORT, UNUSED, OF_IDENTITY),
-    Codes(NODE, NODE, SAME),
-    Codes(NODE, NODE, SAME),
-    Codes(NODE, NODE, SAME),
-    Codes(NODE, NODE, JOIN),
-    Codes(NODE, NODE, PRODUCT),
-    Codes(NODE, UNUSED, INVERSE),
-    Codes(NODE, UNUSED, CLOSURE),
-    Codes(VARIABLE, NODE, COMPREHENSION),
-    Codes(UNUSED, UNUSED, UNKNOWN),
-    Codes(UNUSED, UNUSED, UNKNOWN),
-    Codes(UNUSED, UNUSED, UNKNOWN),
-    Codes(UNUSED, UNUSED, UNKNOWN),
-    Codes(UNUSED, UNUSED, UNKNOWN),
-    Codes(UNUSED, UNUSED, UNKNOWN),
-    Codes(UNUSED, UNUSED, UNKNOWN),
-    Codes(NODE, NODE, COMPARISON),
-    Codes(NODE, NODE, COMPARISON),
-    Codes(NODE, UNUSED, TEST),
-    Codes(NODE, UNUSED, TEST),
-    Codes(NODE, UNUSED, TEST),
-    Codes(UNUSED, UNUSED, UNKNOWN),
-    Codes(UNUSED, UNUSED, UNKNOWN),
-    Codes(UNUSED, UNUSED, UNKNOWN),
-    Codes(UNUSED, UNUSED, UNKNOWN),
-    Codes(UNUSED, UNUSED, UNKNOWN),
-    Codes(NODE, UNUSED, NEGATION),
-    Codes(NODE, NODE, CONNECTIVE),
-    Codes(NODE, NODE, CONNECTIVE),
-    Codes(NODE, NODE, CONNECTIVE),
-    Codes(NODE, NODE, CONNECTIVE),
-    Codes(UNUSED, UNUSED, UNKNOWN),
-    Codes(UNUSED, UNUSED, UNKNOWN),
-    Codes(UNUSED, UNUSED, UNKNOWN),
-    Codes(UNUSED, UNUSED, UNKNOWN),
-    Codes(UNUSED, UNUSED, UNKNOWN),
-    Codes(VARIABLE, NODE, QUANTIFIER),
-    Codes(VARIABLE, NODE, QUANTIFIER),
+    Codes(UNUSED, UNUSED, UNKNOWN), // 0
+    Codes(RELATION, UNUSED, OF_RELATION), // 1: relation
+    Codes(VARIABLE, UNUSED, OF_VARIABLE), // 2: variable
+    Codes(SORT, UNUSED, OF_SORT), // 3: all atoms of a sort
+    Codes(SORT, UNUSED, OF_IDENTITY), // 4: identity
+    Codes(NODE, NODE, SAME), // 5: union
+    Codes(NODE, NODE, SAME), // 6: intersection
+    Codes(NODE, NODE, SAME), // 7: difference
+    Codes(NODE, NODE, JOIN), // 8: join
+    Codes(NODE, NODE, PRODUCT), // 9: product
+    Codes(NODE, UNUSED, INVERSE), // 10: inverse
+    Codes(NODE, UNUSED, CLOSURE), // 11: closure
+    Codes(VARIABLE, NODE, COMPREHENSION), // 12: comprehension
+    Codes(UNUSED, UNUSED, UNKNOWN), // 13
+    Codes(UNUSED, UNUSED, UNKNOWN), // 14
+    Codes(UNUSED, UNUSED, UNKNOWN), // 15
+    Codes(UNUSED, UNUSED, UNKNOWN), // 16
+    Codes(UNUSED, UNUSED, UNKNOWN), // 17
+    Codes(UNUSED, UNUSED, UNKNOWN), // 18
+    Codes(UNUSED, UNUSED, UNKNOWN), // 19
+    Codes(NODE, NODE, COMPARISON), // 20: equal
+    Codes(NODE, NODE, COMPARISON), // 21: within
+    Codes(NODE, UNUSED, TEST), // 22: some
+    Codes(NODE, UNUSED, TEST), // 23: none
+    Codes(NODE, UNUSED, TEST), // 24: lone
+    Codes(UNUSED, UNUSED, UNKNOWN), // 25
+    Codes(UNUSED, UNUSED, UNKNOWN), // 26
+    Codes(UNUSED, UNUSED, UNKNOWN), // 27
+    Codes(UNUSED, UNUSED, UNKNOWN), // 28
+    Codes(UNUSED, UNUSED, UNKNOWN), // 29
+    Codes(NODE, UNUSED, NEGATION), // 30: not
+    Codes(NODE, NODE, CONNECTIVE), // 31: and
+    Codes(NODE, NODE, CONNECTIVE), // 32: or
+    Codes(NODE, NODE, CONNECTIVE), // 33: implies
+    Codes(NODE, NODE, CONNECTIVE), // 34: equivalent
+    Codes(UNUSED, UNUSED, UNKNOWN), // 35
+    Codes(UNUSED, UNUSED, UNKNOWN), // 36
+    Codes(UNUSED, UNUSED, UNKNOWN), // 37
+    Codes(UNUSED, UNUSED, UNKNOWN), // 38
+    Codes(UNUSED, UNUSED, UNKNOWN), // 39
+    Codes(VARIABLE, NODE, QUANTIFIER), // 40: for all
+    Codes(VARIABLE, NODE, QUANTIFIER), // 41: for some
 ];
 
 fn field_of(code: u8) -> Field
     ensures { λ f. ⌜ f ≡ fieldAt code ⌝ }
 {
     match code {
-        1 => Field::Node,
-        2 => Field::Relation,
-        3 => Field::Variable,
-        4 => Field::Sort,
+        NODE => Field::Node,
+        RELATION => Field::Relation,
+        VARIABLE => Field::Variable,
+        SORT => Field::Sort,
         _ => Field::Unused,
     }
 }
@@ -146,21 +147,21 @@ fn rule_of(code: u8) -> Rule
     ensures { λ r. ⌜ r ≡ ruleAt code ⌝ }
 {
     match code {
-        1 => Rule::OfRelation,
-        2 => Rule::OfVariable,
-        3 => Rule::OfSort,
-        4 => Rule::OfIdentity,
-        5 => Rule::Same,
-        6 => Rule::Join,
-        7 => Rule::Product,
-        8 => Rule::Inverse,
-        9 => Rule::Closure,
-        10 => Rule::Comprehension,
-        11 => Rule::Comparison,
-        12 => Rule::Test,
-        13 => Rule::Negation,
-        14 => Rule::Connective,
-        15 => Rule::Quantifier,
+        OF_RELATION => Rule::OfRelation,
+        OF_VARIABLE => Rule::OfVariable,
+        OF_SORT => Rule::OfSort,
+        OF_IDENTITY => Rule::OfIdentity,
+        SAME => Rule::Same,
+        JOIN => Rule::Join,
+        PRODUCT => Rule::Product,
+        INVERSE => Rule::Inverse,
+        CLOSURE => Rule::Closure,
+        COMPREHENSION => Rule::Comprehension,
+        COMPARISON => Rule::Comparison,
+        TEST => Rule::Test,
+        NEGATION => Rule::Negation,
+        CONNECTIVE => Rule::Connective,
+        QUANTIFIER => Rule::Quantifier,
         _ => Rule::Unknown,
     }
 }

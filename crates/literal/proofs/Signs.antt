@@ -31,8 +31,6 @@ pub lowest-word : (l : ℤ) → SFits w32 l → ofZ w32 l ≡ 2147483648 → l �
 lowest-word l f e = sym (back l f) ∙ ap (toZ w32) e
 
 -- a number below 2^31 as a word
-pub fits-positive : (n : ℕ) → n < 2147483648 → SFits w32 (pos n)
-fits-positive n h = record { sfits = h }
 
 pub positive-word : (n : ℕ) → n < 2147483648 → toZ w32 n ≡ pos n
 positive-word n h = toZ-pos w32 n h

@@ -78,12 +78,14 @@ same-expression p = cc
 same-formula : {d e : Formula} → formula d ≡ formula e → e ≡ d
 same-formula p = cc
 
-from-expression : (x : Tree) (grow : Expression → Tree) (t : Tree) → (t ≡ broken → ⊥) → withExpression x grow ≡ t → Grown expression x grow t
+from-expression : (x : Tree) (grow : Expression → Tree) (t : Tree) → (t ≡ broken → ⊥) → withExpression x grow ≡ t
+    → Grown expression x grow t
 from-expression (expression e) grow t h p = record { it = e; is = refl; grown = p }
 from-expression (formula f) grow t h p = absurd (h (sym p))
 from-expression broken grow t h p = absurd (h (sym p))
 
-from-formula : (x : Tree) (grow : Formula → Tree) (t : Tree) → (t ≡ broken → ⊥) → withFormula x grow ≡ t → Grown formula x grow t
+from-formula : (x : Tree) (grow : Formula → Tree) (t : Tree) → (t ≡ broken → ⊥) → withFormula x grow ≡ t
+    → Grown formula x grow t
 from-formula (expression e) grow t h p = absurd (h (sym p))
 from-formula (formula f) grow t h p = record { it = f; is = refl; grown = p }
 from-formula broken grow t h p = absurd (h (sym p))
@@ -139,7 +141,8 @@ module _ {T : Type 0} {to : T → Tree} {from : Tree → (T → Tree) → Tree} 
 
   module _ {S : Type 0} {made : S → Tree} {with : Tree → (S → Tree) → Tree} (operands : Family made with) where
     -- the tree before it that a node's tree grows from
-    pub grows-from : (x : ℕ) (grow : S → Tree) → with (before sheet v x) grow ≡ to (tree .it) → Grown made (before sheet v x) grow (to (tree .it))
+    pub grows-from : (x : ℕ) (grow : S → Tree) → with (before sheet v x) grow ≡ to (tree .it)
+        → Grown made (before sheet v x) grow (to (tree .it))
     grows-from x grow p = operands .grows (before sheet v x) grow (to (tree .it)) (family .whole (tree .it)) p
 
     module _ {O : Type 0} (symbolic : O → Symbol) (o : O) (q : symbolOf (kind sheet v) ≡ symbolic o) where
@@ -167,7 +170,8 @@ module _ {T : Type 0} {to : T → Tree} {from : Tree → (T → Tree) → Tree} 
       one-at build a p =
           let lower-a = ltb-true (fieldA sheet v) v a in
           let t = grows-from (fieldA sheet v) _ p in
-          record { it = o; symbol = q; lower-a = lower-a; left = record { it = t .it; is = is-before lower-a (t .is) }; is = family .same (t .grown) }
+          let left : IsTree made sheet (fieldA sheet v) = record { it = t .it; is = is-before lower-a (t .is) } in
+          record { it = o; symbol = q; lower-a = lower-a; left = left; is = family .same (t .grown) }
 
       pub body-at : (build : O → ℕ → S → T) → ltb (fieldA sheet v) (variableCount sheet) ≡ true → ltb (fieldB sheet v) v ≡ true
           → with (before sheet v (fieldB sheet v)) (λ d. to (build o (fieldA sheet v) d)) ≡ to (tree .it)

@@ -8,7 +8,7 @@ use Rattle.kinds.specs.declared.Rule.the-variants as rule
 use Rattle.kinds.specs.Kinds.{rowOf}
 use lib.ListN.{getD}
 use Rattle.sheet_rules.specs.Blocks.{Sheet, byte}
-use Rattle.relational.specs.Trees.{Expression, Formula, Tree, expression, formula, broken, trees}
+use Rattle.relational.specs.Trees.{Tree, expression, formula, broken, trees}
 use Rattle.nodes.specs.declared.forms.ExpressionForm.{ExpressionForm}
 use Rattle.nodes.specs.declared.forms.ExpressionForm.the-variants.{Leaf, Binary, Unary, Comprehension}
 use Rattle.nodes.specs.declared.forms.FormulaForm.{FormulaForm}

@@ -94,9 +94,6 @@ module _ (p : ℕ → Bool) where
   each-of zero h = refl
   each-of (suc n) h = and-both (each n p) (p n) (each-of n (λ i l. h i (omega arith))) (h n (omega arith))
 
-  pub each-fails : (n i : ℕ) → i < n → p i ≡ false → each n p ≡ false
-  each-fails n i h e = ⊎-elim (λ t. clash (p i) (each-at n t i h) e) (λ f. f) (decided (each n p))
-
 pub each-cong : (p q : ℕ → Bool) (n : ℕ) → ((i : ℕ) → i < n → p i ≡ q i) → each n p ≡ each n q
 unfolding each
 each-cong p q zero h = refl
@@ -134,23 +131,12 @@ module _ {A : Type 0} (p : A → Bool) where
   any-append [] ys = refl
   any-append (x ∷ xs) ys = ap (λ (b : Bool). p x || b) (any-append xs ys) ∙ sym (or-assoc (p x) (any p xs) (any p ys))
 
-  -- an element that has p, and none
+  -- an element that has p
   pub any-at : (xs : List A) (i : ℕ) (d : A) → i < length xs → p (getD xs i d) ≡ true → any p xs ≡ true
   unfolding any
   any-at [] i d h e = absurd (not-suc-le-zero h)
   any-at (x ∷ xs) zero d h e = or-left (p x) (any p xs) e
   any-at (x ∷ xs) (suc i) d h e = or-right (p x) (any p xs) (any-at xs i d (le-of-suc-le-suc h) e)
-
-  pub none-at : (xs : List A) → any p xs ≡ false → (i : ℕ) (d : A) → i < length xs → p (getD xs i d) ≡ false
-  none-at xs e i d h = ⊎-elim (λ t. clash (any p xs) (any-at xs i d h t) e) (λ f. f) (decided (p (getD xs i d)))
-
--- tests that agree on the elements agree on the list
-module _ {A : Type 0} (p q : A → Bool) where
-  pub all-implies : (xs : List A) → ((x : A) → p x ≡ true → q x ≡ true) → all p xs ≡ true → all q xs ≡ true
-  unfolding all
-  all-implies [] h e = refl
-  all-implies (x ∷ xs) h e =
-      and-both (q x) (all q xs) (h x (and-left (p x) (all p xs) e)) (all-implies xs h (and-right (p x) (all p xs) e))
 
 pub all-map : {A B : Type 0} (p : B → Bool) (f : A → B) (xs : List A) → all p (map f xs) ≡ all (λ x. p (f x)) xs
 unfolding all

@@ -8,13 +8,12 @@ use lib.ListN.{length, length-append}
 use Rattle.text.specs.Puts.{Put}
 use Rattle.text.specs.Texts.{bytesOf, decimal}
 use Rattle.text.proofs.Decimals.{decimal-short}
-use Rattle.text.proofs.Puts.{put-nothing, put-both, put-as, put-length}
-use Rattle.sheet_rules.specs.Blocks.{Sheet, fourBlocks, byte}
-use Rattle.relational.specs.Cells.{rowCount, rowLength, firstCell, cell}
-use Rattle.cells.proofs.Layouts.{Earlier}
+use Rattle.text.proofs.Puts.{put-nothing, put-both, put-as}
+use Rattle.sheet_rules.specs.Blocks.{Sheet, byte}
+use Rattle.relational.specs.Cells.{rowCount, rowLength, cellsOf, firstCell, cell}
 use Rattle.clauses_rules.specs.Whole.{series}
 use Rattle.report.specs.Printed.{cellDigit, rowDigits, relationLine}
-use Rattle.report.specs.Private.{rowFrom, lineFrom, PutLines}
+use Rattle.report.specs.Private.{rowFrom, lineFrom}
 
 series-more : (n : ℕ) (f : ℕ → List ℕ) → series n f ++ f n ≡ series (n + 1) f
 unfolding series
@@ -57,27 +56,25 @@ line-is : (sheet : Sheet) (instance : List ℕ) (r : ℕ)
 unfolding lineFrom
 line-is sheet instance r = λ k. 114 ∷ (decimal r ++ (series (rowCount sheet r) (λ i. row-is sheet instance r i k) ++ (10 ∷ [])))
 
--- no line was put, and one more
-pub lines-none : (sorts relations instance old : List ℕ) (at : ℕ) → PutLines sorts relations instance old at 0 old at
-lines-none sorts relations instance old at =
-    record { most = omega arith; puts = λ sheet es er. put-none-of (relationLine sheet instance) old at }
+-- what the loop over the relations has put: the lines of those before r, whose next first cell is known
+pub record PutLines (sheet : Sheet) (instance old : List ℕ) (at : ℕ) (new : List ℕ) (end first r : ℕ) : Type 0 where
+  pub most : end ≤ at + 76 * r
+  pub next : first ≡ firstCell sheet r
+  pub puts : Put old at (series r (relationLine sheet instance)) new end
 
-module _ {sorts relations instance old mid new : List ℕ} {at m end r first rows columns : ℕ} where
-  pub lines-more : PutLines sorts relations instance old at r mid m → Earlier sorts relations first r
-      → ((sheet : Sheet) → sheet .sorts ≡ sorts → sheet .relations ≡ relations → rows ≡ rowCount sheet r)
-      → ((sheet : Sheet) → sheet .sorts ≡ sorts → sheet .relations ≡ relations → columns ≡ rowLength sheet r)
-      → Put mid m (lineFrom instance r first rows columns) new end → end ≤ m + 76
-      → PutLines sorts relations instance old at (r + 1) new end
-  lines-more p f a b q h =
+module _ {sheet : Sheet} {instance old : List ℕ} {at : ℕ} where
+  pub lines-none : PutLines sheet instance old at old at 0 0
+  unfolding firstCell
+  lines-none = record { most = omega arith; next = refl; puts = put-none-of (relationLine sheet instance) old at }
+
+  pub lines-more : {mid new : List ℕ} {m end r first rows columns : ℕ} → PutLines sheet instance old at mid m first r
+      → rows ≡ rowCount sheet r → columns ≡ rowLength sheet r → Put mid m (lineFrom instance r first rows columns) new end → end ≤ m + 76
+      → PutLines sheet instance old at new end (first + rows * columns) (r + 1)
+  unfolding firstCell
+  lines-more {r = r} p a b q h =
+      let e = (λ k. lineFrom instance r (p .next k) (a k) (b k)) ∙ line-is sheet instance r in
       record {
         most = omega (arith, p .most);
-        puts = λ sheet es er.
-            let e : lineFrom instance r first rows columns ≡ relationLine sheet instance r =
-            (λ k. lineFrom instance r (f .is sheet es er k) (a sheet es er k) (b sheet es er k)) ∙ line-is sheet instance r in
-            put-more (relationLine sheet instance) r (p .puts sheet es er) (put-as e q);
+        next = rw (add-one r, a, b) (ap (λ (n : ℕ). n + cellsOf sheet r) (p .next));
+        puts = put-more (relationLine sheet instance) r (p .puts) (put-as e q);
       }
-
--- the text keeps its length
-pub lines-length : {sorts relations instance old new : List ℕ} {at n end : ℕ} → PutLines sorts relations instance old at n new end
-    → length new ≡ length old
-lines-length {sorts} {relations} p = put-length (p .puts (fourBlocks sorts [] relations []) refl refl)

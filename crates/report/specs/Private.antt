@@ -1,13 +1,11 @@
 -- Lines of relations, as the code puts them.
 -- No public contract reaches this file: nothing here needs belief.
-use mathlib.Core.Path.{_≡_}
 use mathlib.Core.List.{List, [], _∷_, _++_}
-use Prim.Native.Nat.{ℕ, _+_, _*_, _≤_}
-use Rattle.text.specs.Puts.{Put}
+use Prim.Native.Nat.{ℕ, _+_, _*_}
 use Rattle.text.specs.Texts.{decimal}
-use Rattle.sheet_rules.specs.Blocks.{Sheet, byte}
+use Rattle.sheet_rules.specs.Blocks.{byte}
 use Rattle.clauses_rules.specs.Whole.{series}
-use Rattle.report.specs.Printed.{cellDigit, relationLine}
+use Rattle.report.specs.Printed.{cellDigit}
 
 -- a space and the digits of n cells from a cell on
 unfoldable pub rowFrom : List ℕ → ℕ → ℕ → List ℕ
@@ -17,9 +15,3 @@ rowFrom instance first n = 32 ∷ series n λ j. cellDigit (byte instance (first
 unfoldable pub lineFrom : List ℕ → ℕ → ℕ → ℕ → ℕ → List ℕ
 lineFrom instance r first rows columns =
     114 ∷ (decimal r ++ (series rows (λ i. rowFrom instance (first + i * columns) columns) ++ (10 ∷ [])))
-
--- the lines of the first n relations were put
-pub record PutLines (sorts relations instance old : List ℕ) (at n : ℕ) (new : List ℕ) (end : ℕ) : Type 0 where
-  pub most : end ≤ at + 76 * n
-  pub puts : (sheet : Sheet) → sheet .sorts ≡ sorts → sheet .relations ≡ relations
-      → Put old at (series n (relationLine sheet instance)) new end

@@ -1,44 +1,19 @@
 // What the finder prints for an input.
 ghost use mathlib.Core.Path.{_≡_};
-ghost use Prim.Native.Nat.{ℕ, _+_, _≤_};
+ghost use Prim.Native.Nat.{ℕ, _≤_};
 ghost use lib.ListN.{length, take};
 ghost use Rattle.text.specs.Texts.{Prints};
 ghost use Rattle.text.specs.Puts.{Put};
 ghost use Rattle.sheet_rules.specs.Blocks.{sheetOf};
-ghost use Rattle.sheet_rules.specs.Reading.{accepted, reading};
 ghost use Rattle.search.specs.Answers.{found, answerOf};
 ghost use Rattle.solve_rules.specs.Finding.{slices};
 ghost use Rattle.solve_rules.specs.Demand3.{FitsLimits};
-ghost use Rattle.report.specs.Printed.{relationLines, report, findingText, slicesAfter};
+ghost use Rattle.report.specs.Printed.{report, findingText, slicesAfter};
 ghost use Rattle.report.specs.Tells.{Tells};
 use super::lines::put_lines;
 use search::answer::Search;
-use sheet::Reading;
-use sheet_rules::Layout;
+use sheet::answer::Reading;
 use text::put_end;
-
-// Puts the lines of an accepted sheet's relations.
-fn put_relations(text: &mut [u8], at: usize, input: &[u8], layout: Layout, instance: &[u8]) -> usize
-    requires { ⌜ reading (now input) ≡ accepted layout ⌝ }
-    requires { ⌜ at + 1216 ≤ length (now text) ⌝ }
-    ensures { λ r. ⌜ Put (now (text .entry)) at (relationLines (sheetOf (now (input .entry))) (now (instance .entry))) (now (text .exit)) r ⌝ }
-    ensures { λ r. ⌜ r ≤ at + 1216 ⌝ }
-{
-    let sorts = layout.sorts;
-    let relations = layout.relations;
-    let a = sorts.start;
-    let b = a + sorts.count;
-    let c = relations.start;
-    let d = c + 4 * relations.count;
-    put_lines(
-        text,
-        at,
-        &input[a..b],
-        &input[c..d],
-        relations.count,
-        instance,
-    )
-}
 
 // Puts the line of `found`, and the lines of the relations.
 fn put_found(text: &mut [u8], input: &[u8], steps: u64, instance: &[u8]) -> usize
@@ -52,7 +27,7 @@ fn put_found(text: &mut [u8], input: &[u8], steps: u64, instance: &[u8]) -> usiz
     let reading = sheet::read(input);
     match reading {
         Reading::Refused(_) => at,
-        Reading::Accepted(layout) => put_relations(text, at, input, layout, instance),
+        Reading::Accepted(layout) => put_lines(text, at, input, layout, instance),
     }
 }
 

@@ -1,15 +1,17 @@
 // The lines of the finder.
 ghost use mathlib.Core.Path.{_≡_};
-ghost use Prim.Native.Nat.{suc, _+_, _*_, _≤_, _<_};
+ghost use Prim.Native.Nat.{suc, _+_, _≤_, _<_};
 ghost use lib.ListN.{length};
 ghost use Rattle.text.specs.Puts.{Put};
+ghost use Rattle.sheet_rules.specs.Blocks.{sheetOf};
 ghost use Rattle.sheet_rules.specs.Blocks as blocks;
-ghost use Rattle.cells.specs.Private.{Scopes};
-ghost use Rattle.report.specs.Printed.{cellDigit};
-ghost use Rattle.report.specs.Private.{rowFrom, lineFrom, PutLines};
+ghost use Rattle.sheet_rules.specs.Reading.{accepted, reading};
+ghost use Rattle.report.specs.Printed.{cellDigit, relationLines};
+ghost use Rattle.report.specs.Private.{rowFrom, lineFrom};
 use cells::row_count;
 use cells::row_length;
 use sheet::bytes::byte;
+use sheet_rules::Layout;
 use text::put_decimal;
 
 // The digit of cell k.
@@ -65,27 +67,28 @@ fn put_line(
     end + 1
 }
 
-// Puts the lines of the first relations.
+// Puts the lines of an accepted sheet's relations.
 pub(crate) fn put_lines(
     text: &mut [u8],
     at: usize,
-    sorts: &[u8],
-    relations: &[u8],
-    count: usize,
+    sheet: &[u8],
+    layout: Layout,
     instance: &[u8],
 ) -> usize
-    requires { ⌜ count ≤ 16 ⌝ }
+    requires { ⌜ reading (now sheet) ≡ accepted layout ⌝ }
     requires { ⌜ at + 1216 ≤ length (now text) ⌝ }
-    requires { ⌜ Scopes (now sorts) ⌝ }
-    ensures { λ r. ⌜ PutLines (now (sorts .entry)) (now (relations .entry)) (now (instance .entry)) (now (text .entry)) at count
+    ensures { λ r. ⌜ Put (now (text .entry)) at (relationLines (sheetOf (now (sheet .entry))) (now (instance .entry)))
         (now (text .exit)) r ⌝ }
+    ensures { λ r. ⌜ r ≤ at + 1216 ⌝ }
 {
+    let relations = layout.relations;
+    let count = relations.count;
     let mut end = at;
     let mut first: usize = 0;
     let mut r: usize = 0;
     while r < count {
-        let rows = row_count(sorts, relations, r);
-        let columns = row_length(sorts, relations, r);
+        let rows = row_count(sheet, layout, r);
+        let columns = row_length(sheet, layout, r);
         end = put_line(text, end, instance, r, first, rows, columns);
         first += rows * columns;
         r += 1;

@@ -65,7 +65,7 @@ fn fresh(list: &[i32], values: &mut [u8], trail: &mut [i32], budget: u64) -> Sea
     open_all(values);
     clear_all(trail);
     let start = Position {
-        length: 0,
+        used: 0,
         propagations: 0,
         decisions: 0,
         backtracks: 0,

@@ -161,7 +161,7 @@ module _ (clauses : List (List ℤ)) (v : ℕ) where
   -- how far the loop has come: what is left of the run is the run
   pub record Far (budget : ℕ) (t : Tally) (state : State) (values : List ℕ) (trail : List ℤ) (p : Position) (left : ℕ) : Type 0 where
     pub at : State
-    pub stored : Stored v at values trail (p .length)
+    pub stored : Stored v at values trail (p .used)
     pub alike : run clauses v left (tallyOf p) at ≡ run clauses v budget t state
 
   module _ (budget : ℕ) (t : Tally) (state : State) (values : List ℕ) (trail : List ℤ) (p : Position) (left : ℕ)
@@ -173,7 +173,7 @@ module _ (clauses : List (List ℤ)) (v : ℕ) where
     by-found e = sym (f .alike) ∙ run-found left (tallyOf p) (f .at) e
 
     module _ (values' : List ℕ) (trail' : List ℤ) where
-      pub far-none : (x : Next) (q : Position) → next clauses v (f .at) ≡ x → q .length ≡ 0 → tallyOf q ≡ tallyOf p
+      pub far-none : (x : Next) (q : Position) → next clauses v (f .at) ≡ x → q .used ≡ 0 → tallyOf q ≡ tallyOf p
           → Stepped v (f .at) x NoneLeft values' trail' → Ended v (run clauses v budget t state) (record { end = None; position = q }) values' trail'
       far-none endNone q e l c s = rw (by-none e) (record { end-is = refl; tally-is = c; stored = rw l (s .1) })
       far-none endFound q e l c s = absurd (let d : NoneLeft ≡ AllSet = s .0 in let z : _≡_ {A = ℕ} 0 1 = cc in omega arith)
@@ -182,7 +182,7 @@ module _ (clauses : List (List ℤ)) (v : ℕ) where
       pub far-found : (x : Next) → next clauses v (f .at) ≡ x → Stepped v (f .at) x AllSet values' trail'
           → Ended v (run clauses v budget t state) (record { end = Found; position = p }) values' trail'
       far-found endNone e s = absurd (let d : AllSet ≡ NoneLeft = s .0 in let z : _≡_ {A = ℕ} 0 1 = cc in omega arith)
-      far-found endFound e s = rw (by-found e) (record { end-is = refl; tally-is = refl; stored = rw (f .stored .length-is) (s .1) })
+      far-found endFound e s = rw (by-found e) (record { end-is = refl; tally-is = refl; stored = rw (f .stored .used-is) (s .1) })
       far-found (step kind r) e s = absurd (let d : AllSet ≡ To (kindAs kind) (length r) = s .0 in let z : _≡_ {A = ℕ} 0 1 = cc in omega arith)
 
       pub far-on : (k : StepKind) (m : ℕ) (q : Position) → 0 < left → Advanced p k m q → (x : Next) → next clauses v (f .at) ≡ x
@@ -197,20 +197,20 @@ module _ (clauses : List (List ℤ)) (v : ℕ) where
           let c : tallyOf q ≡ count kind (tallyOf p) = a .tally-is ∙ ap (λ i. count i (tallyOf p)) (ap kindOf y ∙ kind-back kind) in
           record {
             at = r;
-            stored = rw (a .length-is ∙ w) (s .1);
+            stored = rw (a .used-is ∙ w) (s .1);
             alike =
                 ap (λ i. run clauses v (left - 1) i r) c ∙ sym (run-step (left - 1) (tallyOf p) (f .at) kind r e)
                 ∙ ap (λ i. run clauses v i (tallyOf p) (f .at)) (sym g) ∙ f .alike;
           }
 
       -- no step is left
-      pub far-emptied : (x : Next) (n : ℕ) (q : Position) → next clauses v (f .at) ≡ x → None ≡ endAfter x → q .length ≡ 0 → tallyOf q ≡ tallyOf p
+      pub far-emptied : (x : Next) (n : ℕ) (q : Position) → next clauses v (f .at) ≡ x → None ≡ endAfter x → q .used ≡ 0 → tallyOf q ≡ tallyOf p
           → Turned v (turn (f .at)) n values' trail' → Ended v (run clauses v budget t state) (record { end = None; position = q }) values' trail'
       far-emptied endNone n q e d l c s =
           rw (by-none e) (record { end-is = refl; tally-is = c; stored = rw l (fresh (rw (next-none (f .at) _ (view clauses v (f .at)) e) at s)) })
         where
           fresh : Stored v [] values' trail' n → Stored v [] values' trail' 0
-          fresh i = rw (i .length-is) at i
+          fresh i = rw (i .used-is) at i
       far-emptied endFound n q e d l c s = absurd (let z : _≡_ {A = ℕ} 0 1 = cc in omega arith)
       far-emptied (step kind r) n q e d l c s = absurd (let z : _≡_ {A = ℕ} 0 1 = cc in omega arith)
 
@@ -235,7 +235,7 @@ pub record Loop (clauses : List (List ℤ)) (budget : ℕ) (values₀ : List ℕ
   pub figure : total (tallyOf p) + left ≡ total (tallyOf p₀) + budget
   pub wide : length values ≡ length values₀
   pub deep : length trail ≡ length trail₀
-  pub far : (state : State) → Stored (length values₀) state values₀ trail₀ (p₀ .length)
+  pub far : (state : State) → Stored (length values₀) state values₀ trail₀ (p₀ .used)
       → Far clauses (length values₀) budget (tallyOf p₀) state values trail p left
 
 -- a step more is done, and one less is left

@@ -111,9 +111,9 @@ pub record Top (v : ℕ) (state : State) (values : List ℕ) (trail : List ℤ) 
 pub top-of : (v : ℕ) (state : State) (values : List ℕ) (trail : List ℤ) (n : ℕ) → Stored v state values trail n → 0 < n
     → Top v state values trail n
 unfolding WasOpen valuesOf trailOf
-top-of v [] values trail n s h = absurd (let w : n ≡ 0 = s .length-is in omega arith)
+top-of v [] values trail n s h = absurd (let w : n ≡ 0 = s .used-is in omega arith)
 top-of v (e ∷ state) values trail n s h =
-    let w : n ≡ suc (length state) = s .length-is in
+    let w : n ≡ suc (length state) = s .used-is in
     let p : placeOf (wordOf e) < v = place-below v (wordOf e) (s .was-open .0) in
     let b : length state < v = room v state (placeOf (wordOf e)) (s .was-open .2) p (s .was-open .1) in
     let m : n - 1 ≡ length state = omega arith in
@@ -141,7 +141,7 @@ unfolding valuesOf trailOf WasOpen
 put-top v state values trail e i b w m j p q f g h r o k = record {
   values-are = rw (f, g) p;
   trail-is = rw h q;
-  length-is = j;
+  used-is = j;
   was-open = (rw h r, rw f o, k);
 }
 
@@ -196,7 +196,7 @@ module _ (v : ℕ) (state : State) (values : List ℕ) (trail : List ℤ) (n : �
         values-are = values-over 2 ∙ ap (set (valuesOf v (t .rest)) (placeOf (wordOf (t .e)))) (sym was-open-here)
             ∙ set-getD (valuesOf v (t .rest)) _ 2;
         trail-is = trail-over (pos 0) ∙ ap (set (trailOf v (t .rest)) (length (t .rest))) (sym q) ∙ set-getD (trailOf v (t .rest)) _ (pos 0);
-        length-is = t .index;
+        used-is = t .index;
         was-open = rest-open;
       }
 
@@ -233,9 +233,9 @@ went-none v state values trail n w h = by (w .now-at) (w .stored) (w .alike)
     by : (s : State) → Stored v s values trail n → turn s ≡ turn state → Turned v (turn state) 0 values trail
     by [] i e =
         let s : Stored v [] values trail 0 =
-        record { values-are = i .values-are; trail-is = i .trail-is; length-is = refl; was-open = i .was-open } in
+        record { values-are = i .values-are; trail-is = i .trail-is; used-is = refl; was-open = i .was-open } in
         rw (← e) (turn-nil v values trail s)
-    by (x ∷ s) i e = absurd (let l : n ≡ suc (length s) = i .length-is in omega arith)
+    by (x ∷ s) i e = absurd (let l : n ≡ suc (length s) = i .used-is in omega arith)
 
 -- the opposite of a decision's word
 pub turned-word : (v : ℕ) (e : Entry) → v ≤ lastVariable → InRange v (wordOf e) → byteOf e ≡ 3
@@ -264,4 +264,4 @@ module _ {A : Type 0} (a : A) where
 
 pub fresh : (v : ℕ) (values : List ℕ) (trail : List ℤ) → values ≡ replicate v 2 → trail ≡ replicate v (pos 0) → Stored v [] values trail 0
 unfolding valuesOf trailOf WasOpen
-fresh v values trail p q = record { values-are = p; trail-is = q; length-is = refl; was-open = tt }
+fresh v values trail p q = record { values-are = p; trail-is = q; used-is = refl; was-open = tt }

@@ -116,19 +116,19 @@ word-propagated l = refl
 module _ (v : ℕ) (state : State) (values : List ℕ) (trail : List ℤ) (n : ℕ) (s : Stored v state values trail n) where
   -- an open variable leaves room on the trail
   pub has-room : (k : ℕ) → k < v → getD values k 2 ≡ 2 → n < length trail
-  has-room k h e = rw (size-trail v state values trail n s, s .length-is) (room v state k (s .was-open) h (rw (s .values-are) at e))
+  has-room k h e = rw (size-trail v state values trail n s, s .used-is) (room v state k (s .was-open) h (rw (s .values-are) at e))
 
   pub open-room : (l : ℤ) → OpenIn v values l → n < length trail
   open-room l o = has-room (placeOf l) (place-below v l (o .0)) (o .1)
 
   one-more : n + 1 ≡ suc (length state)
-  one-more = add-one n ∙ ap suc (s .length-is)
+  one-more = add-one n ∙ ap suc (s .used-is)
 
   pub step-full : (clauses : List (List ℤ)) (r : ℕ) → neither ≡ seen values clauses
       → r ≡ Option·getD (lowestOpen 0 values) (length values) → r ≡ length values → Stepped v state (next clauses v state) AllSet values trail
   unfolding decide
   step-full clauses r e b z =
-      rw (next-neither clauses v state values (s .values-are) e ∙ ap (decide state) (low-full values r b z)) (refl, rw (s .length-is) at s)
+      rw (next-neither clauses v state values (s .values-are) e ∙ ap (decide state) (low-full values r b z)) (refl, rw (s .used-is) at s)
 
   module _ (clauses : List (List ℤ)) (values' : List ℕ) (trail' : List ℤ) where
     none-left : (x : Next) (r : ℕ) → Turned v x r values' trail' → r ≡ 0 → Stepped v state x NoneLeft values' trail'
@@ -137,10 +137,10 @@ module _ (v : ℕ) (state : State) (values : List ℕ) (trail : List ℤ) (n : �
     none-left (step kind s) r b e = absurd (let q = b .1 in omega arith)
 
     turned : (x : Next) (r : ℕ) → (turn state ≡ x) → Turned v x r values' trail' → (r ≡ 0 → ⊥) → Stepped v state x (To Backtrack r) values' trail'
-    turned endNone r d b e = absurd (e (b .length-is))
+    turned endNone r d b e = absurd (e (b .used-is))
     turned endFound r d b e = absurd b
     turned (step kind s) r d b e =
-        (rw (turn-kind state kind s d) (ap (To Backtrack) (b .0 .length-is)), rw (b .0 .length-is) at (b .0))
+        (rw (turn-kind state kind s d) (ap (To Backtrack) (b .0 .used-is)), rw (b .0 .used-is) at (b .0))
 
     pub step-none : (r : ℕ) → conflicting ≡ seen values clauses → Turned v (turn state) r values' trail' → r ≡ 0
         → Stepped v state (next clauses v state) NoneLeft values' trail'
@@ -157,7 +157,7 @@ module _ (v : ℕ) (state : State) (values : List ℕ) (trail : List ℤ) (n : �
           ap (To Propagation) one-more,
           put-top v state values' trail' (propagated l) (placeOf l) (byteOf (propagated l)) l (suc (length state)) refl
               (p ∙ ap (λ x. set x (placeOf l) (byteOf (propagated l))) (s .values-are))
-              (q ∙ ap (λ x. set x n l) (s .trail-is) ∙ ap (λ x. set (trailOf v state) x l) (s .length-is))
+              (q ∙ ap (λ x. set x n l) (s .trail-is) ∙ ap (λ x. set (trailOf v state) x l) (s .used-is))
               (ap placeOf (word-propagated l)) refl (word-propagated l) (o .0) (rw (s .values-are) at (o .1)) (s .was-open),
         )
 
@@ -173,6 +173,6 @@ module _ (v : ℕ) (state : State) (values : List ℕ) (trail : List ℤ) (n : �
           ap (To Decision) one-more,
           put-top v state values' trail' (decided r) r 3 (negsuc r) (suc (length state)) refl
               (p ∙ ap (λ x. set x r 3) (s .values-are))
-              (q ∙ ap (λ x. set x n (negsuc r)) (s .trail-is) ∙ ap (λ x. set (trailOf v state) x (negsuc r)) (s .length-is))
+              (q ∙ ap (λ x. set x n (negsuc r)) (s .trail-is) ∙ ap (λ x. set (trailOf v state) x (negsuc r)) (s .used-is))
               (f .2) (f .1) (f .0) (omega arith, m) (rw (s .values-are) at (w .0 .is-open)) (s .was-open),
         )

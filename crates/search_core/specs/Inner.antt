@@ -1,4 +1,4 @@
--- A state of the rules as slices and a length hold it, and what each step of the code leaves.
+-- A state of the rules as slices hold it, and what each step of the code leaves.
 -- No public contract reaches this file: nothing here needs belief.
 use mathlib.Core.Path.{_≡_}
 use mathlib.Core.List.{List, []}
@@ -18,18 +18,18 @@ use Rattle.search_rules.specs.Rules.{State, valuesOf, trailOf, Kind, propagatio
 use Rattle.search_rules.specs.Run.{Tally, count, wasNone, wasFound, wasSpent}
 use Rattle.search_rules.specs.Run.{End as RunEnd}
 
--- the slices and the length hold the state
+-- the slices hold the state, with n words of the trail in use
 pub record Stored (v : ℕ) (state : State) (values : List ℕ) (trail : List ℤ) (n : ℕ) : Type 0 where
   pub values-are : values ≡ valuesOf v state
   pub trail-is : trail ≡ trailOf v state
-  pub length-is : n ≡ length state
+  pub used-is : n ≡ length state
   pub was-open : WasOpen v state
 
 pub record SomeStored (v : ℕ) (values : List ℕ) (trail : List ℤ) (n : ℕ) : Type 0 where
   pub state : State
   pub stored : Stored v state values trail n
 
--- what `back` leaves: the new length, 0 where no decision is left
+-- what `back` leaves: n words of the trail in use, 0 where no decision is left
 abbrev pub Turned : ℕ → Next → ℕ → List ℕ → List ℤ → Type 0
 Turned v endNone n values trail = Stored v [] values trail n
 Turned v endFound n values trail = ⊥
@@ -55,7 +55,7 @@ kindOf Decision = decision
 kindOf Backtrack = backtrack
 
 pub record Advanced (p : Position) (kind : StepKind) (n : ℕ) (r : Position) : Type 0 where
-  pub length-is : r .length ≡ n
+  pub used-is : r .used ≡ n
   pub tally-is : tallyOf r ≡ count (kindOf kind) (tallyOf p)
 
 -- how the rules stand: spent where they go on
@@ -83,4 +83,4 @@ stateAt (wasSpent t state) = state
 pub record Ended (v : ℕ) (end : RunEnd) (r : Ran) (values : List ℕ) (trail : List ℤ) : Type 0 where
   pub end-is : r .end ≡ endOf end
   pub tally-is : tallyOf (r .position) ≡ tallyAt end
-  pub stored : Stored v (stateAt end) values trail (r .position .length)
+  pub stored : Stored v (stateAt end) values trail (r .position .used)

@@ -1,16 +1,16 @@
 // The run of the step rules within a budget, from any state, by value.
 ghost use mathlib.Core.Path.{_≡_};
 ghost use mathlib.Core.Bool.{true, false};
-ghost use Prim.Native.Nat.{ℕ, _+_, _<_, _≤_, _^_};
+ghost use Prim.Native.Nat.{_+_, _<_, _≤_, _^_};
 ghost use lib.Dec.{eqb};
 ghost use lib.ListN.{length};
 ghost use Rattle.prelude.specs.Tests.{any};
 ghost use Rattle.clause_list.specs.ClauseList.{clausesOf};
 ghost use Rattle.literal.specs.Literals.{lastVariable};
 ghost use Rattle.search_rules.specs.Rules.{State, valuesOf, next};
-ghost use Rattle.search_rules.specs.Run.{total, count, run};
+ghost use Rattle.search_rules.specs.Run.{total, run};
 ghost use Rattle.search_rules.specs.Inner.{Fine, WasOpen};
-ghost use Rattle.search_core.specs.Inner.{Stored, SomeStored, kindAs, tallyOf, Advanced, endAfter, Ended};
+ghost use Rattle.search_core.specs.Inner.{Stored, SomeStored, tallyOf, Advanced, endAfter, Ended};
 use crate::steps::Moved;
 use crate::steps::StepKind;
 use crate::steps::back;
@@ -21,7 +21,7 @@ use search_scan::scan;
 
 // Where a run stands: how much of the trail is in use, and the steps done by kind.
 pub struct Position {
-    pub length: usize,
+    pub used: usize,
     pub propagations: u64,
     pub decisions: u64,
     pub backtracks: u64,
@@ -39,25 +39,25 @@ pub struct Ran {
 }
 
 // The position after one step more.
-fn advance(p: Position, kind: StepKind, length: usize) -> Position
+fn advance(p: Position, kind: StepKind, used: usize) -> Position
     requires { ⌜ total (tallyOf p) + 1 < 2 ^ 64 ⌝ }
-    ensures { λ r. ⌜ Advanced p kind length r ⌝ }
+    ensures { λ r. ⌜ Advanced p kind used r ⌝ }
 {
     match kind {
         StepKind::Propagation => Position {
-            length,
+            used,
             propagations: p.propagations + 1,
             decisions: p.decisions,
             backtracks: p.backtracks,
         },
         StepKind::Decision => Position {
-            length,
+            used,
             propagations: p.propagations,
             decisions: p.decisions + 1,
             backtracks: p.backtracks,
         },
         StepKind::Backtrack => Position {
-            length,
+            used,
             propagations: p.propagations,
             decisions: p.decisions,
             backtracks: p.backtracks + 1,
@@ -111,9 +111,9 @@ fn ends(list: &[i32], values: &[u8]) -> End
 pub fn run(list: &[i32], values: &mut [u8], trail: &mut [i32], start: Position, budget: u64) -> Ran
     requires { ⌜ Fine (length (now values)) (now list) ⌝ }
     requires { ⌜ length (now values) ≤ lastVariable ⌝ }
-    requires { ⌜ SomeStored (length (now values)) (now values) (now trail) (start .length) ⌝ }
+    requires { ⌜ SomeStored (length (now values)) (now values) (now trail) (start .used) ⌝ }
     requires { ⌜ total (tallyOf start) + budget < 2 ^ 64 ⌝ }
-    ensures { λ r. ⌜ ((state : State) → Stored (length (now (values .entry))) state (now (values .entry)) (now (trail .entry)) (start .length)
+    ensures { λ r. ⌜ ((state : State) → Stored (length (now (values .entry))) state (now (values .entry)) (now (trail .entry)) (start .used)
         → Ended (length (now (values .entry)))
         (run (clausesOf (now (list .entry))) (length (now (values .entry))) budget (tallyOf start) state)
         r (now (values .exit)) (now (trail .exit))) ⌝ }
@@ -121,8 +121,8 @@ pub fn run(list: &[i32], values: &mut [u8], trail: &mut [i32], start: Position, 
     let mut p = start;
     let mut left = budget;
     while left > 0 {
-        let at = p.length;
-        let moved = step(list, values, trail, at);
+        let used = p.used;
+        let moved = step(list, values, trail, used);
         match moved {
             Moved::NoneLeft => {
                 return Ran {
@@ -145,8 +145,8 @@ pub fn run(list: &[i32], values: &mut [u8], trail: &mut [i32], start: Position, 
     let end = ends(list, values);
     match end {
         End::None => {
-            let at = p.length;
-            back(values, trail, at);
+            let used = p.used;
+            back(values, trail, used);
             Ran {
                 end: End::None,
                 position: emptied(p),
@@ -165,10 +165,10 @@ pub fn run(list: &[i32], values: &mut [u8], trail: &mut [i32], start: Position, 
 
 // The position of a fresh state, with the steps done.
 fn emptied(p: Position) -> Position
-    ensures { λ r. ⌜ (r .length ≡ 0) × (tallyOf r ≡ tallyOf p) ⌝ }
+    ensures { λ r. ⌜ (r .used ≡ 0) × (tallyOf r ≡ tallyOf p) ⌝ }
 {
     Position {
-        length: 0,
+        used: 0,
         propagations: p.propagations,
         decisions: p.decisions,
         backtracks: p.backtracks,

@@ -1,4 +1,4 @@
-// The step rules over values and trail, whose first `length` words are in use.
+// The step rules over values and trail, whose first `used` words are in use.
 ghost use mathlib.Core.Path.{_≡_};
 ghost use mathlib.Core.Option.{Option·getD};
 ghost use Prim.Native.Nat.{_<_, _≤_};
@@ -18,7 +18,7 @@ pub enum StepKind {
     Backtrack,
 }
 
-// What a step came to: an end, or its kind and the new length.
+// What a step came to: an end, or its kind and the words of the trail then in use.
 pub enum Moved {
     NoneLeft,
     AllSet,
@@ -39,14 +39,14 @@ pub fn lowest_open(values: &[u8]) -> usize
     i
 }
 
-// Opens all back to the latest decision, which becomes true. The new length, 0 where there is no decision.
-pub fn back(values: &mut [u8], trail: &mut [i32], length: usize) -> usize
-    requires { ⌜ lib.ListN.length (now values) ≤ lastVariable ⌝ }
-    requires { ⌜ SomeStored (lib.ListN.length (now values)) (now values) (now trail) length ⌝ }
-    ensures { λ r. ⌜ ((state : State) → Stored (lib.ListN.length (now (values .entry))) state (now (values .entry)) (now (trail .entry)) length
-        → Turned (lib.ListN.length (now (values .entry))) (turn state) r (now (values .exit)) (now (trail .exit))) ⌝ }
+// Opens all back to the latest decision, which becomes true. The words of the trail then in use, 0 where there is no decision.
+pub fn back(values: &mut [u8], trail: &mut [i32], used: usize) -> usize
+    requires { ⌜ length (now values) ≤ lastVariable ⌝ }
+    requires { ⌜ SomeStored (length (now values)) (now values) (now trail) used ⌝ }
+    ensures { λ r. ⌜ ((state : State) → Stored (length (now (values .entry))) state (now (values .entry)) (now (trail .entry)) used
+        → Turned (length (now (values .entry))) (turn state) r (now (values .exit)) (now (trail .exit))) ⌝ }
 {
-    let mut n = length;
+    let mut n = used;
     while n > 0 {
         let top = n - 1;
         let l = trail[top];
@@ -64,12 +64,12 @@ pub fn back(values: &mut [u8], trail: &mut [i32], length: usize) -> usize
 }
 
 // A literal is set true, and goes on top of the trail.
-fn propagate(values: &mut [u8], trail: &mut [i32], length: usize, l: i32)
-    requires { ⌜ lib.ListN.length (now values) ≤ lastVariable ⌝ }
-    requires { ⌜ InRange (lib.ListN.length (now values)) l ⌝ }
-    requires { ⌜ length < lib.ListN.length (now trail) ⌝ }
+fn propagate(values: &mut [u8], trail: &mut [i32], used: usize, l: i32)
+    requires { ⌜ length (now values) ≤ lastVariable ⌝ }
+    requires { ⌜ InRange (length (now values)) l ⌝ }
+    requires { ⌜ used < length (now trail) ⌝ }
     ensures { λ r. ⌜ now (values .exit) ≡ set (now (values .entry)) (placeOf l) (byteOf (propagated l)) ⌝ }
-    ensures { λ r. ⌜ now (trail .exit) ≡ set (now (trail .entry)) length l ⌝ }
+    ensures { λ r. ⌜ now (trail .exit) ≡ set (now (trail .entry)) used l ⌝ }
 {
     let at = literal::place(l);
     let mut b: u8 = 0;
@@ -77,51 +77,51 @@ fn propagate(values: &mut [u8], trail: &mut [i32], length: usize, l: i32)
         b = 1;
     }
     values[at] = b;
-    trail[length] = l;
+    trail[used] = l;
 }
 
 // The variable at a place is made false by decision, and goes on top of the trail.
-fn decide(values: &mut [u8], trail: &mut [i32], length: usize, i: usize)
-    requires { ⌜ (i < lib.ListN.length (now values)) × (i < lastVariable) ⌝ }
-    requires { ⌜ length < lib.ListN.length (now trail) ⌝ }
+fn decide(values: &mut [u8], trail: &mut [i32], used: usize, i: usize)
+    requires { ⌜ (i < length (now values)) × (i < lastVariable) ⌝ }
+    requires { ⌜ used < length (now trail) ⌝ }
     ensures { λ r. ⌜ now (values .exit) ≡ set (now (values .entry)) i 3 ⌝ }
-    ensures { λ r. ⌜ now (trail .exit) ≡ set (now (trail .entry)) length (negsuc i) ⌝ }
+    ensures { λ r. ⌜ now (trail .exit) ≡ set (now (trail .entry)) used (negsuc i) ⌝ }
 {
     let l = literal::positive(i as u32 + 1);
     values[i] = 3;
-    trail[length] = literal::opposite(l);
+    trail[used] = literal::opposite(l);
 }
 
 // One step of the rules, or their end.
-pub fn step(list: &[i32], values: &mut [u8], trail: &mut [i32], length: usize) -> Moved
-    requires { ⌜ Fine (lib.ListN.length (now values)) (now list) ⌝ }
-    requires { ⌜ lib.ListN.length (now values) ≤ lastVariable ⌝ }
-    requires { ⌜ SomeStored (lib.ListN.length (now values)) (now values) (now trail) length ⌝ }
-    ensures { λ r. ⌜ ((state : State) → Stored (lib.ListN.length (now (values .entry))) state (now (values .entry)) (now (trail .entry)) length
-        → Stepped (lib.ListN.length (now (values .entry))) state
-        (next (clausesOf (now (list .entry))) (lib.ListN.length (now (values .entry))) state)
+pub fn step(list: &[i32], values: &mut [u8], trail: &mut [i32], used: usize) -> Moved
+    requires { ⌜ Fine (length (now values)) (now list) ⌝ }
+    requires { ⌜ length (now values) ≤ lastVariable ⌝ }
+    requires { ⌜ SomeStored (length (now values)) (now values) (now trail) used ⌝ }
+    ensures { λ r. ⌜ ((state : State) → Stored (length (now (values .entry))) state (now (values .entry)) (now (trail .entry)) used
+        → Stepped (length (now (values .entry))) state
+        (next (clausesOf (now (list .entry))) (length (now (values .entry))) state)
         r (now (values .exit)) (now (trail .exit))) ⌝ }
 {
     let seen = scan(list, values);
     match seen {
         Seen::Conflict => {
-            let n = back(values, trail, length);
+            let n = back(values, trail, used);
             if n == 0 {
                 return Moved::NoneLeft;
             }
             Moved::To(StepKind::Backtrack, n)
         }
         Seen::UnitClause(l) => {
-            propagate(values, trail, length, l);
-            Moved::To(StepKind::Propagation, length + 1)
+            propagate(values, trail, used, l);
+            Moved::To(StepKind::Propagation, used + 1)
         }
         Seen::Neither => {
             let i = lowest_open(values);
             if i == values.len() {
                 return Moved::AllSet;
             }
-            decide(values, trail, length, i);
-            Moved::To(StepKind::Decision, length + 1)
+            decide(values, trail, used, i);
+            Moved::To(StepKind::Decision, used + 1)
         }
     }
 }

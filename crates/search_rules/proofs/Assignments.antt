@@ -80,10 +80,6 @@ module _ (values : List ℕ) (a : Assignment) (agrees : (i : ℕ) → Agrees (tr
   unfolding Agrees
   falsified-false l e = rw e at (literal-agrees l)
 
-  pub satisfied-true : (l : ℤ) → literal values l ≡ satisfied → holds a l ≡ true
-  unfolding Agrees
-  satisfied-true l e = rw e at (literal-agrees l)
-
   only-false : (l : ℤ) → isFalsified (literal values l) ≡ true → holds a l ≡ false
   only-false l e = by (literal values l) refl e
     where

@@ -1,18 +1,18 @@
--- What every step keeps: each literal that is no decision follows from the clauses and the literals before it,
--- each literal's variable was open when it was set, and each decision took the lowest open variable.
+-- What every step keeps: each literal that is no decision follows from the clauses and the literals before it.
+-- And what a unit clause gives: its literal's variable is open.
 use mathlib.Core.Path.{_≡_, refl, _∙_}
 use mathlib.Core.Bool.{Bool, true, false, cond}
 use mathlib.Core.List.{List, [], _∷_}
 use mathlib.Core.Option.{Option, none, some}
-use Prim.Native.Nat.{ℕ, zero, suc, _<_}
+use Prim.Native.Nat.{ℕ, zero, suc}
 use native.Mathlib.Omega.{arith}
 use lib.IntN.{ℤ, pos, negsuc}
 use lib.ListN.{length, getD, length-set, length-replicate}
 use Rattle.prelude.specs.Tests.{all, any}
-use Rattle.search_rules.specs.Inner.{InRange, AllIn, WasOpen}
+use Rattle.search_rules.specs.Inner.{InRange, AllIn}
 use Rattle.search_rules.specs.Rules.{Truth, falsified, satisfied, unassigned, truthOf, negated, literal, openOf, only, unitOf}
 use Rattle.search_rules.specs.Rules.{firstUnit, isSatisfied, propagated, decided, State, wordOf, placeOf, valuesOf}
-use Rattle.search_rules.specs.Rules.{Kind, backtrack, Next, endNone, endFound, step, turn, next}
+use Rattle.search_rules.specs.Rules.{Kind, Next, endNone, endFound, step, turn, next}
 use Rattle.search_rules.proofs.Booleans.{not-false-true}
 use Rattle.search_rules.proofs.Assignments.{Assignment, holds, Model, Has, Follows, values-agree, conflict-not, first-unit-holds}
 use Rattle.search_rules.proofs.Ranges.{Ranged}
@@ -55,20 +55,7 @@ module _ (clauses : List (List ℤ)) (v : ℕ) (a : Assignment) (model : Model a
   unfolding Keeps
   follows-not-none state f e = rw e at (step-keeps state (next clauses v state) (view clauses v state) f)
 
--- each decision took the lowest open variable
-unfoldable pub LowestFirst : ℕ → State → Type 0
-LowestFirst v [] = Unit {0}
-LowestFirst v (propagated l ∷ state) = LowestFirst v state
-LowestFirst v (decided i ∷ state) = ((j : ℕ) → j < i → getD (valuesOf v state) j 2 ≡ 2 → ⊥) × LowestFirst v state
-
-pub record Orderly (v : ℕ) (state : State) : Type 0 where
-  pub was-open : WasOpen v state
-  pub lowest : LowestFirst v state
-
-pub record Invariant (clauses : List (List ℤ)) (v : ℕ) (state : State) : Type 0 where
-  pub follows : (a : Assignment) → Model a clauses → Follows a state
-  pub orderly : Orderly v state
-
+-- an open literal's variable has no value
 open-two : (b : ℕ) → truthOf b ≡ unassigned → b ≡ 2
 unfolding truthOf
 open-two zero e = cc
@@ -136,40 +123,3 @@ module _ (v : ℕ) (values : List ℕ) where
           → elim u as (λ _. Option ℤ) [ none ↦ firstUnit values clauses | some l ↦ some l ] ≡ some k → OpenIn v values k
       by none d p e = p e
       by (some l) d p e = unit-open k clause (h .0) (d ∙ e)
-
-turn-orderly : (v : ℕ) (state s : State) → Orderly v state → turn state ≡ step backtrack s → Orderly v s
-unfolding turn WasOpen LowestFirst wordOf placeOf
-turn-orderly v [] s o e = absurd (let z : _≡_ {A = ℕ} 0 1 = cc in omega arith)
-turn-orderly v (propagated l ∷ state) s o e = turn-orderly v state s (record { was-open = o .was-open .2; lowest = o .lowest }) e
-turn-orderly v (decided j ∷ state) s o e =
-    let q : propagated (pos (suc j)) ∷ state ≡ s = cc in
-    rw q at (let r : Orderly v (propagated (pos (suc j)) ∷ state) = record { was-open = o .was-open; lowest = o .lowest .1 } in r)
-
-module _ (clauses : List (List ℤ)) (v : ℕ) (ranged : Ranged v clauses) where
-  orderly-step : (state : State) (kind : Kind) (s : State) → Orderly v state → (x : Next) → Step clauses v state x → x ≡ step kind s
-      → Orderly v s
-  unfolding WasOpen LowestFirst wordOf placeOf
-  orderly-step state kind s o x (ends-none d c t) e = absurd (let z : _≡_ {A = ℕ} 0 1 = cc in omega arith)
-  orderly-step state kind s o x (ends-found d c u f) e = absurd (let z : _≡_ {A = ℕ} 0 1 = cc in omega arith)
-  orderly-step state kind s o x (backtracks {s = r} d c t) e = let q : r ≡ s = cc in rw q at (turn-orderly v state r o t)
-  orderly-step state kind s o x (propagates {l = l} d c u) e =
-      let q : propagated l ∷ state ≡ s = cc in
-      let f = first-unit-open v (valuesOf v state) l clauses ranged u in
-      rw q at (let r : Orderly v (propagated l ∷ state) = record { was-open = (f .0, f .1, o .was-open); lowest = o .lowest } in r)
-  orderly-step state kind s o x (decides {i = j} d c u l) e =
-      let q : decided j ∷ state ≡ s = cc in
-      let w = l .within in
-      let n = length-values v state in
-      rw q at (let r : Orderly v (decided j ∷ state) =
-      record { was-open = ((omega arith, omega arith), l .is-open, o .was-open); lowest = (l .below, o .lowest) } in r)
-
-  pub invariant-keeps : (state : State) (kind : Kind) (s : State) → Invariant clauses v state → next clauses v state ≡ step kind s
-      → Invariant clauses v s
-  invariant-keeps state kind s i e = record {
-    follows = λ a h. follows-keeps clauses v a h state kind s (i .follows a h) e;
-    orderly = orderly-step state kind s (i .orderly) (next clauses v state) (view clauses v state) e;
-  }
-
-pub invariant-fresh : (clauses : List (List ℤ)) (v : ℕ) → Invariant clauses v []
-unfolding WasOpen LowestFirst Follows
-invariant-fresh clauses v = record { follows = λ a h. tt; orderly = record { was-open = tt; lowest = tt } }

@@ -56,11 +56,6 @@ module _ (vs : List ℕ) where
   meets-several [] = refl
   meets-several (l ∷ ls) = meets-several ls
 
-  meets-held : (ls : List ℤ) → meets isHeld ls ≡ isHeld
-  unfolding meets meet
-  meets-held [] = refl
-  meets-held (l ∷ ls) = meets-held ls
-
   meets-sole : (k : ℤ) (ls : List ℤ) → meets (sole k) ls ≡ cond (all (sameLiteral k) ls) (sole k) several
   unfolding meets meet all
   meets-sole k [] = refl

@@ -1,4 +1,4 @@
-mod Loops
+pub mod Loops
 mod FillingLaws
 mod Visits
 mod Verdicts

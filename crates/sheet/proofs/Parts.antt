@@ -4,7 +4,7 @@ use mathlib.Core.List.{List}
 use Prim.Native.Nat.{ℕ, _+_, _-_}
 use native.Mathlib.Omega.{arith}
 use lib.ListN.{take, drop}
-use Rattle.sheet_rules.specs.Blocks.{lengthAt, blockAt, after, variablesHead, relationsHead, nodesHead, blocksEnd, fourBlocks, sheetOf}
+use Rattle.sheet_rules.specs.Blocks.{lengthAt, blockAt, after, relationsHead, nodesHead, blocksEnd, fourBlocks, sheetOf}
 
 module _ (s : List ℕ) where
   part-is : (head end : ℕ) → end ≡ after s head → take (end - (head + 2)) (drop (head + 2) s) ≡ blockAt s head

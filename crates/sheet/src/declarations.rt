@@ -1,6 +1,5 @@
 // The readers of sorts, variables and relations: numbers 4 and 5.
 ghost use mathlib.Core.Path.{_≡_};
-ghost use mathlib.Core.Bool.{cond};
 ghost use Prim.Native.Nat.{_<_, _≤_, _/_};
 ghost use lib.Dec.{ltb};
 ghost use lib.ListN.{length};
@@ -8,6 +7,7 @@ ghost use Rattle.prelude.specs.Tests.{each, between};
 ghost use Rattle.sheet_rules.specs.Blocks as blocks;
 ghost use Rattle.sheet_rules.specs.Reading.{relationDeclared};
 use super::bytes::byte;
+use super::bytes::field;
 use prelude::both;
 use prelude::choose;
 use prelude::within;
@@ -44,10 +44,10 @@ fn relation_fine(relations: &[u8], sorts: usize, r: usize) -> bool
     ensures { λ f. ⌜ ((sheet : blocks.Sheet) → sheet .relations ≡ now (relations .entry) → length (sheet .sorts) ≡ sorts
         → f ≡ relationDeclared sheet r) ⌝ }
 {
-    let columns = byte(relations, 4 * r);
-    let mark = byte(relations, 4 * r + 1);
-    let first = byte(relations, 4 * r + 2);
-    let second = byte(relations, 4 * r + 3);
+    let columns = field(relations, 4, r, 0);
+    let mark = field(relations, 4, r, 1);
+    let first = field(relations, 4, r, 2);
+    let second = field(relations, 4, r, 3);
     let last = choose(columns == 1, second == 0, second < sorts);
     both(
         within(1, 2, columns),

@@ -8,7 +8,7 @@ ghost use Rattle.prelude.specs.Tests.{between};
 ghost use Rattle.sheet_rules.specs.Blocks as blocks;
 ghost use Rattle.sheet_rules.specs.Reading as spec;
 ghost use Rattle.sheet.specs.Answers.{answerOf};
-use super::Reading;
+use super::answer::Reading;
 use super::declarations::relations_fine;
 use super::declarations::scopes_fine;
 use super::declarations::variables_fine;

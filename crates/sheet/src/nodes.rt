@@ -6,7 +6,7 @@ ghost use Rattle.prelude.specs.Tests.{each};
 ghost use Rattle.sheet_rules.specs.Blocks as blocks;
 ghost use Rattle.sheet_rules.specs.Tables as tables;
 ghost use Rattle.sheet_rules.specs.Reading.{fieldFine, nodeFine};
-use super::bytes::byte;
+use super::bytes::field;
 use kinds::Field;
 use kinds::is_known;
 use kinds::row_of;
@@ -62,12 +62,12 @@ fn node_fine(nodes: &[u8], sorts: usize, variables: usize, relations: usize, v: 
     ensures { λ r. ⌜ ((sheet : blocks.Sheet) → sheet .nodes ≡ now (nodes .entry) → blocks.sortCount sheet ≡ sorts
         → blocks.variableCount sheet ≡ variables → blocks.relationCount sheet ≡ relations → r ≡ nodeFine sheet v) ⌝ }
 {
-    let row = row_of(byte(nodes, 3 * v));
+    let row = row_of(field(nodes, 3, v, 0));
     let a = row.a;
     let b = row.b;
     let rule = row.rule;
-    let fine_a = field_fine(a, sorts, variables, relations, v, byte(nodes, 3 * v + 1));
-    let fine_b = field_fine(b, sorts, variables, relations, v, byte(nodes, 3 * v + 2));
+    let fine_a = field_fine(a, sorts, variables, relations, v, field(nodes, 3, v, 1));
+    let fine_b = field_fine(b, sorts, variables, relations, v, field(nodes, 3, v, 2));
     both(is_known(rule), both(fine_a, fine_b))
 }
 
@@ -75,7 +75,8 @@ fn node_fine(nodes: &[u8], sorts: usize, variables: usize, relations: usize, v: 
 pub(crate) fn nodes_fine(nodes: &[u8], sorts: usize, variables: usize, relations: usize) -> bool
     requires { ⌜ length (now nodes) / 3 ≤ 200 ⌝ }
     ensures { λ r. ⌜ ((sheet : blocks.Sheet) → sheet .nodes ≡ now (nodes .entry) → blocks.sortCount sheet ≡ sorts
-        → blocks.variableCount sheet ≡ variables → blocks.relationCount sheet ≡ relations → r ≡ each (blocks.nodeCount sheet) (nodeFine sheet)) ⌝ }
+        → blocks.variableCount sheet ≡ variables → blocks.relationCount sheet ≡ relations
+        → r ≡ each (blocks.nodeCount sheet) (nodeFine sheet)) ⌝ }
 {
     let count = nodes.len() / 3;
     let mut fine = true;

@@ -9,6 +9,7 @@ ghost use Rattle.sheet_rules.specs.Tables as spec;
 ghost use Rattle.shapes.specs.Shapes.{isShaped};
 ghost use Rattle.sheet.specs.Filling.{Fills, capped as cap};
 use super::bytes::byte;
+use super::bytes::field;
 use super::nodes::is_node;
 use super::nodes::is_variable;
 use kinds::Row;
@@ -45,9 +46,9 @@ fn declared_shape(relations: &[u8], r: usize) -> Shape
     ensures { λ s. ⌜ ((sheet : blocks.Sheet) → sheet .relations ≡ now (relations .entry) → s ≡ spec.declaredShape sheet r) ⌝ }
 {
     shape_of(
-        byte(relations, 4 * r),
-        byte(relations, 4 * r + 2),
-        byte(relations, 4 * r + 3),
+        field(relations, 4, r, 0),
+        field(relations, 4, r, 2),
+        field(relations, 4, r, 3),
     )
 }
 
@@ -62,10 +63,10 @@ fn node_shape(
     ensures { λ r. ⌜ ((sheet : blocks.Sheet) → sheet .variables ≡ now (variables .entry) → sheet .relations ≡ now (relations .entry)
         → sheet .nodes ≡ now (nodes .entry) → r ≡ spec.shapeStep sheet v shapes) ⌝ }
 {
-    let row = row_of(byte(nodes, 3 * v));
+    let row = row_of(field(nodes, 3, v, 0));
     let rule = row.rule;
-    let a = byte(nodes, 3 * v + 1);
-    let b = byte(nodes, 3 * v + 2);
+    let a = field(nodes, 3, v, 1);
+    let b = field(nodes, 3, v, 2);
     let x = shape_at(shapes, a);
     let y = shape_at(shapes, b);
     shape_by(
@@ -126,9 +127,9 @@ fn free_in(nodes: &[u8], x: usize) -> [bool; 200]
     let mut free = [false; 200];
     let mut v: usize = 0;
     while v < count {
-        let row = row_of(byte(nodes, 3 * v));
-        let a = byte(nodes, 3 * v + 1);
-        let b = byte(nodes, 3 * v + 2);
+        let row = row_of(field(nodes, 3, v, 0));
+        let a = field(nodes, 3, v, 1);
+        let b = field(nodes, 3, v, 2);
         let p = flag_at(free, a);
         let q = flag_at(free, b);
         free[v] = free_by(x, row, a, p, q);
@@ -189,9 +190,9 @@ pub(crate) fn visits_of(sorts: &[u8], variables: &[u8], nodes: &[u8]) -> [u64; 2
     let mut visits = [0u64; 200];
     let mut v: usize = 0;
     while v < count {
-        let row = row_of(byte(nodes, 3 * v));
-        let a = byte(nodes, 3 * v + 1);
-        let b = byte(nodes, 3 * v + 2);
+        let row = row_of(field(nodes, 3, v, 0));
+        let a = field(nodes, 3, v, 1);
+        let b = field(nodes, 3, v, 2);
         let atoms = byte(sorts, byte(variables, a)) as u64;
         let p = count_at(visits, a);
         let q = count_at(visits, b);

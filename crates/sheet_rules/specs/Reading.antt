@@ -10,7 +10,8 @@ use Rattle.kinds.specs.declared.Field.the-variants.{Unused, Node, Relation, Var
 use Rattle.shapes.specs.declared.Shape.the-variants.{Ill}
 use Rattle.sheet_rules.specs.declared.Layout.{Layout}
 use Rattle.sheet_rules.specs.Blocks.{Sheet, byte, blocksEnd, sheetOf, sortCount, scope, variableCount, sortOf}
-use Rattle.sheet_rules.specs.Blocks.{relationCount, columns, multiplicity, firstSort, secondSort, nodeCount, kind, fieldA, fieldB, root}
+use Rattle.sheet_rules.specs.Blocks.{relationCount, columns, multiplicity, firstSort, secondSort, nodeCount, kind, fieldA, fieldB}
+use Rattle.sheet_rules.specs.Blocks.{root}
 use Rattle.kinds.specs.Kinds.{rowOf, isKnown}
 use Rattle.shapes.specs.Shapes.{isFormula, isShaped}
 use Rattle.sheet_rules.specs.Tables.{shapes, free, visits}

@@ -1,19 +1,17 @@
 -- What the functions of `find` have to ensure, case by case.
 use mathlib.Core.Path.{_≡_, refl, sym, ap, _∙_, subst₂}
-use mathlib.Core.Bool.{Bool, true, false}
+use mathlib.Core.Bool.{true, false}
 use mathlib.Core.Logic.{⊎-elim}
 use mathlib.Core.List.{List, _++_}
 use Prim.Native.Nat.{ℕ, suc, _≤_, _<_}
 use native.Mathlib.Omega.{arith}
-use lib.Dec.{leb}
 use lib.IntN.{ℤ}
-use lib.ListN.{length, take, drop}
+use lib.ListN.{take, drop}
 use borrow.Author.Tests.{le-leb, lt-leb}
 use Rattle.prelude.proofs.Laws.{decided}
 use Rattle.sheet_rules.specs.Blocks.{sheetOf}
 use Rattle.relational.specs.Cells.{cellCount}
 use Rattle.clauses.specs.declared.answer.Size.{Size}
-use Rattle.clauses_rules.specs.Whole.{variableTotal, wordTotal}
 use Rattle.clauses.specs.Answers as count
 use Rattle.clauses.specs.Answers.{countAnswer, listAfter}
 use Rattle.clauses.proofs.Answered.{count-fits}
@@ -21,7 +19,6 @@ use Rattle.clauses_rules.proofs.Match.{cells-variables}
 use Rattle.search.specs.Answers.{Answer, found, none, spent, refused, Outcome, outcome}
 use Rattle.solve_rules.specs.Answers.{instanceAfter}
 use Rattle.solve_rules.specs.Finding.{Slices, slices, Finding, decline, haveRoom, instanceFor, findIn, findAfter, finding}
-use Rattle.solve_rules.specs.Demand3.{FitsLimits, FitSlices}
 use Rattle.solve_rules.specs.Finds.{Finds}
 use Rattle.solve.specs.Private.{Fitting, Left}
 use Rattle.solve_rules.proofs.Demand3.{found-instance}
@@ -122,7 +119,8 @@ module _ (s : List ℕ) (lent : Slices) (budget : ℕ) (size : Size) (cells : �
     trail-is : trail ≡ over (listAfter s (lent .list)) .trail
     trail-is = trailed ∙ ap (λ o. o .trail) same
 
-    leaves : (instance : List ℕ) → instance ≡ findIn s v w lent budget .left .instance → Left s lent budget a (slices list values trail instance)
+    leaves : (instance : List ℕ) → instance ≡ findIn s v w lent budget .left .instance
+        → Left s lent budget a (slices list values trail instance)
     leaves instance e =
         record {
           answer-is = answer-is ∙ ap (λ x. x .answer) (sym runs);

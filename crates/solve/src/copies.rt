@@ -2,27 +2,12 @@
 ghost use mathlib.Core.Path.{_≡_};
 ghost use mathlib.Core.List.{_++_};
 ghost use Prim.Native.Nat.{suc, _≤_};
-ghost use lib.Dec.{leb};
 ghost use lib.ListN.{length, take, drop};
-ghost use Rattle.prelude.specs.Tests.{all};
 ghost use Rattle.solve.specs.Answers.{answerOf};
 ghost use Rattle.solve.specs.Private.{cellsAnswer, cellsLeft};
 use super::answer::ReadBack;
+use cells::are_bits;
 use refusal::Refusal;
-
-// Whether each value is 0 or 1.
-fn are_bits(values: &[u8]) -> bool
-    ensures { λ r. ⌜ r ≡ all (λ b. leb b 1) (now (values .entry)) ⌝ }
-{
-    let mut i = 0;
-    while i < values.len() {
-        if values[i] > 1 {
-            return false;
-        }
-        i += 1;
-    }
-    true
-}
 
 // The cells' values, which start at the second, to the front of the instance.
 pub(crate) fn copy_cells(cells: usize, values: &[u8], instance: &mut [u8])

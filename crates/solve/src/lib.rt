@@ -20,7 +20,7 @@ use copies::read_cells;
 use refusal::Refusal;
 use search::answer::Search;
 use search::search;
-use sheet::Reading;
+use sheet::answer::Reading;
 use sheet::read;
 
 pub mod answer; // answer.rt: what read-back answers
@@ -66,7 +66,8 @@ fn find_in(
     budget: u64,
 ) -> Search
     requires { ⌜ Fitting (now sheet) size cells (slices (now list) (now values) (now trail) (now instance)) ⌝ }
-    ensures { λ r. ⌜ Left (now (sheet .entry)) (slices (now (list .entry)) (now (values .entry)) (now (trail .entry)) (now (instance .entry))) budget
+    ensures { λ r. ⌜ Left (now (sheet .entry))
+        (slices (now (list .entry)) (now (values .entry)) (now (trail .entry)) (now (instance .entry))) budget
         (searched.answerOf r) (slices (now (list .exit)) (now (values .exit)) (now (trail .exit)) (now (instance .exit))) ⌝ }
 {
     let v = size.variables;
@@ -93,7 +94,8 @@ fn find_sized(
 ) -> Search
     requires { ⌜ countAnswer (now sheet) ≡ fits (size .variables) (size .clauses) (size .words) ⌝ }
     requires { ⌜ cells ≡ cellCount (sheetOf (now sheet)) ⌝ }
-    ensures { λ r. ⌜ Left (now (sheet .entry)) (slices (now (list .entry)) (now (values .entry)) (now (trail .entry)) (now (instance .entry))) budget
+    ensures { λ r. ⌜ Left (now (sheet .entry))
+        (slices (now (list .entry)) (now (values .entry)) (now (trail .entry)) (now (instance .entry))) budget
         (searched.answerOf r) (slices (now (list .exit)) (now (values .exit)) (now (trail .exit)) (now (instance .exit))) ⌝ }
 {
     let words = size.words;
@@ -127,7 +129,8 @@ fn find_accepted(
     budget: u64,
 ) -> Search
     requires { ⌜ cells ≡ cellCount (sheetOf (now sheet)) ⌝ }
-    ensures { λ r. ⌜ Left (now (sheet .entry)) (slices (now (list .entry)) (now (values .entry)) (now (trail .entry)) (now (instance .entry))) budget
+    ensures { λ r. ⌜ Left (now (sheet .entry))
+        (slices (now (list .entry)) (now (values .entry)) (now (trail .entry)) (now (instance .entry))) budget
         (searched.answerOf r) (slices (now (list .exit)) (now (values .exit)) (now (trail .exit)) (now (instance .exit))) ⌝ }
 {
     let counted = count(sheet);
@@ -148,10 +151,13 @@ pub fn find(
     budget: u64,
 ) -> Search
     ensures { λ r. ⌜ searched.answerOf r
-        ≡ finding (now (sheet .entry)) (slices (now (list .entry)) (now (values .entry)) (now (trail .entry)) (now (instance .entry))) budget .answer ⌝ }
+        ≡ finding (now (sheet .entry))
+        (slices (now (list .entry)) (now (values .entry)) (now (trail .entry)) (now (instance .entry))) budget .answer ⌝ }
     ensures { λ r. ⌜ slices (now (list .exit)) (now (values .exit)) (now (trail .exit)) (now (instance .exit))
-        ≡ finding (now (sheet .entry)) (slices (now (list .entry)) (now (values .entry)) (now (trail .entry)) (now (instance .entry))) budget .left ⌝ }
-    ensures { λ r. ⌜ Finds (now (sheet .entry)) (slices (now (list .entry)) (now (values .entry)) (now (trail .entry)) (now (instance .entry))) budget
+        ≡ finding (now (sheet .entry))
+        (slices (now (list .entry)) (now (values .entry)) (now (trail .entry)) (now (instance .entry))) budget .left ⌝ }
+    ensures { λ r. ⌜ Finds (now (sheet .entry))
+        (slices (now (list .entry)) (now (values .entry)) (now (trail .entry)) (now (instance .entry))) budget
         (searched.answerOf r) (slices (now (list .exit)) (now (values .exit)) (now (trail .exit)) (now (instance .exit))) ⌝ }
 {
     let reading = read(sheet);

@@ -1,9 +1,9 @@
 -- A call of `find` declines, and then the sheet or the slices do not fit, or it runs, and then they do.
-use mathlib.Core.Path.{_≡_, refl, sym, ap, _∙_, subst}
-use mathlib.Core.Bool.{Bool, true, false, cond, _&&_}
+use mathlib.Core.Path.{_≡_, refl, sym, ap, _∙_}
+use mathlib.Core.Bool.{Bool, true, false, cond}
 use mathlib.Core.Logic.{_⊎_, inl, inr, ⊎-elim}
 use mathlib.Core.List.{List}
-use Prim.Native.Nat.{ℕ, _≤_, _<_}
+use Prim.Native.Nat.{ℕ, _≤_}
 use native.Mathlib.Omega.{arith}
 use lib.Dec.{leb}
 use lib.ListN.{length}
@@ -16,7 +16,7 @@ use Rattle.clauses.specs.Answers as count
 use Rattle.clauses.specs.Answers.{countAnswer}
 use Rattle.clauses.proofs.Answered.{Counted, count-fits}
 use Rattle.search.specs.Answers.{found, refused}
-use Rattle.solve_rules.specs.Finding.{Slices, Finding, decline, haveRoom, findIn, findAfter, finding}
+use Rattle.solve_rules.specs.Finding.{Slices, decline, haveRoom, findIn, findAfter, finding}
 use Rattle.solve_rules.specs.Demand3.{FitsLimits, FitSlices}
 use Rattle.solve_rules.proofs.Calls.{counts}
 

@@ -1,6 +1,6 @@
 -- What the answer of a call of `find` means, for every sheet, all lent slices and every budget: over the definition that `find` ensures.
 use mathlib.Core.Path.{_≡_, refl, sym, ap, _∙_, subst}
-use mathlib.Core.Logic.{_⊎_, ⊎-elim}
+use mathlib.Core.Logic.{⊎-elim}
 use mathlib.Core.List.{List, []}
 use Prim.Native.Nat.{ℕ}
 use native.Mathlib.Omega.{arith}
@@ -10,10 +10,10 @@ use Rattle.clause_list.specs.ClauseList.{clausesOf}
 use Rattle.sheet_rules.specs.Blocks.{sheetOf}
 use Rattle.clauses_rules.specs.Whole.{words, variableTotal, wordTotal}
 use Rattle.search_rules.specs.Run.{EndedWithin}
-use Rattle.search.specs.Answers.{Answer, found, none, spent, refused, Outcome}
+use Rattle.search.specs.Answers.{found, Outcome}
 use Rattle.solve_rules.specs.Finding.{Slices, Finding, decline, instanceFor, findIn, finding}
 use Rattle.solve_rules.specs.Demand3.{FitsLimits, FitSlices, written, searched}
-use Rattle.solve_rules.specs.Finds.{Holds, NotEnded, Finds}
+use Rattle.solve_rules.specs.Finds.{Holds, Finds}
 use Rattle.solve_rules.proofs.Calls.{writes-words}
 use Rattle.solve_rules.proofs.Demand3.{answered}
 use Rattle.solve_rules.proofs.Findings.{Declined, Ran, called}

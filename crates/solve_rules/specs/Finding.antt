@@ -9,7 +9,7 @@ use Rattle.sheet_rules.specs.Blocks.{sheetOf}
 use Rattle.relational.specs.Cells.{cellCount}
 use Rattle.clauses.specs.Answers as count
 use Rattle.clauses.specs.Answers.{countAnswer, listAfter}
-use Rattle.search.specs.Answers.{Answer, found, none, spent, refused, Outcome, outcome}
+use Rattle.search.specs.Answers.{Answer, found, none, spent, refused, outcome}
 use Rattle.solve_rules.specs.Answers.{instanceAfter}
 
 -- the contents of the slices that a caller lends

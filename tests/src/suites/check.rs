@@ -2,7 +2,7 @@
 //! there are few, and bad instances.
 
 use super::{agree, covered, hex};
-use crate::{library, Outcome, Run};
+use crate::{Outcome, Run};
 use reference::brute::all;
 use reference::every_kind::{self, solution};
 use reference::meaning::check;

@@ -2,7 +2,7 @@
 //! word short, and longer with a known filling behind.
 
 use super::{agree, covered, hex};
-use crate::{library, Outcome, Run};
+use crate::{Outcome, Run};
 use reference::clauses::{count, write, Size};
 use reference::every_kind;
 use reference::random::Source;

@@ -1,53 +1,34 @@
-//! One module for each suite. A suite is on where `tests/run` names it.
+//! One module for each suite.
 
 use crate::{Outcome, Run};
 use std::fmt::Debug;
 
-#[cfg(on = "check")]
 mod check;
-#[cfg(on = "failures")]
 mod commands;
-#[cfg(on = "count")]
 mod count;
-#[cfg(on = "dimacs")]
 mod dimacs;
-#[cfg(on = "failures")]
 mod failures;
-#[cfg(any(on = "programs", on = "failures", on = "stack"))]
 mod programs;
-#[cfg(on = "read")]
 mod read;
-#[cfg(on = "search")]
 mod search;
-#[cfg(on = "solve")]
 mod solve;
 mod solvers;
-#[cfg(on = "stack")]
 mod stack;
 
 type Suite = fn(&Run) -> Outcome;
 
-/// The suites that are on, in order.
+/// The suites, in order.
 pub fn all() -> Vec<(&'static str, Suite)> {
     vec![
         ("solvers", solvers::run as Suite),
-        #[cfg(on = "read")]
         ("read", read::run),
-        #[cfg(on = "check")]
         ("check", check::run),
-        #[cfg(on = "count")]
         ("count", count::run),
-        #[cfg(on = "search")]
         ("search", search::run),
-        #[cfg(on = "dimacs")]
         ("dimacs", dimacs::run),
-        #[cfg(on = "solve")]
         ("solve", solve::run),
-        #[cfg(on = "programs")]
         ("programs", programs::run),
-        #[cfg(on = "failures")]
         ("failures", failures::run),
-        #[cfg(on = "stack")]
         ("stack", stack::run),
     ]
 }
@@ -58,7 +39,6 @@ pub fn hex(bytes: &[u8]) -> String {
 }
 
 /// A list as a mismatch shows it; a long one is cut, since the seed and the case give it anew.
-#[allow(dead_code)]
 pub fn shown(list: &[i32]) -> String {
     match list.len() {
         0..=300 => format!("{list:?}"),
@@ -67,7 +47,6 @@ pub fn shown(list: &[i32]) -> String {
 }
 
 /// Two answers that must be equal. `case` says what they were asked.
-#[allow(dead_code)]
 pub fn agree<T: PartialEq + Debug>(got: T, want: T, case: impl FnOnce() -> String) -> Result<(), String> {
     if got == want {
         Ok(())

@@ -2,7 +2,7 @@
 //! for every change of one byte in a few sheets.
 
 use super::{agree, covered, hex};
-use crate::{library, Outcome, Run};
+use crate::{Outcome, Run};
 use reference::every_kind;
 use reference::random::Source;
 use reference::random_damage::any;

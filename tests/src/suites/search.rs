@@ -3,7 +3,7 @@
 
 use super::{agree, covered, shown};
 use crate::solver::solve;
-use crate::{library, Outcome, Run};
+use crate::{Outcome, Run};
 use reference::clauses::translate;
 use reference::dimacs::text;
 use reference::random::Source;

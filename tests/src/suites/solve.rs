@@ -1,7 +1,7 @@
 //! Read-back and the whole run over lent slices, each slice compared to its end.
 
 use super::{agree, covered, hex};
-use crate::{library, Outcome, Run};
+use crate::{Outcome, Run};
 use reference::clauses::count;
 use reference::finder::{find, read_back};
 use reference::random::Source;

@@ -3,7 +3,6 @@
 
 use super::programs::clause_text;
 use super::{agree, hex};
-use crate::library;
 use crate::painted::depth_of;
 use crate::{Outcome, Run};
 use reference::deep::sheets;

@@ -1,6 +1,6 @@
 -- `are_bits` meets its contract. The loop's invariant: what is asked of all values is asked of those not yet passed.
-use mathlib.Core.Path.{_≡_, refl, sym, ap, _∙_}
-use Prim.Native.Nat.{ℕ, _≤_, _-_, _+_}
+use mathlib.Core.Path.{_≡_, refl, sym, _∙_}
+use Prim.Native.Nat.{ℕ, _≤_, _-_}
 use native.Mathlib.Omega.{arith}
 use lib.Dec.{leb}
 use lib.ListN.{length, getD, drop}
@@ -50,7 +50,8 @@ loop-again c =
 
 returns-2 : tie.Need-returns-2 Inv-loop μ-loop
 returns-2 c =
-    sym (c .before .loop .inv .1 ∙ all-from-end (λ (b : ℕ). leb b 1) (c .before .before .args .values .now) (c .before .loop .i) (c .loop-test .left))
+    sym (c .before .loop .inv .1 ∙ all-from-end (λ (b : ℕ). leb b 1) (c .before .before .args .values .now) (c .before .loop .i)
+    (c .loop-test .left))
 
 pub are-bits-spec : {M : Type 1} → statement M
 are-bits-spec =

@@ -1,5 +1,5 @@
 -- `declared` meets its contract.
-use mathlib.Core.Path.{_≡_, _∙_, ap}
+use mathlib.Core.Path.{_∙_, ap}
 use borrow.Author.Needs.{needs}
 use Prim.Native.Nat.{_+_, _*_}
 use Rattle.sheet_rules.specs.Blocks.{byte}

@@ -1,8 +1,7 @@
 -- `scope` meets its contract: a scope of an accepted sheet is at most 8.
-use mathlib.Core.Path.{_≡_, _∙_, ap}
-use native.Mathlib.Omega.{arith}
+use mathlib.Core.Path.{_∙_, ap}
 use borrow.Author.Needs.{needs}
-use Rattle.sheet_rules.specs.Blocks.{byte, sheetOf, scope}
+use Rattle.sheet_rules.specs.Blocks.{byte}
 use Rattle.sheet_rules.proofs.Acceptance.{accepted-facts}
 use Rattle.cells.proofs.scope.Statement.{statement}
 use Rattle.cells.proofs.scope.Tie as tie

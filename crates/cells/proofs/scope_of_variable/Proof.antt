@@ -1,5 +1,5 @@
 -- `scope_of_variable` meets its contract.
-use mathlib.Core.Path.{_≡_, _∙_, ap}
+use mathlib.Core.Path.{_∙_, ap}
 use borrow.Author.Needs.{needs}
 use Rattle.sheet_rules.specs.Blocks.{byte, sheetOf, scope}
 use Rattle.cells.proofs.scope_of_variable.Statement.{statement}

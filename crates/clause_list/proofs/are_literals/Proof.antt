@@ -81,15 +81,5 @@ returns-2 c =
 pub are-literals-spec : {M : Type 1} → statement M
 are-literals-spec =
     tie.close
-    (tie.spec
-    Inv-loop
-    μ-loop
-    loop-holds
-    mul-word
-    shared-slice-copy-out-word
-    is-literal-requires
-    returns
-    add-i
-    loop-less
-    loop-again
-    returns-2)
+    (tie.spec Inv-loop μ-loop loop-holds mul-word shared-slice-copy-out-word is-literal-requires returns add-i loop-less
+    loop-again returns-2)

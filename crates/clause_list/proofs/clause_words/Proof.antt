@@ -87,18 +87,5 @@ returns-5 c =
 pub clause-words-spec : {M : Type 1} → statement M
 clause-words-spec =
     tie.close
-    (tie.spec
-    returns
-    shared-slice-copy-out-head
-    count-requires
-    cast-count
-    returns-2
-    sub-if3
-    returns-3
-    add-end
-    sub-are-literals
-    part-are-literals-start
-    part-are-literals-end
-    are-literals-requires
-    returns-4
-    returns-5)
+    (tie.spec returns shared-slice-copy-out-head count-requires cast-count returns-2 sub-if3 returns-3 add-end
+    sub-are-literals part-are-literals-start part-are-literals-end are-literals-requires returns-4 returns-5)

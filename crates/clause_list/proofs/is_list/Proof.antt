@@ -106,20 +106,5 @@ returns-5 c =
 pub is-list-spec : {M : Type 1} → statement M
 is-list-spec =
     tie.close
-    (tie.spec
-    Inv-loop
-    μ-loop
-    returns
-    returns-2
-    returns-3
-    loop-holds
-    mul-clause-words
-    sub-clause-words
-    part-clause-words-start
-    part-clause-words-end
-    clause-words-requires
-    returns-4
-    add-at
-    loop-less
-    loop-again
-    returns-5)
+    (tie.spec Inv-loop μ-loop returns returns-2 returns-3 loop-holds mul-clause-words sub-clause-words
+    part-clause-words-start part-clause-words-end clause-words-requires returns-4 add-at loop-less loop-again returns-5)

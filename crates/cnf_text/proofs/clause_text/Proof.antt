@@ -104,17 +104,6 @@ returns-3 c =
 pub clause-text-spec : {M : Type 1} → statement M
 clause-text-spec =
     tie.close
-    (tie.spec
-    slice-aggregate-put-end
-    put-end-requires
-    returns
-    write-requires
-    enum-known-written
-    slice-aggregate-put-end-2
-    number-requires
-    cast-put-end
-    put-end-requires-2
-    enum-known-written-2
-    put-clauses-requires
-    returns-2
-    returns-3)
+    (tie.spec slice-aggregate-put-end put-end-requires returns write-requires enum-known-written
+    slice-aggregate-put-end-2 number-requires cast-put-end put-end-requires-2 enum-known-written-2 put-clauses-requires
+    returns-2 returns-3)

@@ -8,10 +8,10 @@ use borrow.Author.Needs.{needs}
 use denote.Enum.Declared.{tagOf}
 use Rattle.refusal.specs.Refusals.{numberOf}
 use Rattle.clause_list.proofs.Laws.{list-most-variables}
-use Rattle.dimacs.specs.declared.TextSize.{TextSize}
-use Rattle.dimacs.specs.declared.TextSize.the-variants.{Bytes, Refused}
+use Rattle.dimacs.specs.declared.answer.TextSize.{TextSize}
+use Rattle.dimacs.specs.declared.answer.TextSize.the-variants.{Bytes, Refused}
 use Rattle.dimacs.specs.Answers.{refused, answerOf}
-use Rattle.dimacs.proofs.TextSize.{the-type}
+use Rattle.dimacs.proofs.answer.TextSize.{the-type}
 use Rattle.cnf_text.proofs.Texts.{writes-text, not-refused}
 use Rattle.cnf_text.proofs.put_clauses.Statement.{statement}
 use Rattle.cnf_text.proofs.put_clauses.Tie as tie
@@ -71,13 +71,5 @@ returns-2 c =
 pub put-clauses-spec : {M : Type 1} → statement M
 put-clauses-spec =
     tie.close
-    (tie.spec
-    slice-aggregate-write
-    cast-write
-    write-requires
-    enum-known-written
-    enum-told
-    same-length
-    returns
-    same-length-2
-    returns-2)
+    (tie.spec slice-aggregate-write cast-write write-requires enum-known-written enum-told same-length returns
+    same-length-2 returns-2)

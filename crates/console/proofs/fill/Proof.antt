@@ -81,18 +81,5 @@ returns-2 c = counts _ _ (c .before .loop .inv .0)
 pub fill-spec : {M : Type 1} → statement M
 fill-spec =
     tie.close
-    (tie.spec
-    Inv-loop
-    μ-loop
-    loop-holds
-    sub-read-some
-    part-read-some-start
-    part-read-some-end
-    read-some-requires
-    same-length
-    returns
-    add-done
-    loop-less
-    loop-again
-    same-length-2
-    returns-2)
+    (tie.spec Inv-loop μ-loop loop-holds sub-read-some part-read-some-start part-read-some-end read-some-requires
+    same-length returns add-done loop-less loop-again same-length-2 returns-2)

@@ -84,17 +84,5 @@ returns c =
 pub clause-count-spec : {M : Type 1} → statement M
 clause-count-spec =
     tie.close
-    (tie.spec
-    Inv-loop
-    μ-loop
-    loop-holds
-    mul-head
-    shared-slice-copy-out-head
-    count-requires
-    cast-i
-    add-i
-    add-i-2
-    add-clauses
-    loop-less
-    loop-again
-    returns)
+    (tie.spec Inv-loop μ-loop loop-holds mul-head shared-slice-copy-out-head count-requires cast-i add-i add-i-2
+    add-clauses loop-less loop-again returns)

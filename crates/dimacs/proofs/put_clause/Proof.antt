@@ -119,21 +119,5 @@ same-length c = put-length (returns c)
 pub put-clause-spec : {M : Type 1} → statement M
 put-clause-spec =
     tie.close
-    (tie.spec
-    Inv-loop
-    μ-loop
-    loop-holds
-    mul-l
-    shared-slice-copy-out-l
-    put-literal-requires
-    slice-write-text
-    add-end
-    add-i
-    loop-less
-    loop-again
-    slice-write-text-2
-    add-text
-    slice-write-text-3
-    add-result
-    same-length
-    returns)
+    (tie.spec Inv-loop μ-loop loop-holds mul-l shared-slice-copy-out-l put-literal-requires slice-write-text add-end
+    add-i loop-less loop-again slice-write-text-2 add-text slice-write-text-3 add-result same-length returns)

@@ -132,22 +132,6 @@ same-length c = put-length (returns c)
 pub put-clauses-spec : {M : Type 1} → statement M
 put-clauses-spec =
     tie.close
-    (tie.spec
-    Inv-loop
-    μ-loop
-    loop-holds
-    mul-head
-    shared-slice-copy-out-head
-    add-first
-    count-requires
-    cast-next
-    add-next
-    mul-put-clause
-    sub-put-clause
-    part-put-clause-start
-    part-put-clause-end
-    put-clause-requires
-    loop-less
-    loop-again
-    same-length
-    returns)
+    (tie.spec Inv-loop μ-loop loop-holds mul-head shared-slice-copy-out-head add-first count-requires cast-next add-next
+    mul-put-clause sub-put-clause part-put-clause-start part-put-clause-end put-clause-requires loop-less loop-again
+    same-length returns)

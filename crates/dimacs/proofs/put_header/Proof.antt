@@ -95,14 +95,5 @@ same-length c = put-length (returns c)
 pub put-header-spec : {M : Type 1} → statement M
 put-header-spec =
     tie.close
-    (tie.spec
-    slice-aggregate-put-bytes
-    put-bytes-requires
-    put-decimal-requires
-    slice-write-text
-    add-put-decimal
-    put-decimal-requires-2
-    slice-write-text-2
-    add-result
-    same-length
-    returns)
+    (tie.spec slice-aggregate-put-bytes put-bytes-requires put-decimal-requires slice-write-text add-put-decimal
+    put-decimal-requires-2 slice-write-text-2 add-result same-length returns)

@@ -72,15 +72,5 @@ returns-2 c =
 pub put-literal-spec : {M : Type 1} → statement M
 put-literal-spec =
     tie.close
-    (tie.spec
-    variable-requires
-    cast-n
-    is-positive-requires
-    put-decimal-requires
-    same-length
-    returns
-    slice-write-text
-    add-put-decimal
-    put-decimal-requires-2
-    same-length-2
-    returns-2)
+    (tie.spec variable-requires cast-n is-positive-requires put-decimal-requires same-length returns slice-write-text
+    add-put-decimal put-decimal-requires-2 same-length-2 returns-2)

@@ -118,14 +118,5 @@ returns-3 c =
 pub write-spec : {M : Type 1} → statement M
 write-spec =
     tie.close
-    (tie.spec
-    size-requires
-    enum-known-room
-    enum-told
-    returns
-    returns-2
-    clause-count-requires
-    put-header-requires
-    put-clauses-requires
-    same-length
-    returns-3)
+    (tie.spec size-requires enum-known-room enum-told returns returns-2 clause-count-requires put-header-requires
+    put-clauses-requires same-length returns-3)

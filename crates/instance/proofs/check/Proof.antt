@@ -1,4 +1,4 @@
--- Refused as reading refuses, else the check over the blocks.
+-- Refused as reading refuses, else the check over the accepted sheet.
 use mathlib.Core.Path.{sym, ap, _∙_}
 use Rattle.instance.proofs.Held.{declined, ensured}
 use Rattle.sheet.specs.Answers.{answerOf}

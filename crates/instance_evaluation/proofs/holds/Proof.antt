@@ -1,10 +1,12 @@
 -- The marks, and the root from any atoms.
 use mathlib.Core.Path.{_∙_}
 use native.Mathlib.Omega.{arith}
-use Rattle.sheet_rules.specs.Blocks.{fourBlocks}
+use Rattle.sheet_rules.specs.Blocks.{sheetOf}
 use Rattle.relational.specs.Trees.{rootTree}
 use Rattle.relational.specs.Evaluation.{holds}
+use Rattle.cells.proofs.Parts.{nodes-counted}
 use Rattle.nodes.proofs.Roots.{root-formula}
+use Rattle.instance_evaluation.proofs.Layouts.{facts-of}
 use Rattle.instance_evaluation.proofs.Steps.{root-truth}
 use borrow.Author.Needs.{needs}
 use Rattle.instance_evaluation.proofs.holds.Statement.{statement}
@@ -14,13 +16,14 @@ marks-hold-requires : tie.Need-marks-hold-requires
 marks-hold-requires c κs = search needs
 
 sub-root : tie.Need-sub-root
-sub-root c = omega (arith, c .before .before .before .before .before .before .before .pre .facts .counts .some-nodes)
+sub-root c =
+    let s = c .before .before .before .before .before .before in
+    omega (arith, nodes-counted _ _ (s .pre .taken), facts-of (s .pre) .counts .some-nodes)
 
 formula-requires : tie.Need-formula-requires
 formula-requires c κs =
-    let s = c .before .before .before .before .before .before .before in
-    let sheet = fourBlocks (s .args .sorts .now) (s .args .variables .now) (s .args .relations .now) (s .args .nodes .now) in
-    (s .pre, root-formula sheet (s .pre .facts))
+    let s = c .before .before .before .before .before .before in
+    (s .pre, rw (nodes-counted _ _ (s .pre .taken)) (root-formula _ (facts-of (s .pre))))
 
 both-requires : tie.Need-both-requires
 both-requires c κs = search needs
@@ -28,10 +31,11 @@ both-requires c κs = search needs
 returns : tie.Need-returns
 unfolding holds
 returns c =
-    let s = c .before .before .before .before .before .before .before .before .before in
-    let sheet = fourBlocks (s .args .sorts .now) (s .args .variables .now) (s .args .relations .now) (s .args .nodes .now) in
-    let truth = c .before .formula .ensures ∙ root-truth sheet (s .args .instance .now) (rootTree sheet) in
-    rw (← c .before .before .marks-hold .ensures, ← truth) (c .both .ensures)
+    let s = c .before .before .before .before .before .before .before .before in
+    let sheet = sheetOf (s .args .sheet .now) in
+    let truth = (rw (nodes-counted _ _ (s .pre .taken)) at (c .before .formula .ensures))
+    ∙ root-truth sheet (s .args .instance .now) (rootTree sheet) in
+    rw (← c .before .before .before .before .marks-hold .ensures, ← truth) (c .both .ensures)
 
 pub holds-spec : {M : Type 1} → statement M
 holds-spec =

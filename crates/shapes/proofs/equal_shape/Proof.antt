@@ -30,10 +30,12 @@ returns-2 : tie.Need-returns-2
 returns-2 c = search needs
 
 returns-3 : tie.Need-returns-3
-returns-3 c = c .is-set-of .ensures ∙ sym (ap (λ x. equalShape x (c .before .before .before .before .args .y)) (c .before .before .x .given .1))
+returns-3 c =
+    c .is-set-of .ensures ∙ sym (ap (λ x. equalShape x (c .before .before .before .before .args .y)) (c .before .before .x .given .1))
 
 returns-4 : tie.Need-returns-4
-returns-4 c = c .is-relation-of .ensures ∙ sym (ap (λ x. equalShape x (c .before .before .before .before .args .y)) (c .before .before .x2 .given .1))
+returns-4 c =
+    c .is-relation-of .ensures ∙ sym (ap (λ x. equalShape x (c .before .before .before .before .args .y)) (c .before .before .x2 .given .1))
 
 pub equal-shape-spec : {M : Type 1} → statement M
 equal-shape-spec =

@@ -1,5 +1,5 @@
 -- Case by case as the definition.
-use mathlib.Core.Path.{_∙_, sym, ap}
+use mathlib.Core.Path.{sym, ap}
 use Rattle.shapes.specs.Shapes.{isSetOf}
 use borrow.Author.Needs.{needs}
 use Rattle.shapes.proofs.is_set_of.Statement.{statement}

@@ -30,10 +30,12 @@ returns-2 : tie.Need-returns-2
 returns-2 c = search needs
 
 returns-3 : tie.Need-returns-3
-returns-3 c = c .join-set .ensures ∙ sym (ap (λ x. joinShape x (c .before .before .before .before .args .y)) (c .before .before .x .given .1))
+returns-3 c =
+    c .join-set .ensures ∙ sym (ap (λ x. joinShape x (c .before .before .before .before .args .y)) (c .before .before .x .given .1))
 
 returns-4 : tie.Need-returns-4
-returns-4 c = c .join-relation .ensures ∙ sym (ap (λ x. joinShape x (c .before .before .before .before .args .y)) (c .before .before .x2 .given .1))
+returns-4 c =
+    c .join-relation .ensures ∙ sym (ap (λ x. joinShape x (c .before .before .before .before .args .y)) (c .before .before .x2 .given .1))
 
 pub join-shape-spec : {M : Type 1} → statement M
 join-shape-spec =

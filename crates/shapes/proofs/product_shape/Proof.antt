@@ -27,7 +27,8 @@ returns-2 : tie.Need-returns-2
 returns-2 c = search needs
 
 returns-3 : tie.Need-returns-3
-returns-3 c = c .product-set .ensures ∙ sym (ap (λ x. productShape x (c .before .before .before .before .args .y)) (c .before .before .x .given .1))
+returns-3 c =
+    c .product-set .ensures ∙ sym (ap (λ x. productShape x (c .before .before .before .before .args .y)) (c .before .before .x .given .1))
 
 returns-4 : tie.Need-returns-4
 returns-4 c = search needs

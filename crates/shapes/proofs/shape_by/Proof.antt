@@ -2,7 +2,8 @@
 use mathlib.Core.Path.{_≡_, refl}
 use Prim.Native.Nat.{ℕ}
 use Rattle.kinds.specs.declared.Rule.{Rule}
-use Rattle.kinds.specs.declared.Rule.the-variants.{Unknown, OfRelation, OfVariable, OfSort, OfIdentity, Same, Join, Product, Inverse, Closure, Comprehension, Comparison, Test, Negation, Connective, Quantifier}
+use Rattle.kinds.specs.declared.Rule.the-variants.{Unknown, OfRelation, OfVariable, OfSort, OfIdentity, Same, Join, Product, Inverse}
+use Rattle.kinds.specs.declared.Rule.the-variants.{Closure, Comprehension, Comparison, Test, Negation, Connective, Quantifier}
 use Rattle.shapes.specs.declared.Shape.{Shape}
 use Rattle.shapes.specs.Shapes.{shapeBy}
 use borrow.Author.Needs.{needs}
@@ -145,13 +146,16 @@ returns-7 : tie.Need-returns-7
 returns-7 c = by-rule (c .before .before .before .args .rule) Join _ _ _ _ _ _ (c .before .enum-told7 .given .1) (c .join-shape .ensures)
 
 returns-8 : tie.Need-returns-8
-returns-8 c = by-rule (c .before .before .before .args .rule) Product _ _ _ _ _ _ (c .before .enum-told8 .given .1) (c .product-shape .ensures)
+returns-8 c =
+    by-rule (c .before .before .before .args .rule) Product _ _ _ _ _ _ (c .before .enum-told8 .given .1) (c .product-shape .ensures)
 
 returns-9 : tie.Need-returns-9
-returns-9 c = by-rule (c .before .before .before .args .rule) Inverse _ _ _ _ _ _ (c .before .enum-told9 .given .1) (c .inverse-shape .ensures)
+returns-9 c =
+    by-rule (c .before .before .before .args .rule) Inverse _ _ _ _ _ _ (c .before .enum-told9 .given .1) (c .inverse-shape .ensures)
 
 returns-10 : tie.Need-returns-10
-returns-10 c = by-rule (c .before .before .before .args .rule) Closure _ _ _ _ _ _ (c .before .enum-told10 .given .1) (c .closure-shape .ensures)
+returns-10 c =
+    by-rule (c .before .before .before .args .rule) Closure _ _ _ _ _ _ (c .before .enum-told10 .given .1) (c .closure-shape .ensures)
 
 returns-11 : tie.Need-returns-11
 returns-11 c =
@@ -177,7 +181,8 @@ returns-15 : tie.Need-returns-15
 returns-15 c =
     by-rule (c .before .before .before .before .before .before .args .rule) Connective _ _ _ _ _ _
     (c .before .before .before .before .enum-told15 .given .1)
-    (rw (← c .before .before .before .is-formula3 .ensures, ← c .before .before .is-formula4 .ensures, ← c .before .both .ensures) (c .only6 .ensures))
+    (rw (← c .before .before .before .is-formula3 .ensures, ← c .before .before .is-formula4 .ensures, ← c .before .both .ensures)
+    (c .only6 .ensures))
 
 returns-16 : tie.Need-returns-16
 returns-16 c =

@@ -23,7 +23,8 @@ is-end : (c : tie.After-after4) → c .after4 .result ≡ blocksEnd (sheetAt (c 
 is-end c =
     end-is (sheetAt (c .before .before .before .before .before .before .before)) (c .before .before .before .after .result)
     (c .before .before .after2 .result) (c .before .after3 .result) (c .after4 .result)
-    (c .before .before .before .after .ensures .0) (c .before .before .after2 .ensures .0) (c .before .after3 .ensures .0) (c .after4 .ensures .0)
+    (c .before .before .before .after .ensures .0) (c .before .before .after2 .ensures .0) (c .before .after3 .ensures .0)
+    (c .after4 .ensures .0)
 
 byte-requires : tie.Need-byte-requires
 byte-requires c κs = search needs
@@ -50,14 +51,14 @@ returns-2 c =
     pass-true _ 1 _ _ (is-version (c .before .before .before .before .before))
     (refuse-false _ 2 _ (ne-eqb _ _ (λ q. c .if2 .taken (is-end (c .before) ∙ q))))
 
-add-a : tie.Need-add-a
-add-a c = search needs
+add-variables-start : tie.Need-add-variables-start
+add-variables-start c = search needs
 
-add-b : tie.Need-add-b
-add-b c = search needs
+add-relations-start : tie.Need-add-relations-start
+add-relations-start c = search needs
 
-add-c : tie.Need-add-c
-add-c c = search needs
+add-nodes-start : tie.Need-add-nodes-start
+add-nodes-start c = search needs
 
 sub-judge-blocks : tie.Need-sub-judge-blocks
 sub-judge-blocks c = search needs
@@ -120,9 +121,9 @@ read-spec =
     after-requires-3
     after-requires-4
     returns-2
-    add-a
-    add-b
-    add-c
+    add-variables-start
+    add-relations-start
+    add-nodes-start
     sub-judge-blocks
     part-judge-blocks-start
     part-judge-blocks-end

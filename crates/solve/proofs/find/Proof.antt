@@ -33,7 +33,8 @@ find-accepted-requires c κs = search needs
 -- what is ensured, from the definition
 ensured : (s : tie.Start) (answer : Answer) (left : Slices) → Left (s .args .sheet .now) (lent s) (s .args .budget) answer left
     → (answer ≡ finding (s .args .sheet .now) (lent s) (s .args .budget) .answer)
-    × ((left ≡ finding (s .args .sheet .now) (lent s) (s .args .budget) .left) × Finds (s .args .sheet .now) (lent s) (s .args .budget) answer left)
+    × ((left ≡ finding (s .args .sheet .now) (lent s) (s .args .budget) .left)
+    × Finds (s .args .sheet .now) (lent s) (s .args .budget) answer left)
 ensured s answer left l = (l .answer-is, (l .left-is, means (s .args .sheet .now) (lent s) (s .args .budget) answer left l))
 
 returns : tie.Need-returns
@@ -41,7 +42,8 @@ returns c =
     let s = c .before .before .before .before .before .before .before in
     ensured s _ (lent s)
     (counting-declines (s .args .sheet .now) (lent s) (s .args .budget) _
-    (counting-refuses (s .args .sheet .now) _ (sym (c .before .before .before .read .ensures) ∙ ap read.answerOf (c .before .reading .given .1))))
+    (counting-refuses (s .args .sheet .now) _
+    (sym (c .before .before .before .read .ensures) ∙ ap read.answerOf (c .before .reading .given .1))))
 
 same-length : tie.Need-same-length
 same-length c = search needs

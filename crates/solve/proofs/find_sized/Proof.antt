@@ -51,7 +51,8 @@ find-in-requires : tie.Need-find-in-requires
 find-in-requires c κs =
     let k = c .before .before .before .before in
     let s = k .before .before .before .before .before .before .before .before in
-    fitting (s .args .sheet .now) (lent s) (s .args .size) (s .args .cells) (s .pre .0) (s .pre .1) (k .before .before .before .before .if1 .left)
+    fitting (s .args .sheet .now) (lent s) (s .args .size) (s .args .cells) (s .pre .0) (s .pre .1)
+    (k .before .before .before .before .if1 .left)
     (record {
       list = k .before .before .before .if2 .left;
       values = k .before .before .if3 .left;

@@ -1,5 +1,5 @@
 -- `read_back` meets its contract: the refusals of reading are those of counting.
-use mathlib.Core.Path.{_≡_, sym, ap, _∙_}
+use mathlib.Core.Path.{sym, ap, _∙_}
 use borrow.Author.Needs.{needs}
 use Rattle.sheet.specs.Answers as read
 use Rattle.solve.proofs.ReadBacks.{refuses, counting-refuses}

@@ -1,66 +1,53 @@
 -- The relation's first cell, and its rows and columns.
-use mathlib.Core.Path.{refl}
 use native.Mathlib.Omega.{arith}
-use Rattle.sheet_rules.specs.Blocks.{fourBlocks}
+use Rattle.sheet_rules.specs.Blocks.{sheetOf}
 use Rattle.instance_matrix.proofs.Results.{gives-as}
-use Rattle.cells.proofs.Layouts.{scopes-of, first-most, count-most, width-most}
-use Rattle.instance_evaluation.proofs.Layouts.{set-or-relation, relation-leaf}
-use borrow.Author.Needs.{needs}
+use Rattle.instance_evaluation.proofs.Layouts.{facts-of, low, few, first-few, set-or-relation, relation-leaf}
 use Rattle.instance_evaluation.proofs.leaves.relation.Statement.{statement}
 use Rattle.instance_evaluation.proofs.leaves.relation.Tie as tie
 
 mul-first : tie.Need-mul-first
-mul-first c = omega (arith, c .before .before .before .before .before .before .pre .0 .facts .counts .few-relations)
+mul-first c =
+    let s = c .before .before .before in
+    omega (arith, few (s .pre .0) (s .pre .1))
 
 shared-slice-read-first : tie.Need-shared-slice-read-first
 shared-slice-read-first c =
-    let p = c .before .before .before .before .before .before .before .pre in
-    omega (arith, p .0 .cells .long, p .0 .facts .counts .few-relations)
-
-mul-byte : tie.Need-mul-byte
-mul-byte c = omega (arith, c .before .before .before .before .before .before .before .pre .0 .facts .counts .few-relations)
-
-byte-requires : tie.Need-byte-requires
-byte-requires c κs = search needs
+    let s = c .before .before .before .before in
+    omega (arith, low (s .pre .0) (s .pre .1))
 
 row-count-requires : tie.Need-row-count-requires
 row-count-requires c κs =
-    let p = c .before .before .before .before .before .before .before .before .pre in
-    omega (arith, p .0 .facts .counts .few-relations)
+    let s = c .before .before .before .before in
+    (s .pre .0 .taken, omega (arith, few (s .pre .0) (s .pre .1)))
 
 row-length-requires : tie.Need-row-length-requires
 row-length-requires c κs =
-    let p = c .before .before .before .before .before .before .before .before .before .pre in
-    omega (arith, p .0 .facts .counts .few-relations)
+    let s = c .before .before .before .before .before in
+    (s .pre .0 .taken, omega (arith, few (s .pre .0) (s .pre .1)))
+
+arity-requires : tie.Need-arity-requires
+arity-requires c κs =
+    let s = c .before .before .before .before .before .before in
+    (s .pre .0 .taken, omega (arith, few (s .pre .0) (s .pre .1)))
 
 given-requires : tie.Need-given-requires
 given-requires c κs =
-    let a = c .before .before .before .before .before .before .before .before .before .before in
-    let sheet = fourBlocks (a .args .sorts .now) (a .args .variables .now) (a .args .relations .now) (a .args .nodes .now) in
-    let r = a .args .r in
-    let scopes = scopes-of (a .pre .0 .facts) in
-    let rows = c .before .row-count in (
-      (
-        omega (
-          arith,
-          a .pre .0 .cells .first r (a .pre .1),
-          first-most sheet (a .pre .0 .facts) r,
-          a .pre .0 .facts .counts .few-relations,
-        ),
-        (count-most scopes r (rows .ensures) (c .row-length .ensures), width-most scopes r (rows .ensures) (c .row-length .ensures)),
-      ),
-      rw (c .before .before .byte .ensures .0, rows .ensures sheet refl refl)
-          (set-or-relation sheet r (a .pre .0 .facts .columns-two r (a .pre .1))),
+    let s = c .before .before .before .before .before .before .before in
+    let rows = c .before .before .row-count in
+    let r = s .args .r in (
+      (omega (arith, first-few (s .pre .0) (s .pre .1)), (rows .ensures .1, c .before .row-length .ensures .1)),
+      set-or-relation (sheetOf (s .args .sheet .now)) r (facts-of (s .pre .0) .columns-two r (s .pre .1)) (c .arity .ensures)
+          (rows .ensures .0),
     )
 
 returns : tie.Need-returns
 returns c env =
-    let a = c .before .before .before .before .before .before .before .before .before .before .before in
-    let sheet = fourBlocks (a .args .sorts .now) (a .args .variables .now) (a .args .relations .now) (a .args .nodes .now) in
+    let s = c .before .before .before .before .before .before .before .before in
+    let r = s .args .r in
     gives-as (c .given .result) _ _
-    (relation-leaf sheet (a .args .instance .now) (a .args .r) _ _ _ _ env (a .pre .0 .cells .first (a .args .r) (a .pre .1))
-    (c .before .before .before .byte .ensures .0) (c .before .before .row-count .ensures sheet refl refl)
-    (c .before .row-length .ensures sheet refl refl))
+    (relation-leaf (sheetOf (s .args .sheet .now)) r (s .args .instance .now) env (s .pre .0 .cells .first r (s .pre .1))
+    (c .before .arity .ensures) (c .before .before .before .row-count .ensures .0) (c .before .before .row-length .ensures .0))
     (c .given .ensures)
 
 pub relation-spec : {M : Type 1} → statement M
@@ -69,9 +56,8 @@ relation-spec =
     (tie.spec
     mul-first
     shared-slice-read-first
-    mul-byte
-    byte-requires
     row-count-requires
     row-length-requires
+    arity-requires
     given-requires
     returns)

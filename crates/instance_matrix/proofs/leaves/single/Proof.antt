@@ -31,7 +31,10 @@ loop-again : tie.Need-loop-again Inv-loop μ-loop
 loop-again c = let l = c .before .loop in (omega arith, filled-more (l .cells) _ (l .k) _ (l .inv .1) (omega arith) refl)
 
 returns : tie.Need-returns Inv-loop μ-loop
-returns c = let a = c .before .before in let l = c .before .loop in upto-law (a .args .n) _ (l .cells) (l .k) (omega arith) (a .pre) (l .inv .1)
+returns c =
+    let a = c .before .before in
+    let l = c .before .loop in
+    upto-law (a .args .n) _ (l .cells) (l .k) (omega arith) (a .pre) (l .inv .1)
 
 pub single-spec : {M : Type 1} → statement M
 single-spec =

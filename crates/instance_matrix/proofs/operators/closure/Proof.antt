@@ -36,7 +36,8 @@ loop-again c =
     let l = c .before .before .loop in
     let p = matrixOf (c .before .before .before .before .args .p) in (
       omega arith,
-      gives-as (c .round .result) _ _ (ap roundOf (l .inv .1 .is) ∙ ap (λ (n : ℕ). afterRounds n p) (sym (add-one (l .k)))) (c .round .ensures),
+      gives-as (c .round .result) _ _ (ap roundOf (l .inv .1 .is) ∙ ap (λ (n : ℕ). afterRounds n p) (sym (add-one (l .k))))
+          (c .round .ensures),
     )
 
 returns : tie.Need-returns Inv-loop μ-loop

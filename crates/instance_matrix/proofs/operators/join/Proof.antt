@@ -59,7 +59,10 @@ join-cell-requires c κs =
           w .ensures .0,
           (
             w .ensures .1,
-            (omega (arith, row-below (a .args .p .rows) (w .result) k h, a .pre .0 .few-rows), column-below (a .args .p .rows) (w .result) k h),
+            (
+              omega (arith, row-below (a .args .p .rows) (w .result) k h, a .pre .0 .few-rows),
+              column-below (a .args .p .rows) (w .result) k h,
+            ),
           ),
         ),
       ),

@@ -18,7 +18,8 @@ abbrev Inv-loop : tie.InvT-loop
 Inv-loop columns i j p q found₀ k₀ found k =
     (k ≤ p .columns)
     × (found
-    ≡ any both (map {B = Bool × Bool} (λ (m : ℕ). (getD (p .cells) (i * p .columns + m) false, getD (q .cells) (m * columns + j) false)) (upto k)))
+    ≡ any both
+    (map {B = Bool × Bool} (λ (m : ℕ). (getD (p .cells) (i * p .columns + m) false, getD (q .cells) (m * columns + j) false)) (upto k)))
 
 abbrev μ-loop : tie.MeasureT-loop
 μ-loop columns i j p q found₀ k₀ found k = p .columns - k
@@ -68,7 +69,8 @@ returns c =
     let a = c .before .before in
     let l = c .before .loop in
     let pair : ℕ → ℕ → Bool × Bool
-    = λ w m. (getD (a .args .t1 .cells) (a .args .i * a .args .t1 .columns + m) false, getD (a .args .t2 .cells) (m * w + a .args .j) false) in
+    = λ w m.
+    (getD (a .args .t1 .cells) (a .args .i * a .args .t1 .columns + m) false, getD (a .args .t2 .cells) (m * w + a .args .j) false) in
     let k : l .k ≡ a .args .t1 .columns = omega arith in
     rw (middle-cells (a .args .t1) (a .args .t2) (a .pre .0) (a .pre .1 .0) (a .args .i) (a .args .j), ← a .pre .1 .1 .0)
     (l .inv .1 ∙ ap (λ (n : ℕ). any both (map {B = Bool × Bool} (pair (a .args .columns)) (upto n))) k)

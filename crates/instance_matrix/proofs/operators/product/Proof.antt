@@ -74,7 +74,8 @@ loop-again : tie.Need-loop-again Inv-loop μ-loop
 loop-again c =
     let l = c .before .before .before .before .loop in (
       omega arith,
-      filled-more (l .cells) _ (l .k) (c .both .result) (l .inv .1) (omega (arith, c .before .before .before .before .before .size .ensures .1))
+      filled-more (l .cells) _ (l .k) (c .both .result) (l .inv .1)
+          (omega (arith, c .before .before .before .before .before .size .ensures .1))
           (c .both .ensures),
     )
 
@@ -82,7 +83,8 @@ returns : tie.Need-returns Inv-loop μ-loop
 returns c =
     let a = c .before .before .before in
     let l = c .before .loop in
-    product-law (a .args .t1) (a .args .t2) (a .pre .0) (a .pre .1) (l .cells) (l .k) (omega (arith, c .before .before .size .ensures .0)) (l .inv .1)
+    product-law (a .args .t1) (a .args .t2) (a .pre .0) (a .pre .1) (l .cells) (l .k)
+    (omega (arith, c .before .before .size .ensures .0)) (l .inv .1)
 
 pub product-spec : {M : Type 1} → statement M
 product-spec =

@@ -4,19 +4,20 @@ use Rattle.relational.specs.Evaluation.{valueBinary}
 use Rattle.relational.specs.Trees.{union}
 use Rattle.instance_matrix.specs.Values.{matrixOf}
 use Rattle.instance_matrix.proofs.Results.{gives-as}
+use borrow.Author.Needs.{needs}
 use Rattle.instance_matrix.proofs.operators.round.Statement.{statement}
 use Rattle.instance_matrix.proofs.operators.round.Tie as tie
 
 join-requires : tie.Need-join-requires
-join-requires c κs = (c .pre, c .pre)
+join-requires c κs = search needs
 
-combine-requires : tie.Need-combine-requires
-combine-requires c κs = (c .before .pre, c .join .ensures .fine)
+matched-requires : tie.Need-matched-requires
+matched-requires c κs = search needs
 
 returns : tie.Need-returns
 returns c =
     let p = matrixOf (c .before .before .args .p) in
-    gives-as (c .combine .result) _ _ (ap (λ m. valueBinary union p m) (c .before .join .ensures .is)) (c .combine .ensures)
+    gives-as (c .matched .result) _ _ (ap (λ m. valueBinary union p m) (c .before .join .ensures .is)) (c .matched .ensures)
 
 pub round-spec : {M : Type 1} → statement M
-round-spec = tie.close (tie.spec join-requires combine-requires returns)
+round-spec = tie.close (tie.spec join-requires matched-requires returns)

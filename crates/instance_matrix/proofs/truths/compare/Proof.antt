@@ -1,82 +1,20 @@
--- The invariant: the cells before k compare.
+-- Kind by kind as the definition.
+use Rattle.nodes.proofs.Numbers.{at-equal, at-within}
 use borrow.Author.Needs.{needs}
-use mathlib.Core.Path.{_≡_, sym, ap, _∙_}
-use Prim.Native.Nat.{ℕ, _≤_, _-_, _*_}
-use native.Mathlib.Omega.{arith}
-use mathlib.Core.Bool.{Bool, false}
-use lib.ListN.{getD}
-use mathlib.Core.List.{map}
-use Rattle.prelude.specs.Tests.{all}
-use Rattle.relational.specs.Matrices.{upto}
-use Rattle.instance_matrix.specs.Numbers.{compared, comparisonBy}
-use Rattle.instance_matrix.proofs.Counting.{all-none, all-more}
-use Rattle.instance_matrix.proofs.Results.{matched-cells}
 use Rattle.instance_matrix.proofs.truths.compare.Statement.{statement}
 use Rattle.instance_matrix.proofs.truths.compare.Tie as tie
 
-abbrev Inv-loop : tie.InvT-loop
-Inv-loop kind p q n fine₀ k₀ fine k =
-    (k ≤ n)
-    × (fine ≡ all (compared kind) (map {B = Bool × Bool} (λ (m : ℕ). (getD (p .cells) m false, getD (q .cells) m false)) (upto k)))
+all-matched-requires : tie.Need-all-matched-requires
+all-matched-requires c κs = search needs
 
-abbrev μ-loop : tie.MeasureT-loop
-μ-loop kind p q n fine₀ k₀ fine k = n - k
+all-matched-requires-2 : tie.Need-all-matched-requires-2
+all-matched-requires-2 c κs = search needs
 
-size-requires : tie.Need-size-requires Inv-loop μ-loop
-size-requires c κs = search needs
+returns : tie.Need-returns
+returns c o s = rw (at-equal _ (c .before .match .keys1) o s) (c .all-matched .ensures)
 
-loop-holds : tie.Need-loop-holds Inv-loop μ-loop
-loop-holds c = (omega arith, all-none (compared (c .before .args .kind)))
-
-element-copy-out-compared : tie.Need-element-copy-out-compared Inv-loop μ-loop
-element-copy-out-compared c = omega (arith, c .before .before .size .ensures .1)
-
-element-copy-out-compared-2 : tie.Need-element-copy-out-compared-2 Inv-loop μ-loop
-element-copy-out-compared-2 c = omega (arith, c .before .before .before .size .ensures .1)
-
-compared-requires : tie.Need-compared-requires Inv-loop μ-loop
-compared-requires c κs = search needs
-
-both-requires : tie.Need-both-requires Inv-loop μ-loop
-both-requires c κs = search needs
-
-add-k : tie.Need-add-k Inv-loop μ-loop
-add-k c = search needs
-
-loop-less : tie.Need-loop-less Inv-loop μ-loop
-loop-less c = search needs
-
-loop-again : tie.Need-loop-again Inv-loop μ-loop
-loop-again c =
-    let l = c .before .before .before .before .before .loop in (
-      omega arith,
-      all-more (compared (c .before .before .before .before .before .before .before .args .kind)) _ (l .k) (l .fine) (c .both .result) (l .inv .1)
-          (rw (← c .before .compared .ensures) (c .both .ensures)),
-    )
-
-returns : tie.Need-returns Inv-loop μ-loop
-unfolding comparisonBy
-returns c =
-    let a = c .before .before .before in
-    let l = c .before .loop in
-    let pair : ℕ → Bool × Bool = λ m. (getD (a .args .t2 .cells) m false, getD (a .args .t3 .cells) m false) in
-    let k : l .k ≡ a .args .t2 .rows * a .args .t2 .columns = omega (arith, c .before .before .size .ensures .0) in
-    l .inv .1 ∙ ap (λ (n : ℕ). all (compared (a .args .kind)) (map pair (upto n))) k
-    ∙ ap (all (compared (a .args .kind))) (sym (matched-cells (a .args .t2) (a .args .t3) (a .pre .0) (a .pre .1)))
+returns-2 : tie.Need-returns-2
+returns-2 c o s = rw (at-within _ (c .before .match .rest .1) o s) (c .all-matched2 .ensures)
 
 pub compare-spec : {M : Type 1} → statement M
-compare-spec =
-    tie.close
-    (tie.spec
-    Inv-loop
-    μ-loop
-    size-requires
-    loop-holds
-    element-copy-out-compared
-    element-copy-out-compared-2
-    compared-requires
-    both-requires
-    add-k
-    loop-less
-    loop-again
-    returns)
+compare-spec = tie.close (tie.spec all-matched-requires all-matched-requires-2 returns returns-2)

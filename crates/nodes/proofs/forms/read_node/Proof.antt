@@ -1,9 +1,8 @@
 -- `read_node` meets its contract: byte by byte, and the form by the row of the kind.
-use mathlib.Core.Path.{_≡_, _∙_, ap}
-use Prim.Native.Nat.{ℕ, _+_, _*_, _≤_}
+use mathlib.Core.Path.{_≡_}
+use Prim.Native.Nat.{_+_, _*_}
 use native.Mathlib.Omega.{arith}
 use borrow.Author.Needs.{needs}
-use Rattle.sheet_rules.specs.Blocks.{byte}
 use Rattle.nodes.proofs.forms.read_node.Statement.{statement}
 use Rattle.nodes.proofs.forms.read_node.Tie as tie
 

@@ -30,7 +30,10 @@ loop-again : tie.Need-loop-again Inv-loop μ-loop
 loop-again c =
     let l = c .before .loop in (
       power-next (l .power) (l .k) (l .inv .0),
-      (omega (arith, l .inv .1 .0), powers-more (c .before .before .args .n) (l .power) (l .k) (l .inv .0) (c .loop-test .taken) (l .inv .1 .1)),
+      (
+        omega (arith, l .inv .1 .0),
+        powers-more (c .before .before .args .n) (l .power) (l .k) (l .inv .0) (c .loop-test .taken) (l .inv .1 .1),
+      ),
     )
 
 returns : tie.Need-returns Inv-loop μ-loop

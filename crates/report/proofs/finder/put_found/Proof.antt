@@ -7,8 +7,8 @@ use denote.Enum.Declared.{tagOf}
 use Rattle.text.proofs.Puts.{put-both, put-length}
 use Rattle.sheet_rules.specs.declared.Layout.{Layout}
 use Rattle.sheet_rules.specs.Reading.{accepted}
-use Rattle.sheet.specs.declared.Reading.{Reading}
-use Rattle.sheet.specs.declared.Reading.the-variants.{Accepted, Refused}
+use Rattle.sheet.specs.declared.answer.Reading.{Reading}
+use Rattle.sheet.specs.declared.answer.Reading.the-variants.{Accepted, Refused}
 use Rattle.sheet.specs.Answers.{answerOf}
 use Rattle.sheet.proofs.Reading.{the-type}
 use Rattle.report.proofs.finder.put_found.Statement.{statement}
@@ -33,8 +33,8 @@ enum-told c = search needs
 enum-known-reading : tie.Need-enum-known-reading
 enum-known-reading c = search needs
 
-put-relations-requires : tie.Need-put-relations-requires
-put-relations-requires c κs =
+put-lines-requires : tie.Need-put-lines-requires
+put-lines-requires c κs =
     let k = c .before .before .before .before in
     let e = k .before .before .before .put-end .ensures in
     let s = k .before .before .before .before .before .before .before .before .before in
@@ -58,7 +58,7 @@ returns-2 : tie.Need-returns-2
 returns-2 c =
     let k = c .before .before in
     let e = k .before .before .before .before .before .before .before .before .put-end .ensures in
-    (put-both (e .0) (k .put-relations .ensures .0), omega (arith, e .1, k .put-relations .ensures .1))
+    (put-both (e .0) (k .put-lines .ensures .0), omega (arith, e .1, k .put-lines .ensures .1))
 
 pub put-found-spec : {M : Type 1} → statement M
 put-found-spec =
@@ -69,7 +69,7 @@ put-found-spec =
     read-requires
     enum-told
     enum-known-reading
-    put-relations-requires
+    put-lines-requires
     same-length
     returns
     same-length-2

@@ -67,7 +67,15 @@ add-put-row c = omega (arith, few (c .before), start (c .before .before) .pre .1
 put-row-requires : tie.Need-put-row-requires Inv-loop μ-loop
 put-row-requires c κs =
     let s = start (c .before .before) in (
-      omega (arith, place (c .before .before), kept (c .before .before), s .pre .0, s .pre .1 .1 .1 .0, s .pre .1 .1 .1 .1, c .before .loop-test .taken),
+      omega (
+        arith,
+        place (c .before .before),
+        kept (c .before .before),
+        s .pre .0,
+        s .pre .1 .1 .1 .0,
+        s .pre .1 .1 .1 .1,
+        c .before .loop-test .taken,
+      ),
       omega (arith, few (c .before), s .pre .1 .1 .0, s .pre .1 .1 .1 .1),
     )
 

@@ -1,66 +1,70 @@
 -- `put_lines` meets its contract. The loop's invariant: the lines of the relations passed were put, and the next one's first cell is known.
-use mathlib.Core.Path.{_≡_}
-use Prim.Native.Nat.{_-_, _*_, _≤_}
+use mathlib.Core.Path.{_≡_, ap}
+use Prim.Native.Nat.{_-_, _*_, _≤_, _<_}
 use native.Mathlib.Omega.{arith}
 use borrow.Author.Needs.{needs}
-use Rattle.cells.proofs.Layouts.{Earlier, earlier-none, earlier-more, count-most, width-most, cells-most}
-use Rattle.report.specs.Private.{PutLines}
-use Rattle.report.proofs.Pieces.{lines-none, lines-more, lines-length}
+use Rattle.text.proofs.Puts.{put-as, put-length}
+use Rattle.sheet_rules.specs.Blocks.{sheetOf, relationCount}
+use Rattle.sheet_rules.proofs.Acceptance.{accepted-facts}
+use Rattle.cells.proofs.Parts.{relations-counted, few-relations}
+use Rattle.cells.proofs.Layouts.{square, first-most}
+use Rattle.clauses_rules.specs.Whole.{series}
+use Rattle.report.specs.Printed.{relationLine, relationLines}
+use Rattle.report.proofs.Pieces.{PutLines, lines-none, lines-more}
 use Rattle.report.proofs.lines.put_lines.Statement.{statement}
 use Rattle.report.proofs.lines.put_lines.Tie as tie
 
 abbrev Inv-loop : tie.InvT-loop
-Inv-loop text₀ at sorts relations count instance end₀ first₀ r₀ text end first r =
-    (r ≤ count) × Earlier sorts relations first r × PutLines sorts relations instance text₀ at r text end
+Inv-loop text₀ at sheet layout instance count end₀ first₀ r₀ text end first r =
+    (r ≤ count) × PutLines (sheetOf sheet) instance text₀ at text end first r
 
 abbrev μ-loop : tie.MeasureT-loop
-μ-loop text₀ at sorts relations count instance end₀ first₀ r₀ text end first r = count - r
+μ-loop text₀ at sheet layout instance count end₀ first₀ r₀ text end first r = count - r
 
-loop-holds : tie.Need-loop-holds Inv-loop μ-loop
-loop-holds c = (omega arith, earlier-none _ _, lines-none _ _ _ _ _)
-
-row-count-requires : tie.Need-row-count-requires Inv-loop μ-loop
-row-count-requires c κs = omega (arith, c .loop-test .taken, c .before .before .before .before .before .before .pre .0)
-
-row-length-requires : tie.Need-row-length-requires Inv-loop μ-loop
-row-length-requires c κs = omega (arith, c .before .loop-test .taken, c .before .before .before .before .before .before .before .pre .0)
-
-put-line-requires : tie.Need-put-line-requires Inv-loop μ-loop
-put-line-requires c κs =
-    let k = c .before .before .before .before in
-    let s = k .before .before .before .before .before in
-    let rows = c .before .before .row-count .ensures in
-    let columns = c .before .row-length .ensures in
-    let taken = c .before .before .before .loop-test .taken in (
-      omega (arith, k .loop .inv .2 .most, lines-length (k .loop .inv .2), s .pre .0, s .pre .1 .0, taken),
-      (
-        omega (arith, s .pre .0, taken),
-        (
-          omega (arith, k .loop .inv .1 .most, s .pre .0, taken),
-          (count-most (s .pre .1 .1) (k .loop .r) rows columns, width-most (s .pre .1 .1) (k .loop .r) rows columns),
-        ),
-      ),
-    )
-
--- the turn that a line was put in
-abbrev turn : tie.After-put-line Inv-loop μ-loop → tie.At-loop Inv-loop μ-loop
-turn c = c .before .before .before .before .before
-
+-- where the call started
 abbrev start : tie.At-loop Inv-loop μ-loop → tie.Start Inv-loop μ-loop
 start c = c .before .before .before .before .before
 
-few : (c : tie.After-put-line Inv-loop μ-loop)
+-- a relation that the loop reaches is one of 16
+reached : (c : tie.In-loop Inv-loop μ-loop) → c .before .loop .r < 16
+reached c = omega (arith, few-relations _ _ (start (c .before) .pre .0), c .loop-test .taken)
+
+-- and its first cell is low
+first-low : (c : tie.In-loop Inv-loop μ-loop) → c .before .loop .first ≤ 1024
+first-low c =
+    let l = c .before .loop in
+    omega (arith, reached c, l .inv .1 .next, first-most _ (accepted-facts _ _ (start (c .before) .pre .0)) (l .r))
+
+loop-holds : tie.Need-loop-holds Inv-loop μ-loop
+loop-holds c = (omega arith, lines-none)
+
+row-count-requires : tie.Need-row-count-requires Inv-loop μ-loop
+row-count-requires c κs = (start (c .before) .pre .0, omega (arith, reached c))
+
+row-length-requires : tie.Need-row-length-requires Inv-loop μ-loop
+row-length-requires c κs = (start (c .before .before) .pre .0, omega (arith, reached (c .before)))
+
+put-line-requires : tie.Need-put-line-requires Inv-loop μ-loop
+put-line-requires c κs =
+    let k = c .before .before .before in
+    let l = k .before .loop in (
+      omega (arith, l .inv .1 .most, put-length (l .inv .1 .puts), reached k, start (k .before) .pre .1),
+      (reached k, (first-low k, (c .before .before .row-count .ensures .1, c .before .row-length .ensures .1))),
+    )
+
+-- the turn that a line was put in
+abbrev turn : tie.After-put-line Inv-loop μ-loop → tie.In-loop Inv-loop μ-loop
+turn c = c .before .before .before .before
+
+few-more : (c : tie.After-put-line Inv-loop μ-loop)
     → c .before .before .before .row-count .result * c .before .before .row-length .result ≤ 64
-few c =
-    cells-most (start (turn c) .pre .1 .1) (turn c .loop .r) (c .before .before .before .row-count .ensures) (c .before .before .row-length .ensures)
+few-more c = square (c .before .before .before .row-count .ensures .1) (c .before .before .row-length .ensures .1)
 
 mul-first : tie.Need-mul-first Inv-loop μ-loop
-mul-first c = omega (arith, few (c .before .before))
+mul-first c = omega (arith, few-more (c .before .before))
 
 add-first : tie.Need-add-first Inv-loop μ-loop
-add-first c =
-    let k = turn (c .before .before) in
-    omega (arith, few (c .before .before), k .loop .inv .1 .most, k .loop .inv .0, start k .pre .0)
+add-first c = omega (arith, few-more (c .before .before), first-low (turn (c .before .before)))
 
 add-r : tie.Need-add-r Inv-loop μ-loop
 add-r c = search needs
@@ -70,38 +74,29 @@ loop-less c = search needs
 
 loop-again : tie.Need-loop-again Inv-loop μ-loop
 loop-again c =
-    let call = c .before .before in
-    let k = turn call in
-    let rows = call .before .before .before .row-count .ensures in
-    let columns = call .before .before .row-length .ensures in (
+    let call = c .before .before in (
       omega arith,
-      earlier-more (start k .pre .1 .1) (k .loop .r) rows columns (k .loop .inv .1),
-      lines-more (k .loop .inv .2) (k .loop .inv .1) rows columns (call .put-line .ensures .0) (call .put-line .ensures .1),
+      lines-more (turn call .before .loop .inv .1)
+          (call .before .before .before .row-count .ensures .0) (call .before .before .row-length .ensures .0)
+          (call .put-line .ensures .0) (call .put-line .ensures .1),
     )
 
 same-length : tie.Need-same-length Inv-loop μ-loop
-same-length c = lines-length (c .before .loop .inv .2)
+same-length c = put-length (c .before .loop .inv .1 .puts)
 
 returns : tie.Need-returns Inv-loop μ-loop
+unfolding relationLines
 returns c =
-    let k = c .before in
-    let e : k .loop .r ≡ start k .args .count = omega (arith, k .loop .inv .0, c .loop-test .left) in
-    rw e at (k .loop .inv .2)
+    let l = c .before .loop in
+    let s = start (c .before) in
+    let e = relations-counted _ _ (s .pre .0) in
+    let k : l .r ≡ relationCount (sheetOf (s .args .sheet .now)) = omega (arith, e, l .inv .0, c .loop-test .left) in (
+      put-as (ap (λ n. series n (relationLine (sheetOf (s .args .sheet .now)) (s .args .instance .now))) k) (l .inv .1 .puts),
+      omega (arith, l .inv .1 .most, l .inv .0, few-relations _ _ (s .pre .0)),
+    )
 
 pub put-lines-spec : {M : Type 1} → statement M
 put-lines-spec =
     tie.close
-    (tie.spec
-    Inv-loop
-    μ-loop
-    loop-holds
-    row-count-requires
-    row-length-requires
-    put-line-requires
-    mul-first
-    add-first
-    add-r
-    loop-less
-    loop-again
-    same-length
-    returns)
+    (tie.spec Inv-loop μ-loop loop-holds row-count-requires row-length-requires put-line-requires mul-first add-first add-r loop-less
+    loop-again same-length returns)

@@ -4,7 +4,7 @@ use mathlib.Core.Path.{_≡_, refl, sym, _∙_, ap}
 use Prim.Native.Nat.{ℕ, _*_, _-_, _<_}
 use native.Mathlib.Omega.{arith}
 use lib.IntN.{pos}
-use lib.ListN.{getD, length-set}
+use lib.ListN.{length, getD, length-set}
 use mir.Syntax.{w32, w64}
 use mir.Val.{Fits, toZ, ofZ}
 use mir.Facts.{toZ-ofZ}
@@ -18,24 +18,24 @@ use Rattle.search_core.proofs.steps.back.Statement.{statement}
 use Rattle.search_core.proofs.steps.back.Tie as tie
 
 abbrev Inv-loop : tie.InvT-loop
-Inv-loop values₀ trail₀ length n₀ values trail n =
-    (state : State) → Stored (lib.ListN.length values₀) state values₀ trail₀ length → Went (lib.ListN.length values₀) state values trail n
+Inv-loop values₀ trail₀ used n₀ values trail n =
+    (state : State) → Stored (length values₀) state values₀ trail₀ used → Went (length values₀) state values trail n
 
 abbrev μ-loop : tie.MeasureT-loop
-μ-loop values₀ trail₀ length n₀ values trail n = n
+μ-loop values₀ trail₀ used n₀ values trail n = n
 
 -- the slices at the call
 module _ (c : tie.Start Inv-loop μ-loop) where
   abbrev v : ℕ
-  v = lib.ListN.length (c .args .values .now)
+  v = length (c .args .values .now)
 
   abbrev Held : State → Type 0
-  Held state = Stored v state (c .args .values .now) (c .args .trail .now) (c .args .length)
+  Held state = Stored v state (c .args .values .now) (c .args .trail .now) (c .args .used)
 
-  held : SomeStored v (c .args .values .now) (c .args .trail .now) (c .args .length)
+  held : SomeStored v (c .args .values .now) (c .args .trail .now) (c .args .used)
   held = c .pre .1
 
-  long : lib.ListN.length (c .args .trail .now) ≡ v
+  long : length (c .args .trail .now) ≡ v
   long = size-trail _ _ _ _ _ (held .stored)
 
 -- in a turn of the loop
@@ -53,10 +53,10 @@ module _ (c : tie.In-loop Inv-loop μ-loop) where
   abbrev top : Top (v s) (went (held s .state) (held s .stored) .now-at) (c .before .loop .values) (c .before .loop .trail) (c .before .loop .n)
   top = topped (held s .state) (held s .stored)
 
-  wide : lib.ListN.length (c .before .loop .values) ≡ v s
+  wide : length (c .before .loop .values) ≡ v s
   wide = size-values _ _ _ _ _ (went (held s .state) (held s .stored) .stored)
 
-  deep : lib.ListN.length (c .before .loop .trail) ≡ v s
+  deep : length (c .before .loop .trail) ≡ v s
   deep = size-trail _ _ _ _ _ (went (held s .state) (held s .stored) .stored)
 
   scaled : Fits w64 ((c .before .loop .n - 1) * 4)
@@ -89,7 +89,7 @@ module _ (c : tie.After-place Inv-loop μ-loop) where
   at-is : (state : State) (i : Held (s (c .before .before)) state) → c .place .result ≡ placeOf (wordOf (topped (c .before .before) state i .e))
   at-is state i = c .place .ensures ∙ place-of _ ∙ ap placeOf (word-is (c .before) ∙ topped (c .before .before) state i .the-word)
 
-  in-values : c .place .result < lib.ListN.length (c .before .before .before .loop .values)
+  in-values : c .place .result < length (c .before .before .before .loop .values)
   in-values =
       let h = held (s (c .before .before)) in
       omega (arith, at-is (h .state) (h .stored), top (c .before .before) .here, wide (c .before .before))

@@ -143,28 +143,6 @@ returns-5 c state i =
 pub step-spec : {M : Type 1} → statement M
 step-spec =
     tie.close
-    (tie.spec
-    scan-requires
-    enum-told
-    back-requires
-    same-length
-    same-length-2
-    returns
-    enum-known-seen
-    propagate-requires
-    add-t24
-    enum-told-2
-    lowest-open-requires
-    same-length-3
-    returns-2
-    decide-requires
-    add-t27
-    same-length-4
-    same-length-5
-    returns-3
-    same-length-6
-    same-length-7
-    returns-4
-    same-length-8
-    same-length-9
-    returns-5)
+    (tie.spec scan-requires enum-told back-requires same-length same-length-2 returns enum-known-seen propagate-requires
+    add-t24 enum-told-2 lowest-open-requires same-length-3 returns-2 decide-requires add-t27 same-length-4 same-length-5
+    returns-3 same-length-6 same-length-7 returns-4 same-length-8 same-length-9 returns-5)

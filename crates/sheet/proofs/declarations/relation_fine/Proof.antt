@@ -1,41 +1,20 @@
 -- Each test of the definition in turn.
-use mathlib.Core.Path.{_≡_}
+use native.Mathlib.Nat.{add-zero}
 use borrow.Author.Needs.{needs}
 use Rattle.sheet.proofs.declarations.relation_fine.Statement.{statement}
 use Rattle.sheet.proofs.declarations.relation_fine.Tie as tie
 
-mul-byte : tie.Need-mul-byte
-mul-byte c = search needs
+field-requires : tie.Need-field-requires
+field-requires c κs = search needs
 
-byte-requires : tie.Need-byte-requires
-byte-requires c κs = search needs
+field-requires-2 : tie.Need-field-requires-2
+field-requires-2 c κs = search needs
 
-mul-byte-2 : tie.Need-mul-byte-2
-mul-byte-2 c = search needs
+field-requires-3 : tie.Need-field-requires-3
+field-requires-3 c κs = search needs
 
-add-byte : tie.Need-add-byte
-add-byte c = search needs
-
-byte-requires-2 : tie.Need-byte-requires-2
-byte-requires-2 c κs = search needs
-
-mul-byte-3 : tie.Need-mul-byte-3
-mul-byte-3 c = search needs
-
-add-byte-2 : tie.Need-add-byte-2
-add-byte-2 c = search needs
-
-byte-requires-3 : tie.Need-byte-requires-3
-byte-requires-3 c κs = search needs
-
-mul-byte-4 : tie.Need-mul-byte-4
-mul-byte-4 c = search needs
-
-add-byte-3 : tie.Need-add-byte-3
-add-byte-3 c = search needs
-
-byte-requires-4 : tie.Need-byte-requires-4
-byte-requires-4 c κs = search needs
+field-requires-4 : tie.Need-field-requires-4
+field-requires-4 c κs = search needs
 
 choose-requires : tie.Need-choose-requires
 choose-requires c κs = search needs
@@ -54,13 +33,14 @@ both-requires-3 c κs = search needs
 
 returns : tie.Need-returns
 returns c sheet e s =
+    let columns = rw add-zero at (c .before .before .before .before .before .before .before .before .field .ensures .0) in
     rw (
       e,
       s,
-      ← c .before .before .before .before .before .before .before .before .byte .ensures .0,
-      ← c .before .before .before .before .before .before .before .byte2 .ensures .0,
-      ← c .before .before .before .before .before .before .byte3 .ensures .0,
-      ← c .before .before .before .before .before .byte4 .ensures .0,
+      ← columns,
+      ← c .before .before .before .before .before .before .before .field2 .ensures .0,
+      ← c .before .before .before .before .before .before .field3 .ensures .0,
+      ← c .before .before .before .before .before .field4 .ensures .0,
       ← c .before .before .before .within .ensures,
       ← c .before .before .before .before .choose .ensures,
       ← c .before .before .both .ensures,
@@ -72,17 +52,10 @@ pub relation-fine-spec : {M : Type 1} → statement M
 relation-fine-spec =
     tie.close
     (tie.spec
-    mul-byte
-    byte-requires
-    mul-byte-2
-    add-byte
-    byte-requires-2
-    mul-byte-3
-    add-byte-2
-    byte-requires-3
-    mul-byte-4
-    add-byte-3
-    byte-requires-4
+    field-requires
+    field-requires-2
+    field-requires-3
+    field-requires-4
     choose-requires
     within-requires
     both-requires

@@ -1,5 +1,4 @@
 -- Count by count as the definition.
-use mathlib.Core.Path.{_≡_}
 use borrow.Author.Needs.{needs}
 use Rattle.sheet.proofs.judge.is_counted.Statement.{statement}
 use Rattle.sheet.proofs.judge.is_counted.Tie as tie

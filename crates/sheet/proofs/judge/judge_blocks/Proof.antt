@@ -6,7 +6,8 @@ use native.Mathlib.Omega.{arith}
 use lib.ListN.{length}
 use borrow.Author.Tests.{not-false}
 use Rattle.sheet_rules.specs.Blocks.{Sheet, fourBlocks}
-use Rattle.sheet_rules.specs.Reading.{counted, scoped, declared, nodesFine, Answer, wholeJudged, countJudged, scopeJudged, declarationJudged, nodeJudged, walkJudged}
+use Rattle.sheet_rules.specs.Reading.{counted, scoped, declared, nodesFine, Answer, wholeJudged, countJudged, scopeJudged}
+use Rattle.sheet_rules.specs.Reading.{declarationJudged, nodeJudged, walkJudged}
 use Rattle.sheet_rules.specs.Facts.{Counts}
 use Rattle.sheet_rules.proofs.Counts.{counts}
 use Rattle.sheet.proofs.Verdicts.{refuse, pass}
@@ -41,7 +42,8 @@ is-fine : (c : tie.After-nodes-fine)
     ≡ nodesFine (blocksOf (c .before .before .before .before .before .before .before .before .before .before .before .before .before .before .before))
 unfolding nodesFine
 is-fine c = c .nodes-fine .ensures
-    (blocksOf (c .before .before .before .before .before .before .before .before .before .before .before .before .before .before .before)) refl refl refl refl
+    (blocksOf (c .before .before .before .before .before .before .before .before .before .before .before .before .before .before .before))
+    refl refl refl refl
 
 -- past a test the rest of the tests decides
 past-whole : (c : tie.Else1) {x : Answer} → x ≡ countJudged (blocksOf (c .before .before .before .before .before .before))

@@ -1,7 +1,6 @@
 -- Shapes, root and visits, in this order.
 use mathlib.Core.Path.{_≡_, refl, _∙_, ap, ap₂}
 use mathlib.Core.Bool.{_&&_}
-use native.Mathlib.Omega.{arith}
 use lib.ListN.{getD}
 use Rattle.prelude.proofs.Laws.{each-cong}
 use Rattle.sheet_rules.specs.Blocks.{Sheet, fourBlocks, root}
@@ -97,7 +96,8 @@ returns-4 c =
     (pass _ _ 8 _ _ (is-rooted (c .before .before .before .before .before)) (c .before .before .before .before .if2 .left)
     (pass-true _ 9 _ _ (under-limit _ _ (is-visits (c .before .before)) (c .before .if3 .left))
     (ap accepted (c .layout .ensures
-    (blocksOf (c .before .before .before .before .before .before .before .before .before .before .before .before .before .before .before .before)) refl refl refl refl))))
+    (blocksOf (c .before .before .before .before .before .before .before .before .before .before .before .before .before .before .before .before))
+    refl refl refl refl))))
 
 pub judge-walk-spec : {M : Type 1} → statement M
 judge-walk-spec =

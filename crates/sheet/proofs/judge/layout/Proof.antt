@@ -1,5 +1,5 @@
 -- Each start from the lengths before it.
-use mathlib.Core.Path.{_≡_, refl}
+use mathlib.Core.Path.{refl}
 use borrow.Author.Needs.{needs}
 use Rattle.sheet.proofs.judge.layout.Statement.{statement}
 use Rattle.sheet.proofs.judge.layout.Tie as tie

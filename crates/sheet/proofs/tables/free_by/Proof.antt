@@ -1,5 +1,4 @@
 -- Test by test as the definition.
-use mathlib.Core.Path.{_≡_}
 use borrow.Author.Needs.{needs}
 use Rattle.sheet.proofs.tables.free_by.Statement.{statement}
 use Rattle.sheet.proofs.tables.free_by.Tie as tie

@@ -1,10 +1,11 @@
 -- The invariant: the array says of the nodes passed whether x is free in them.
 use borrow.Author.Needs.{needs}
-use mathlib.Core.Path.{_≡_, refl, _∙_, sym, ap}
+use mathlib.Core.Path.{_≡_, refl, _∙_}
 use Prim.Native.Nat.{ℕ, _≤_, _-_, _/_}
 use mathlib.Core.List.{List}
+use native.Mathlib.Nat.{add-zero}
 use native.Mathlib.Omega.{arith}
-use lib.ListN.{length, getD, length-set, length-replicate}
+use lib.ListN.{length, length-set, length-replicate}
 use Rattle.sheet_rules.specs.Blocks.{Sheet, fieldA, fieldB}
 use Rattle.sheet.specs.Filling.{Fills}
 use Rattle.sheet.proofs.FillingLaws.{fills-none, fills-more}
@@ -25,32 +26,17 @@ abbrev μ-loop : tie.MeasureT-loop
 loop-holds : tie.Need-loop-holds Inv-loop μ-loop
 loop-holds c = (omega arith, length-replicate 200 false, λ sheet n. fills-none (λ f. f) false _ 200)
 
-mul-byte : tie.Need-mul-byte Inv-loop μ-loop
-mul-byte c = omega arith
-
-byte-requires : tie.Need-byte-requires Inv-loop μ-loop
-byte-requires c κs = search needs
+field-requires : tie.Need-field-requires Inv-loop μ-loop
+field-requires c κs = omega arith
 
 row-of-requires : tie.Need-row-of-requires Inv-loop μ-loop
 row-of-requires c κs = search needs
 
-mul-byte-2 : tie.Need-mul-byte-2 Inv-loop μ-loop
-mul-byte-2 c = omega arith
+field-requires-2 : tie.Need-field-requires-2 Inv-loop μ-loop
+field-requires-2 c κs = omega arith
 
-add-byte : tie.Need-add-byte Inv-loop μ-loop
-add-byte c = omega arith
-
-byte-requires-2 : tie.Need-byte-requires-2 Inv-loop μ-loop
-byte-requires-2 c κs = search needs
-
-mul-byte-3 : tie.Need-mul-byte-3 Inv-loop μ-loop
-mul-byte-3 c = omega arith
-
-add-byte-2 : tie.Need-add-byte-2 Inv-loop μ-loop
-add-byte-2 c = omega arith
-
-byte-requires-3 : tie.Need-byte-requires-3 Inv-loop μ-loop
-byte-requires-3 c κs = search needs
+field-requires-3 : tie.Need-field-requires-3 Inv-loop μ-loop
+field-requires-3 c κs = omega arith
 
 flag-at-requires : tie.Need-flag-at-requires Inv-loop μ-loop
 flag-at-requires c κs = search needs
@@ -83,12 +69,13 @@ found : (c : tie.After-free-by Inv-loop μ-loop) (sheet : Sheet)
     (c .before .before .before .before .before .before .before .before .loop .free)
 unfolding freeStep
 found c sheet n =
+    let kind = rw add-zero at (c .before .before .before .before .before .before .field .ensures .0) in
     rw (
       n,
-      ← c .before .before .before .before .before .before .byte .ensures .0,
+      ← kind,
       ← c .before .before .before .before .before .row-of .ensures,
-      ← c .before .before .before .before .byte2 .ensures .0,
-      ← c .before .before .before .byte3 .ensures .0,
+      ← c .before .before .before .before .field2 .ensures .0,
+      ← c .before .before .before .field3 .ensures .0,
       ← c .before .before .flag-at .ensures,
       ← c .before .flag-at2 .ensures,
     )
@@ -118,15 +105,10 @@ free-in-spec =
     Inv-loop
     μ-loop
     loop-holds
-    mul-byte
-    byte-requires
+    field-requires
     row-of-requires
-    mul-byte-2
-    add-byte
-    byte-requires-2
-    mul-byte-3
-    add-byte-2
-    byte-requires-3
+    field-requires-2
+    field-requires-3
     flag-at-requires
     flag-at-requires-2
     free-by-requires

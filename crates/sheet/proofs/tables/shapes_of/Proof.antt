@@ -1,9 +1,8 @@
 -- The invariant: the array holds the shapes of the nodes passed.
-use borrow.Author.Needs.{needs}
 use mathlib.Core.Path.{_≡_, refl}
 use Prim.Native.Nat.{ℕ, _≤_, _-_, _/_}
 use native.Mathlib.Omega.{arith}
-use lib.ListN.{length, getD, length-set, length-replicate}
+use lib.ListN.{length, length-set, length-replicate}
 use Rattle.sheet_rules.specs.Blocks.{Sheet, fieldA, fieldB}
 use Rattle.sheet_rules.specs.Tables.{table, shapeStep}
 use Rattle.sheet.specs.Filling.{Fills}

@@ -1,5 +1,4 @@
 -- The sum is that of the definition, and no part of it is large.
-use mathlib.Core.Path.{_≡_}
 use Prim.Native.Nat.{_≤_}
 use native.Mathlib.Omega.{arith}
 use Rattle.sheet.proofs.Visits.{product-fits}

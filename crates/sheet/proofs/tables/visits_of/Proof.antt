@@ -1,8 +1,9 @@
 -- The invariant: the array holds the visits of the nodes passed, capped.
 use borrow.Author.Needs.{needs}
-use mathlib.Core.Path.{_≡_, refl, _∙_, sym, ap}
+use mathlib.Core.Path.{_≡_, refl, _∙_}
 use Prim.Native.Nat.{ℕ, _≤_, _-_, _/_}
 use mathlib.Core.List.{List, []}
+use native.Mathlib.Nat.{add-zero}
 use native.Mathlib.Omega.{arith}
 use lib.ListN.{length, getD, length-set, length-replicate}
 use Rattle.sheet_rules.specs.Blocks.{Sheet, scope, sortOf, kind, fieldA, fieldB}
@@ -27,38 +28,23 @@ abbrev μ-loop : tie.MeasureT-loop
 loop-holds : tie.Need-loop-holds Inv-loop μ-loop
 loop-holds c = (omega arith, length-replicate {A = ℕ} 200 0, λ sheet s x n. fills-none capped 0 _ 200)
 
-mul-byte : tie.Need-mul-byte Inv-loop μ-loop
-mul-byte c = omega arith
-
-byte-requires : tie.Need-byte-requires Inv-loop μ-loop
-byte-requires c κs = search needs
+field-requires : tie.Need-field-requires Inv-loop μ-loop
+field-requires c κs = omega arith
 
 row-of-requires : tie.Need-row-of-requires Inv-loop μ-loop
 row-of-requires c κs = search needs
 
-mul-byte-2 : tie.Need-mul-byte-2 Inv-loop μ-loop
-mul-byte-2 c = omega arith
+field-requires-2 : tie.Need-field-requires-2 Inv-loop μ-loop
+field-requires-2 c κs = omega arith
 
-add-byte : tie.Need-add-byte Inv-loop μ-loop
-add-byte c = omega arith
+field-requires-3 : tie.Need-field-requires-3 Inv-loop μ-loop
+field-requires-3 c κs = omega arith
+
+byte-requires : tie.Need-byte-requires Inv-loop μ-loop
+byte-requires c κs = search needs
 
 byte-requires-2 : tie.Need-byte-requires-2 Inv-loop μ-loop
 byte-requires-2 c κs = search needs
-
-mul-byte-3 : tie.Need-mul-byte-3 Inv-loop μ-loop
-mul-byte-3 c = omega arith
-
-add-byte-2 : tie.Need-add-byte-2 Inv-loop μ-loop
-add-byte-2 c = omega arith
-
-byte-requires-3 : tie.Need-byte-requires-3 Inv-loop μ-loop
-byte-requires-3 c κs = search needs
-
-byte-requires-4 : tie.Need-byte-requires-4 Inv-loop μ-loop
-byte-requires-4 c κs = search needs
-
-byte-requires-5 : tie.Need-byte-requires-5 Inv-loop μ-loop
-byte-requires-5 c κs = search needs
 
 count-at-requires : tie.Need-count-at-requires Inv-loop μ-loop
 count-at-requires c κs = search needs
@@ -76,7 +62,7 @@ entry-low c i =
 
 visits-by-requires : tie.Need-visits-by-requires Inv-loop μ-loop
 visits-by-requires c κs = (
-  omega (arith, c .before .before .byte5 .ensures .1),
+  omega (arith, c .before .before .byte2 .ensures .1),
   rw (c .before .count-at .ensures) (entry-low c _),
   rw (c .count-at2 .ensures)
       (entry-low c _),
@@ -103,25 +89,29 @@ same-step sheet v entries array f =
     (capped-visits (rowOf (kind sheet v)) (scope sheet (sortOf sheet (fieldA sheet v)))
     (getD entries (fieldA sheet v) 0) (getD entries (fieldB sheet v) 0))
 
+abbrev start : tie.After-visits-by Inv-loop μ-loop → tie.Start Inv-loop μ-loop
+start c = c .before .before .before .before .before .before .before .before .before .before .before .before .before .before
+
 found : (c : tie.After-visits-by Inv-loop μ-loop) (sheet : Sheet)
-    → sheet .sorts ≡ c .before .before .before .before .before .before .before .before .before .before .before .before .before .before .args .sorts .now
-    → sheet .variables ≡ c .before .before .before .before .before .before .before .before .before .before .before .before .before .before .args .variables .now
-    → sheet .nodes ≡ c .before .before .before .before .before .before .before .before .before .before .before .before .before .before .args .nodes .now
+    → sheet .sorts ≡ start c .args .sorts .now
+    → sheet .variables ≡ start c .args .variables .now
+    → sheet .nodes ≡ start c .args .nodes .now
     → c .visits-by .result
     ≡ capped (visitsStep sheet (c .before .before .before .before .before .before .before .before .before .before .loop .v)
     (c .before .before .before .before .before .before .before .before .before .before .loop .visits))
 unfolding visitsStep
 found c sheet s x n =
+    let kind = rw add-zero at (c .before .before .before .before .before .before .before .before .field .ensures .0) in
     rw (
       n,
       x,
       s,
-      ← c .before .before .before .before .before .before .before .before .byte .ensures .0,
+      ← kind,
       ← c .before .before .before .before .before .before .before .row-of .ensures,
-      ← c .before .before .before .before .before .before .byte2 .ensures .0,
-      ← c .before .before .before .before .before .byte3 .ensures .0,
-      ← c .before .before .before .before .byte4 .ensures .0,
-      ← c .before .before .before .byte5 .ensures .0,
+      ← c .before .before .before .before .before .before .field2 .ensures .0,
+      ← c .before .before .before .before .before .field3 .ensures .0,
+      ← c .before .before .before .before .byte .ensures .0,
+      ← c .before .before .before .byte2 .ensures .0,
       ← c .before .before .count-at .ensures,
       ← c .before .count-at2 .ensures,
     )
@@ -149,17 +139,12 @@ visits-of-spec =
     Inv-loop
     μ-loop
     loop-holds
-    mul-byte
-    byte-requires
+    field-requires
     row-of-requires
-    mul-byte-2
-    add-byte
+    field-requires-2
+    field-requires-3
+    byte-requires
     byte-requires-2
-    mul-byte-3
-    add-byte-2
-    byte-requires-3
-    byte-requires-4
-    byte-requires-5
     count-at-requires
     count-at-requires-2
     visits-by-requires

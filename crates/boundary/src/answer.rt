@@ -1,0 +1,39 @@
+// The answers, in numbers.
+
+// Whether an instance satisfies marks and formula: 1 yes, 0 no.
+#[repr(C)]
+pub struct CheckAnswer {
+    pub refusal: u32,
+    pub satisfies: u32,
+}
+
+// The numbers of variables, clauses and words.
+#[repr(C)]
+pub struct CountAnswer {
+    pub refusal: u32,
+    pub variables: usize,
+    pub clauses: usize,
+    pub words: usize,
+}
+
+// The bytes of a clause text: those that it needs, or those written.
+#[repr(C)]
+pub struct TextAnswer {
+    pub refusal: u32,
+    pub bytes: usize,
+}
+
+// How a search ended, 1 found, 2 none, 3 spent, and its steps. Both are 0 under a refusal.
+#[repr(C)]
+pub struct SearchAnswer {
+    pub refusal: u32,
+    pub end: u32,
+    pub steps: u64,
+}
+
+// The cells that read-back copied.
+#[repr(C)]
+pub struct ReadBackAnswer {
+    pub refusal: u32,
+    pub cells: usize,
+}
