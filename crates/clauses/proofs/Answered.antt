@@ -1,6 +1,6 @@
 -- What the answers of counting and writing say of the sheet and of the list.
 use mathlib.Core.Path.{_≡_, refl, sym, ap, _∙_}
-use mathlib.Core.Bool.{Bool, true, false, cond, true≢false, false≢true}
+use mathlib.Core.Bool.{Bool, true, false, cond, false≢true}
 use mathlib.Core.List.{List, _++_}
 use Prim.Native.Nat.{ℕ, _≤_}
 use lib.Dec.{leb}
@@ -9,7 +9,7 @@ use lib.ListN.{length, take, drop}
 use lib.Seq.{take-append-seam}
 use borrow.Author.Tests.{leb-true}
 use Rattle.sheet_rules.specs.declared.Layout.{Layout}
-use Rattle.sheet_rules.specs.Blocks.{Sheet, sheetOf}
+use Rattle.sheet_rules.specs.Blocks.{sheetOf}
 use Rattle.sheet_rules.specs.Reading as sheets
 use Rattle.sheet_rules.specs.Reading.{reading}
 use Rattle.clauses_rules.specs.Whole.{words, variableTotal, clauseTotal, wordTotal}
@@ -91,7 +91,8 @@ module _ (s : List ℕ) (old : List ℤ) (v c w : ℕ) where
   write-fits e =
       let r = by-count (countAnswer s) e in
       let d = count-fits s v c w (r .0) in
-      let l : listAfter s old ≡ words (sheetOf s) ++ drop (wordTotal (sheetOf s)) old = ap (λ (a : Answer). listBy a (words (sheetOf s)) old) e in
+      let l : listAfter s old ≡ words (sheetOf s) ++ drop (wordTotal (sheetOf s)) old =
+      ap (λ (a : Answer). listBy a (words (sheetOf s)) old) e in
       record {
         counted = r .0;
         room = r .1;

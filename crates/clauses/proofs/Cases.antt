@@ -43,5 +43,6 @@ equal-itself-clauses = refl
 
 pub equal-itself-answer : countAnswer equal-itself ≡ fits 10 23 74
 unfolding countAnswer reading counted scoped declared nodesFine shaped rooted walkable each rowOf shapeStep freeStep visitsStep
-    variableTotal words wordsOf clauses markClauses rootWalk series translate table treeStep symbolOf firstCell b.each or inputClauses gatesClauses
+    variableTotal words wordsOf clauses markClauses rootWalk series translate table treeStep symbolOf firstCell
+    b.each or inputClauses gatesClauses
 equal-itself-answer = refl

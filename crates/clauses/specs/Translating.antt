@@ -9,29 +9,17 @@ use lib.IntN.{ℤ}
 use lib.ListN.{length, take}
 use Rattle.prelude.specs.Stores.{putAll}
 use Rattle.literal.specs.Literals.{positive}
-use Rattle.sheet_rules.specs.Blocks.{Sheet, relationCount, root}
-use Rattle.sheet_rules.specs.Facts.{Facts}
-use Rattle.relational.specs.Cells.{rowLength, cellCount}
+use Rattle.sheet_rules.specs.Blocks.{Sheet}
 use Rattle.relational.specs.Matrices.{upto}
-use Rattle.clauses_rules.specs.Whole.{cellLiterals, words, variableTotal, clauseTotal, wordTotal}
+use Rattle.clauses_rules.specs.Whole.{words, variableTotal, clauseTotal, wordTotal}
 use Rattle.clauses_emission.specs.declared.Tape.{Tape}
 use Rattle.clauses_emission.specs.Emission.{literalsOf, Within, Over}
-use Rattle.nodes.specs.Nodes.{IsFormula}
 use Rattle.clauses.specs.Answers.{Answer, fits, refused}
 
 -- the first n words are the literals of n cells
 pub record CellWords (n : ℕ) (ws : List ℤ) : Type 0 where
   pub room : length ws ≡ 1024
   pub cells : literalsOf (take n ws) ≡ map (λ (i : ℕ). positive (2 + i)) (upto n)
-
--- a sheet that can be translated, and the words of its cells
-pub record Translatable (sheet : Sheet) (given : List ℤ) : Type 0 where
-  pub facts : Facts sheet
-  pub formula : IsFormula sheet (root sheet)
-  pub rows : (r : ℕ) → r < relationCount sheet → 1 ≤ rowLength sheet r
-  pub few : cellCount sheet ≤ 1024
-  pub size : length given ≡ cellCount sheet
-  pub cells : literalsOf given ≡ cellLiterals sheet
 
 -- within the limit of variables, all is as defined; past it, the definition is past it too
 pub record Translates (sheet : Sheet) (old new : List ℤ) (after : Tape) : Type 0 where

@@ -5,6 +5,7 @@ ghost use Rattle.clauses.specs.Answers.{fits, answerOf, countAnswer, wri
 ghost use Rattle.clauses.specs.Translating.{Numbered, sizeAnswer};
 use answer::Count;
 use answer::Size;
+use clauses_emission::LIMIT;
 use clauses_emission::Tape;
 use refusal::Refusal;
 use sheet::answer::Reading;
@@ -14,9 +15,6 @@ use whole::translate;
 
 pub mod answer; // answer.rt: what counting and writing answer
 mod whole; // whole.rt: the clauses of an accepted sheet
-
-// The last next variable that fits: 16,000 variables are used then.
-const LIMIT: usize = 16001;
 
 // What a whole translation comes to.
 fn size_of(tape: Tape) -> Count
@@ -40,7 +38,7 @@ fn count_accepted(sheet: &[u8], layout: Layout) -> Count
     ensures { λ r. ⌜ answerOf r ≡ countAnswer (now (sheet .entry)) ⌝ }
 {
     let mut nothing = [0i32; 1];
-    let tape = translate(sheet, layout, &mut nothing[..0]);
+    let tape = translate(&mut nothing[..0], sheet, layout);
     size_of(tape)
 }
 
@@ -65,7 +63,7 @@ fn write_counted(sheet: &[u8], layout: Layout, size: Size, list: &mut [i32]) -> 
     if list.len() < size.words {
         return Count::Refused(Refusal::Short);
     }
-    let tape = translate(sheet, layout, list);
+    let tape = translate(list, sheet, layout);
     size_of(tape)
 }
 

@@ -1,4 +1,3 @@
 mod Adding
 mod Rows
 mod Relations
-pub mod Sheets

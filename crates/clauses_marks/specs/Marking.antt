@@ -1,13 +1,15 @@
 -- What the code of the marks takes for granted, and what it adds to the list.
 -- No public contract reaches this file: nothing here needs belief.
-use mathlib.Core.List.{List, [], map}
-use Prim.Native.Nat.{ℕ, _+_, _≤_, _<_}
+use mathlib.Core.Path.{_≡_}
+use mathlib.Core.List.{List, map}
+use Prim.Native.Nat.{ℕ, _+_, _≤_}
 use lib.IntN.{ℤ}
 use lib.ListN.{length}
 use Rattle.literal.specs.Literals.{Literal}
-use Rattle.sheet_rules.specs.Blocks.{Sheet, fourBlocks, relationCount, multiplicity}
-use Rattle.cells.specs.Private.{Scopes}
-use Rattle.relational.specs.Cells.{rowCount, rowLength}
+use Rattle.sheet_rules.specs.declared.Layout.{Layout}
+use Rattle.sheet_rules.specs.Blocks.{Sheet, multiplicity, sheetOf}
+use Rattle.relational.specs.Cells.{rowCount, cellCount}
+use Rattle.cells.specs.Private.{Located}
 use Rattle.clauses_rules.specs.Gates.{Clause}
 use Rattle.clauses_rules.specs.Translation.{Two}
 use Rattle.clauses_rules.specs.Whole.{series, rowClauses, rowLiterals}
@@ -33,14 +35,11 @@ pub record Adds (most : ℕ) (clauses : List Clause) (old : List ℤ) (before : 
   pub few-clauses : after .clauses ≤ before .clauses + most
   pub few-words : after .words ≤ before .words + most
 
--- a sheet's declarations: marks ask for no more
-abbrev pub blocks : List ℕ → List ℕ → Sheet
-blocks sorts relations = fourBlocks sorts [] relations []
-
-pub record Declared (sheet : Sheet) : Type 0 where
-  pub few : relationCount sheet ≤ 16
-  pub scopes : Scopes (sheet .sorts)
-  pub some : (r : ℕ) → r < relationCount sheet → 1 ≤ rowLength sheet r
+-- the literals of an accepted sheet's cells, in order
+pub record Given (sheet : List ℕ) (layout : Layout) (given : List ℤ) (starts : List ℕ) : Type 0 where
+  pub located : Located sheet layout starts
+  pub size : length given ≡ cellCount (sheetOf sheet)
+  pub inside : AllInside 16002 (literalsOf given)
 
 -- the pairs with one first member
 abbrev pub pairsWith : Literal → List Literal → List Two

@@ -2,18 +2,17 @@
 ghost use mathlib.Core.List.{map};
 ghost use Prim.Native.Nat.{_<_};
 ghost use Rattle.literal.specs.Literals.{literalOf};
-ghost use Rattle.sheet_rules.specs.Blocks.{relationCount};
+ghost use Rattle.sheet_rules.specs.Blocks.{relationCount, sheetOf};
 ghost use Rattle.relational.specs.Matrices.{pairs};
 ghost use Rattle.clauses_rules.specs.Whole.{pairClause, rowClauses, markClauses};
-ghost use Rattle.clauses_emission.specs.Emission.{Inside, AllInside, literalsOf};
-ghost use Rattle.clauses_marks.specs.Marking.{Small, Members, Some, Adds, Declared, blocks, pairsWith, relationClauses};
-use cells::first_cell;
+ghost use Rattle.clauses_emission.specs.Emission.{Inside, literalsOf};
+ghost use Rattle.clauses_marks.specs.Marking.{Small, Members, Some, Adds, Given, pairsWith, relationClauses};
+use cells::multiplicity;
 use cells::row_count;
 use cells::row_length;
 use clauses_emission::Tape;
 use clauses_emission::list::emit_clause;
-use clauses_kinds::leaves::copied;
-use sheet::bytes::byte;
+use sheet_rules::Layout;
 
 // (-p, -q) for each q of the others, in order.
 fn pairs_with(list: &mut [i32], tape: Tape, p: i32, others: &[i32]) -> Tape
@@ -72,47 +71,55 @@ fn row_marks(list: &mut [i32], tape: Tape, mark: usize, row: &[i32]) -> Tape
 
 // The rows of relation r.
 fn relation_marks(
-    sorts: &[u8],
-    relations: &[u8],
-    given: &[i32],
-    r: usize,
     list: &mut [i32],
     tape: Tape,
+    sheet: &[u8],
+    layout: Layout,
+    given: &[i32],
+    starts: &[usize],
+    r: usize,
 ) -> Tape
     requires { ⌜ Small 50000 tape ⌝ }
-    requires { ⌜ AllInside 16002 (literalsOf (now given)) ⌝ }
-    requires { ⌜ Declared (blocks (now sorts) (now relations)) ⌝ }
-    requires { ⌜ r < relationCount (blocks (now sorts) (now relations)) ⌝ }
-    ensures { λ t. ⌜ Adds 1416 (relationClauses (blocks (now (sorts .entry)) (now (relations .entry))) (literalsOf (now (given .entry))) r)
+    requires { ⌜ Given (now sheet) layout (now given) (now starts) ⌝ }
+    requires { ⌜ r < relationCount (sheetOf (now sheet)) ⌝ }
+    ensures { λ t. ⌜ Adds 1416 (relationClauses (sheetOf (now (sheet .entry))) (literalsOf (now (given .entry))) r)
         (now (list .entry)) tape (now (list .exit)) t ⌝ }
 {
-    let mark = byte(relations, 4 * r + 1);
-    let rows = row_count(sorts, relations, r);
-    let n = row_length(sorts, relations, r);
-    let first = first_cell(sorts, relations, r);
+    let mark = multiplicity(sheet, layout, r);
+    let rows = row_count(sheet, layout, r);
+    let n = row_length(sheet, layout, r);
+    let first = starts[r];
     let mut after = tape;
     let mut i: usize = 0;
     while i < rows {
-        let row = copied(given, first + i * n, n);
-        after = row_marks(list, after, mark, &row[..n]);
+        let start = first + i * n;
+        let end = start + n;
+        after = row_marks(list, after, mark, &given[start..end]);
         i += 1;
     }
     after
 }
 
 // All relations.
-pub fn marks(sorts: &[u8], relations: &[u8], given: &[i32], list: &mut [i32], tape: Tape) -> Tape
+pub fn marks(
+    list: &mut [i32],
+    tape: Tape,
+    sheet: &[u8],
+    layout: Layout,
+    given: &[i32],
+    starts: &[usize],
+) -> Tape
     requires { ⌜ Small 1000 tape ⌝ }
-    requires { ⌜ AllInside 16002 (literalsOf (now given)) ⌝ }
-    requires { ⌜ Declared (blocks (now sorts) (now relations)) ⌝ }
-    ensures { λ t. ⌜ Adds 22656 (markClauses (blocks (now (sorts .entry)) (now (relations .entry))) (literalsOf (now (given .entry))))
+    requires { ⌜ Given (now sheet) layout (now given) (now starts) ⌝ }
+    ensures { λ t. ⌜ Adds 22656 (markClauses (sheetOf (now (sheet .entry))) (literalsOf (now (given .entry))))
         (now (list .entry)) tape (now (list .exit)) t ⌝ }
 {
-    let count = relations.len() / 4;
+    let relations = layout.relations;
+    let count = relations.count;
     let mut after = tape;
     let mut r: usize = 0;
     while r < count {
-        after = relation_marks(sorts, relations, given, r, list, after);
+        after = relation_marks(list, after, sheet, layout, given, starts, r);
         r += 1;
     }
     after

@@ -60,7 +60,8 @@ returns-3 c =
     let some = start .pre .1 .1 .some in
     let e : _≡_ {A = List Clause} ((literalOf (read w) ∷ literalsOf others) ∷ []) (literalsOf ws ∷ []) =
     ap (λ l. l ∷ [])
-    (ap (λ z. literalOf z ∷ literalsOf others) (back w (record { sfits = c .before .before .before .before .p .given })) ∙ whole-row ws some)
+    (ap (λ z. literalOf z ∷ literalsOf others) (back w (record { sfits = c .before .before .before .before .p .given }))
+    ∙ whole-row ws some)
     in
     adds-most (adds-as
     (adds-then (c .before .before .before .before .before .before .before .row-pairs .ensures)
