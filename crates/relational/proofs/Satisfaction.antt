@@ -13,7 +13,8 @@ use Rattle.prelude.specs.Tests.{between, each}
 use Rattle.prelude.proofs.Laws.{clash, and-left, and-right, each-at, between-low, between-high}
 use Rattle.kinds.specs.Kinds.{rowOf, isKnown}
 use Rattle.shapes.specs.declared.Shape.the-variants.{Ill}
-use Rattle.sheet_rules.specs.Blocks.{Sheet, sortCount, scope, variableCount, sortOf, relationCount, columns, multiplicity, firstSort, secondSort}
+use Rattle.sheet_rules.specs.Blocks.{Sheet, sortCount, scope, variableCount, sortOf, relationCount, columns, multiplicity, firstSort}
+use Rattle.sheet_rules.specs.Blocks.{secondSort}
 use Rattle.sheet_rules.specs.Blocks.{nodeCount, kind, fieldA, fieldB, root}
 use Rattle.shapes.specs.Shapes.{isFormula}
 use Rattle.sheet_rules.specs.Tables.{shapes, free}
