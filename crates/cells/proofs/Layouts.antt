@@ -53,8 +53,12 @@ module _ (sheet : Sheet) (facts : Facts sheet) where
   first-most zero = omega arith
   first-most (suc r) = omega (arith, first-most r, mul-le-mul (rows-most r) (length-most r))
 
-pub square : {a b : ℕ} → a ≤ 8 → b ≤ 8 → a * b ≤ 64
-square p q = mul-le-mul p q
+-- the cells of a relation stand before those of the next
+pub relation-ends : (sheet : Sheet) (r n : ℕ) → r < n → firstCell sheet r + cellsOf sheet r ≤ firstCell sheet n
+unfolding firstCell
+relation-ends sheet r zero h = absurd (omega arith)
+relation-ends sheet r (suc n) h =
+    ⊎-elim (λ e. rw e (omega arith)) (λ l. omega (arith, relation-ends sheet r n l)) (eq-or-lt-of-le (omega arith))
 
 -- what the loop over the relations has: the cells of those before r, and where each starts
 pub record Stored (sheet : Sheet) (n : ℕ) (starts : List ℕ) (r : ℕ) : Type 0 where

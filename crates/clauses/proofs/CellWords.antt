@@ -1,6 +1,6 @@
 -- The words of the cells, one after the other.
 use mathlib.Core.Path.{_≡_, refl, sym, ap, _∙_}
-use mathlib.Core.List.{List, [], _∷_, map}
+use mathlib.Core.List.{List, [], _∷_, map, map-append}
 use Prim.Native.Nat.{ℕ, _+_, _≤_, _<_}
 use native.Mathlib.Decide.{decLt}
 use native.Mathlib.Numerals.{add-one}
@@ -11,7 +11,7 @@ use lib.Seq.{take-suc-set}
 use Rattle.literal.specs.Literals.{Literal, positive, literalOf, positiveWord}
 use Rattle.literal.proofs.Words.{positive-is}
 use Rattle.relational.specs.Matrices.{upto}
-use Rattle.relational.proofs.Places.{map-append, upto-suc, upto-at, length-map-from}
+use Rattle.relational.proofs.Places.{upto-suc, upto-at, length-map-from}
 use Rattle.clauses_rules.specs.Translation.{absent}
 use Rattle.clauses_emission.specs.Emission.{Inside, AllInside, literalsOf}
 use Rattle.clauses_emission.proofs.Ranges.{inside-absent}

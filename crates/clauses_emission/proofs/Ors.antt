@@ -1,6 +1,6 @@
 -- Gates: their clauses, word by word, and OR by the number of its inputs.
 use mathlib.Core.Path.{_≡_, refl, sym, ap, _∙_, subst}
-use mathlib.Core.List.{List, [], _∷_, _++_, map, append-nil}
+use mathlib.Core.List.{List, [], _∷_, _++_, map, append-nil, map-append}
 use Prim.Native.Nat.{ℕ, suc, _+_, _*_, _≤_, _<_}
 use native.Mathlib.Omega.{arith}
 use lib.IntN.{ℤ, pos}
@@ -8,7 +8,6 @@ use lib.ListN.{length, getD, take, set, length-append, length-map}
 use lib.Seq.{take-all, take-suc, take-suc-set}
 use Rattle.literal.specs.Literals.{Literal, positive, negative, opposite, literalOf, wordOf}
 use Rattle.clause_list.specs.ClauseList.{wordsOf}
-use Rattle.relational.proofs.Places.{map-append}
 use Rattle.clauses_rules.specs.Builder.{Builder, return, _<$>_}
 use Rattle.clauses_rules.specs.Gates.{Clause, gateOf, or, inputClauses, gatesClauses}
 use Rattle.clauses_emission.specs.declared.Tape.{Tape}

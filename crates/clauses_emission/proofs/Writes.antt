@@ -1,6 +1,6 @@
 -- Clauses written one after the other.
 use mathlib.Core.Path.{_≡_, refl, sym, ap, _∙_}
-use mathlib.Core.List.{List, [], _∷_, _++_, map}
+use mathlib.Core.List.{List, [], _∷_, _++_, map, map-append}
 use Prim.Native.Nat.{ℕ, suc, _+_, _≤_, _<_}
 use native.Mathlib.Nat.{add-zero}
 use native.Mathlib.Numerals.{add-one}
@@ -14,7 +14,6 @@ use Rattle.literal.specs.Literals.{literalOf, wordOf}
 use Rattle.literal.proofs.Words.{word-literal}
 use Rattle.clause_list.specs.ClauseList.{wordsOf}
 use Rattle.clause_list.proofs.Laws as list
-use Rattle.relational.proofs.Places.{map-append}
 use Rattle.clauses_rules.specs.Gates.{Clause}
 use Rattle.clauses_emission.specs.declared.Tape.{Tape}
 use Rattle.clauses_emission.specs.Emission.{literalsOf, wordsFor, Writes, Appends}

@@ -1,9 +1,7 @@
 -- The rows of a relation, and the relations of a sheet.
 use mathlib.Core.Path.{_≡_, refl, ap, _∙_}
 use mathlib.Core.List.{List, [], _++_, map}
-use mathlib.Core.Logic.{⊎-elim}
 use Prim.Native.Nat.{ℕ, zero, suc, _+_, _*_, _-_, _≤_, _<_}
-use native.Mathlib.Nat.{eq-or-lt-of-le}
 use native.Mathlib.Numerals.{add-one}
 use native.Mathlib.Omega.{arith}
 use native.Mathlib.Decide.{decLt}
@@ -15,6 +13,7 @@ use Rattle.sheet_rules.specs.Blocks.{Sheet, relationCount}
 use Rattle.relational.specs.Cells.{rowCount, rowLength, cellsOf, firstCell, cellCount, cell}
 use Rattle.relational.specs.Matrices.{from}
 use Rattle.relational.proofs.Places.{length-map-from, from-at, place-below}
+use Rattle.cells.proofs.Layouts.{relation-ends}
 use Rattle.clauses_rules.specs.Translation.{absent, literalAt}
 use Rattle.clauses_rules.specs.Whole.{series, rowClauses, rowLiterals}
 use Rattle.clauses_emission.specs.Emission.{Inside, AllInside, literalsOf}
@@ -42,13 +41,6 @@ part-cells : (ws : List ℤ) (start n : ℕ) → start + n ≤ length ws
 part-cells ws start zero h = refl
 part-cells ws start (suc n) h =
     rw (drop-cons ws start (pos 0) (omega arith), ← literal-at ws start (omega arith), part-cells ws (suc start) n (omega arith))
-
--- the cells of a relation end where the next one starts
-relation-ends : (sheet : Sheet) (r n : ℕ) → r < n → firstCell sheet r + cellsOf sheet r ≤ firstCell sheet n
-unfolding firstCell
-relation-ends sheet r zero h = absurd (omega arith)
-relation-ends sheet r (suc n) h =
-    ⊎-elim (λ e. rw e (omega arith)) (λ l. omega (arith, relation-ends sheet r n l)) (eq-or-lt-of-le (omega arith))
 
 -- row i of relation r stands from first + i * n on
 pub record RowAt (sheet : Sheet) (given : List ℤ) (r i rows n first : ℕ) : Type 0 where

@@ -1,6 +1,6 @@
 -- The pairs and the literals of a row.
 use mathlib.Core.Path.{_≡_, refl, sym, ap, _∙_}
-use mathlib.Core.List.{List, [], _∷_, _++_, map, append-assoc, append-nil}
+use mathlib.Core.List.{List, [], _∷_, _++_, map, append-assoc, append-nil, map-append}
 use Prim.Native.Nat.{ℕ, zero, suc, _+_, _*_, _-_, _≤_, _<_}
 use native.Mathlib.Numerals.{add-one}
 use native.Mathlib.Omega.{arith}
@@ -9,7 +9,6 @@ use lib.ListN.{length, getD, take, drop, length-drop, drop-of-length-le}
 use lib.Seq.{drop-cons, take-all, take-suc}
 use Rattle.literal.specs.Literals.{Literal, opposite, literalOf}
 use Rattle.relational.specs.Matrices.{pairs}
-use Rattle.relational.proofs.Places.{map-append}
 use Rattle.clauses_rules.specs.Translation.{Two, absent}
 use Rattle.clauses_rules.specs.Whole.{pairClause, rowClauses}
 use Rattle.clauses_emission.specs.declared.Tape.{Tape}

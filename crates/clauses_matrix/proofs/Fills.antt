@@ -1,9 +1,8 @@
 -- Cells filled one after the other, and what a matrix has at a place.
 use mathlib.Core.Path.{_≡_, refl, sym, ap, _∙_, subst}
-use mathlib.Core.List.{List, [], _∷_, _++_, map}
+use mathlib.Core.List.{List, [], _∷_, _++_, map, map-append}
 use mathlib.Core.Logic.{⊎-elim, inl, inr, _⊎_}
 use Prim.Native.Nat.{ℕ, zero, suc, _+_, _*_, _≤_, _<_}
-use native.Mathlib.Nat.{mul-le-mul}
 use native.Mathlib.Omega.{arith}
 use mathlib.Core.Bool.{Bool, true, false, cond}
 use lib.Dec.{ltb, eqb}
@@ -17,7 +16,7 @@ use borrow.Author.Tests.{ltb-true, ltb-false}
 use Rattle.prelude.proofs.Laws.{decided}
 use Rattle.literal.specs.Literals.{Literal, literalOf}
 use Rattle.relational.specs.Matrices.{from, upto, cellAt, joinColumns}
-use Rattle.relational.proofs.Places.{map-append, place-below}
+use Rattle.relational.proofs.Places.{place-below, square}
 use Rattle.clauses_rules.specs.Builder.{Builder, each}
 use Rattle.clauses_rules.specs.Translation.{Two, absent}
 use Rattle.clauses_emission.specs.declared.Tape.{Tape}
@@ -138,17 +137,11 @@ abbrev pub pairAt : List ℤ → List ℤ → (ℕ → ℕ) → (ℕ → ℕ) �
 pairAt left right i j k = (literalOf (getD left (i k) (pos 0)), literalOf (getD right (j k) (pos 0)))
 
 -- ---- what the cells of a matrix go into
-few-cells : (r c : ℕ) → r ≤ 8 → c ≤ 8 → r * c ≤ 64
-few-cells r c h l = omega (arith, mul-le-mul h l)
-
 pub size-fits : (r c : ℕ) → r ≤ 8 → c ≤ 8 → Fits w64 (r * c)
-size-fits r c h l = record { fits = omega (arith, few-cells r c h l) }
+size-fits r c h l = record { fits = omega (arith, square h l) }
 
 pub cell-below : (r c k : ℕ) → r ≤ 8 → c ≤ 8 → k < r * c → k < 64
-cell-below r c k h l b = omega (arith, few-cells r c h l)
-
-pub one-more : (k n : ℕ) → k < n → k + 1 ≤ n
-one-more k n h = omega arith
+cell-below r c k h l b = omega (arith, square h l)
 
 -- numbers that the machine takes
 pub fits-small : (k : ℕ) → k < 64 → Fits w64 k

@@ -1,13 +1,11 @@
 -- Places in row order, by their number: the place of number k is row k / columns, column k % columns.
 use mathlib.Core.Path.{_≡_, refl, ap, _∙_}
-use mathlib.Core.List.{List, _∷_, _++_, map}
+use mathlib.Core.List.{List, _∷_, _++_, map, map-append}
 use Prim.Native.Nat.{ℕ, zero, suc, _+_, _*_, _/_, _%_, _≤_, _<_}
 use native.Mathlib.Nat.{add-zero, zero-mul, div-eq-of-lt, mod-eq-of-lt, mul-add-div-right}
-use native.Mathlib.Nat.{mul-add-mod-self-right, mod-lt, div-lt-iff-lt-mul, eq-zero-or-pos, mul-zero}
+use native.Mathlib.Nat.{mul-add-mod-self-right}
 use native.Mathlib.Omega.{arith}
-use mathlib.Core.Logic.{⊎-elim}
 use Rattle.relational.specs.Matrices.{from, upto, Place, placesFrom, places}
-use Rattle.relational.proofs.Places.{map-append}
 
 abbrev pub placeOf : ℕ → ℕ → Place
 placeOf c k = (k / c, k % c)
@@ -48,17 +46,3 @@ rows-of i (suc r) c =
 
 pub places-by-number : (r c : ℕ) → places r c ≡ map (placeOf c) (upto (r * c))
 places-by-number r c = rows-of 0 r c ∙ ap (λ (k : ℕ). map (placeOf c) (from k (r * c))) (zero-mul c)
-
--- the row and the column of a number
-module _ (r c k : ℕ) (h : k < r * c) where
-  pub some-columns : zero < c
-  some-columns = ⊎-elim (λ e. absurd (none e)) (λ p. p) (eq-zero-or-pos c)
-    where
-      none : c ≡ 0 → ⊥
-      none e = let f : r * c ≡ 0 = ap (λ (x : ℕ). r * x) e ∙ mul-zero r in omega arith
-
-  pub row-below : k / c < r
-  row-below = div-lt-iff-lt-mul {k = c} {x = k} {y = r} some-columns .1 h
-
-  pub column-below : k % c < c
-  column-below = mod-lt k some-columns

@@ -1,6 +1,6 @@
 -- The pairs of a list's elements, passed in order by two numbers i < j, and the array of what is made of each.
 use mathlib.Core.Path.{_≡_, refl, sym, ap, _∙_}
-use mathlib.Core.List.{List, [], _∷_, _++_, map, append-assoc, append-nil}
+use mathlib.Core.List.{List, [], _∷_, _++_, map, append-assoc, append-nil, map-append}
 use Prim.Native.Nat.{ℕ, zero, suc, _+_, _*_, _≤_, _<_}
 use native.Mathlib.Nat.{mul-le-mul-right}
 use native.Mathlib.Numerals.{add-one}
@@ -10,7 +10,6 @@ use lib.ListN.{length, getD, take, drop, set, replicate, length-append, length-m
 use lib.Seq.{drop-cons, take-suc-set, length-take-le}
 use Rattle.literal.specs.Literals.{Literal, opposite, literalOf}
 use Rattle.relational.specs.Matrices.{pairs}
-use Rattle.relational.proofs.Places.{map-append}
 use Rattle.clauses_rules.specs.Builder.{Built, Builder, _>>=_, _<$>_, each}
 use Rattle.clauses_rules.specs.Gates.{or, and}
 use Rattle.clauses_rules.specs.Translation.{Two, absent, both, apart}

@@ -1,21 +1,18 @@
 -- An array of 64 flags that a loop fills from the front, and the matrix that it stands for.
-use mathlib.Core.Path.{_≡_, refl, sym, ap, _∙_, subst, fun-ext}
+use mathlib.Core.Path.{_≡_, refl, sym, ap, _∙_, fun-ext}
 use mathlib.Core.Bool.{Bool, false}
 use mathlib.Core.Logic.{_⊎_, ⊎-elim}
 use mathlib.Core.List.{List, map}
 use Prim.Native.Nat.{ℕ, zero, suc, _+_, _*_, _/_, _%_, _<_, _≤_}
-use native.Mathlib.Nat.{eq-or-lt-of-le, mul-le-mul, mul-le-mul-right, mod-lt, div-add-mod', div-lt-iff-lt-mul}
+use native.Mathlib.Nat.{eq-or-lt-of-le, mul-le-mul-right, div-add-mod'}
 use native.Mathlib.Decide.{decLt}
 use native.Mathlib.Omega.{arith}
 use lib.ListN.{length, getD, set, take, replicate, length-set, length-replicate, List·getD-eq-default, length-take}
 use lib.Seq.{getD-set-same, getD-set-other, getD-take, length-take-le, ext-getD}
 use Rattle.relational.specs.Matrices.{upto, Place, places, cellAt}
-use Rattle.relational.proofs.Places.{length-map-from, upto-at, length-places, places-at}
+use Rattle.relational.proofs.Places.{length-map-from, upto-at, length-places, places-at, square, row-below, column-below}
 use Rattle.instance_matrix.specs.declared.Value.{Value}
 use Rattle.instance_matrix.specs.Values.{matrixOf, Fine}
-
-pub small-product : (rows columns : ℕ) → rows ≤ 8 → columns ≤ 8 → rows * columns ≤ 64
-small-product rows columns h g = mul-le-mul h g
 
 pub small-index : (i columns j : ℕ) → i < 8 → columns ≤ 8 → j < columns → i * columns + j < 64
 small-index i columns j h g l = omega (arith, mul-le-mul-right columns h)
@@ -62,21 +59,6 @@ module _ (cells : List Bool) (f : ℕ → Bool) (n : ℕ) (u : Filled cells f n)
   pub filled-upto : (g : ℕ → Bool) → ((k : ℕ) → k < n → f k ≡ g k) → take n cells ≡ map g (upto n)
   filled-upto g h = filled-list (map g (upto n)) (length-map-from g 0 n) (λ k l. h k l ∙ sym (upto-at g false n k l))
 
--- ---- a place's number, and back
-module _ (r c k : ℕ) (h : k < r * c) where
-  pub some-column : 0 < c
-  some-column = go c refl
-    where
-      go : (d : ℕ) → c ≡ d → 0 < d
-      go zero e = absurd (omega (arith, subst (λ (x : ℕ). k < r * x) e h))
-      go (suc d) e = omega arith
-
-  pub row-below : k / c < r
-  row-below = div-lt-iff-lt-mul some-column .1 h
-
-  pub column-below : k % c < c
-  column-below = mod-lt k some-column
-
 pub filled-places : (cells : List Bool) (r c : ℕ) (g : Place → Bool) → Filled cells (λ k. g (k / c, k % c)) (r * c) → r * c ≤ 64
     → take (r * c) cells ≡ map g (places r c)
 filled-places cells r c g u small =
@@ -106,4 +88,4 @@ module _ (v : Value) (f : Fine v) where
   pub cells-counted : length (matrixOf v .cells) ≡ v .rows * v .columns
   cells-counted =
       length-take-le (v .rows * v .columns) (v .cells)
-      (omega (arith, f .long, small-product (v .rows) (v .columns) (f .few-rows) (f .few-columns)))
+      (omega (arith, f .long, square (f .few-rows) (f .few-columns)))

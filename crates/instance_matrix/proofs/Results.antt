@@ -17,7 +17,8 @@ use Rattle.relational.proofs.Places.{map-map, length-map-from, from-at}
 use Rattle.instance_matrix.specs.declared.Value.{Value}
 use Rattle.instance_matrix.specs.declared.flags.Pairing.{Pairing}
 use Rattle.instance_matrix.specs.Values.{matrixOf, sized, flagsFrom, SetOrRelation, Fine, Gives, paired}
-use Rattle.instance_matrix.proofs.Filling.{small-product, Filled, filled-list, filled-upto, filled-places, cells-of}
+use Rattle.instance_matrix.proofs.Filling.{Filled, filled-list, filled-upto, filled-places, cells-of}
+use Rattle.relational.proofs.Places.{square}
 
 abbrev pub value : ℕ → ℕ → ℕ → List Bool → Value
 value arity rows columns cells = record { arity = arity; rows = rows; columns = columns; cells = cells }
@@ -50,7 +51,7 @@ given-law instance first arity rows columns cells k e hr hc s u =
     let flag : ℕ → Bool = λ i. eqb (byte instance i) 1 in
     let w : Filled cells (λ j. flag (first + j)) n = subst (λ (m : ℕ). Filled cells (λ j. flag (first + j)) m) e u in
     gives arity rows columns cells (λ j. flag (first + j)) (flagsFrom instance first n) hr hc s w
-    (filled-list cells (λ j. flag (first + j)) n w (small-product rows columns hr hc) (flagsFrom instance first n)
+    (filled-list cells (λ j. flag (first + j)) n w (square hr hc) (flagsFrom instance first n)
     (length-map-from flag first n) (λ j l. sym (from-at flag false first n j l)))
 
 pub upto-law : (n : ℕ) (f : ℕ → Bool) (cells : List Bool) (k : ℕ) → k ≡ n → n ≤ 8 → Filled cells f k
@@ -64,7 +65,7 @@ pub places-law : (r c : ℕ) (g : Place → Bool) (cells : List Bool) (k : ℕ) 
 places-law r c g cells k e hr hc u =
     let w : Filled cells (λ j. g (j / c, j % c)) (r * c) = subst (λ (m : ℕ). Filled cells (λ j. g (j / c, j % c)) m) e u in
     gives 2 r c cells (λ j. g (j / c, j % c)) (map g (places r c)) hr hc (inr refl) w
-    (filled-places cells r c g w (small-product r c hr hc))
+    (filled-places cells r c g w (square hr hc))
 
 -- ---- two operands
 module _ (p q : Value) (fp : Fine p) (fq : Fine q) where
@@ -102,7 +103,7 @@ module _ (p q : Value) (fp : Fine p) (fq : Fine q) where
       let w : Filled cells f n = subst (λ (m : ℕ). Filled cells f m) e u in
       gives (p .arity) (p .rows) (p .columns) cells f (map (paired pairing) (matched false (matrixOf p) (matrixOf q))) (fp .few-rows)
       (fp .few-columns) (fp .set-or-relation) w
-      (filled-upto cells f n w (small-product (p .rows) (p .columns) (fp .few-rows) (fp .few-columns)) f (λ j l. refl)
+      (filled-upto cells f n w (square (fp .few-rows) (fp .few-columns)) f (λ j l. refl)
       ∙ sym (map-map (paired pairing) pair (upto n)) ∙ ap (map (paired pairing)) (sym matched-cells))
 
   pub product-law : (cells : List Bool) (k : ℕ) → k ≡ p .columns * q .columns
@@ -155,7 +156,7 @@ module _ (p q : Value) (fp : Fine p) (fq : Fine q) where
         let w : Filled cells f (p .rows * c) = subst (λ (m : ℕ). Filled cells f m) e u in
         rw (ne-eqb (p .arity + q .arity) 4 s, e)
         (gives-set (p .rows * c) cells f (joinCells (matrixOf p) (matrixOf q)) (join-small s) w
-        (filled-places cells (p .rows) c joinFlag w (small-product (p .rows) c (fp .few-rows) join-narrow)))
+        (filled-places cells (p .rows) c joinFlag w (square (fp .few-rows) join-narrow)))
 
     pub join-law : (c : ℕ) → c ≡ joinColumns (matrixOf q) → k ≡ p .rows * c
         → Filled cells (λ j. any both (middles false (matrixOf p) (matrixOf q) (j / c, j % c))) k

@@ -1,10 +1,9 @@
 -- What the finder prints tells what `find` found: the words that a text starts with differ in their first letters.
 use mathlib.Core.Path.{_≡_, refl, sym, ap, _∙_, subst}
-use mathlib.Core.Bool.{false}
 use mathlib.Core.Logic.{⊎-elim}
 use mathlib.Core.List.{List, [], _∷_, _++_}
-use Prim.Native.Nat.{ℕ, zero, suc, _+_, _≤_, _<_}
-use native.Mathlib.Nat.{not-suc-le-zero, mul-le-mul-right}
+use Prim.Native.Nat.{ℕ, _<_}
+use native.Mathlib.Nat.{mul-le-mul-right}
 use native.Mathlib.Omega.{arith}
 use lib.Dec.{eqb, leb}
 use lib.ListN.{length, getD, take, drop, List·getD-append}
@@ -13,7 +12,8 @@ use borrow.Author.Tests.{eqb-true, leb-true, leb-false}
 use Rattle.prelude.proofs.Laws.{and-left, decided}
 use Rattle.text.specs.Texts.{bytesOf, decimal, endLine, Prints}
 use Rattle.sheet_rules.specs.Blocks.{Sheet, sheetOf, byte, relationCount}
-use Rattle.relational.specs.Cells.{rowCount, rowLength, cellsOf, firstCell, cellCount, cell, withinScopes}
+use Rattle.cells.proofs.Layouts.{relation-ends}
+use Rattle.relational.specs.Cells.{rowCount, rowLength, cellCount, cell, withinScopes}
 use Rattle.clauses_rules.specs.Matching.{Solution}
 use Rattle.clauses_rules.proofs.Series.{same-series}
 use Rattle.search.specs.Answers.{Answer, found, none, spent, refused}
@@ -24,20 +24,10 @@ use Rattle.report.specs.Printed.{cellDigit, rowDigits, relationLine, rel
 use Rattle.report.specs.Tells.{ShowsSolution, Tells}
 use Rattle.report.proofs.Texts.{long-text, short-text}
 
--- the cells of a relation stand before those of the next
-first-up : (sheet : Sheet) (r n : ℕ) → r < n → firstCell sheet r + cellsOf sheet r ≤ firstCell sheet n
-unfolding firstCell
-first-up sheet r zero h = absurd (not-suc-le-zero h)
-first-up sheet r (suc n) h =
-    ⊎-elim
-    (λ e. omega (arith, first-up sheet r n (leb-true (suc r) n e)))
-    (λ (e : leb (suc r) n ≡ false). let q : r ≡ n = omega (arith, leb-false (suc r) n e) in rw q (omega arith))
-    (decided (leb (suc r) n))
-
 cell-inside : (sheet : Sheet) (r i j : ℕ) → r < relationCount sheet → i < rowCount sheet r → j < rowLength sheet r
     → cell sheet r i j < cellCount sheet
 cell-inside sheet r i j h k l =
-    omega (arith, first-up sheet r (relationCount sheet) h, mul-le-mul-right (rowLength sheet r) k)
+    omega (arith, relation-ends sheet r (relationCount sheet) h, mul-le-mul-right (rowLength sheet r) k)
 
 -- only the cells are printed: a row, a line, all lines
 module _ (sheet : Sheet) (instance rest : List ℕ) (e : length instance ≡ cellCount sheet) where

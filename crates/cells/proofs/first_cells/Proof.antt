@@ -7,7 +7,8 @@ use Rattle.sheet_rules.specs.Blocks.{sheetOf, relationCount}
 use Rattle.sheet_rules.proofs.Acceptance.{accepted-facts}
 use Rattle.relational.specs.Cells.{firstCell}
 use Rattle.cells.proofs.Parts.{relations-counted, few-relations}
-use Rattle.cells.proofs.Layouts.{square, first-most, Stored, stored-none, stored-more}
+use Rattle.cells.proofs.Layouts.{first-most, Stored, stored-none, stored-more}
+use Rattle.relational.proofs.Places.{square}
 use Rattle.cells.proofs.first_cells.Statement.{statement}
 use Rattle.cells.proofs.first_cells.Tie as tie
 

@@ -1,6 +1,7 @@
 -- `operators::closure` meets its contract. The loop's invariant: the rounds passed are worked out.
 use borrow.Author.Needs.{needs}
 use mathlib.Core.Path.{_≡_}
+use native.Mathlib.Numerals.{add-one-le}
 use native.Mathlib.Omega.{arith}
 use Rattle.relational.specs.Matrices.{rounds}
 use Rattle.clauses_rules.specs.Translation.{roundOf, afterRounds}
@@ -9,7 +10,6 @@ use Rattle.clauses_emission.proofs.Steps.{emits-return, emits-bind}
 use mathlib.Core.Path.{subst}
 use Prim.Native.Nat.{ℕ, _-_, _≤_}
 use native.Mathlib.Numerals.{add-one}
-use Rattle.clauses_matrix.proofs.Fills.{one-more}
 use Rattle.clauses_matrix.proofs.Regulars.{regular-round, regular-rounds}
 use Rattle.clauses_matrix.proofs.operators.closure.Statement.{statement}
 use Rattle.clauses_matrix.proofs.operators.closure.Tie as tie
@@ -46,7 +46,7 @@ loop-again c =
     let loop = c .before .before .before .before .before .before .loop in
     let p = matrixOf (start .args .p) in
     let k = loop .k in (
-      one-more k _ (c .before .before .before .before .before .loop-test .taken),
+      add-one-le (c .before .before .before .before .before .loop-test .taken),
       rw (add-one k)
           (emits-bind (afterRounds k p) roundOf (regular-rounds k p) regular-round (loop .inv .1) (c .before .before .before .round .ensures)),
     )

@@ -3,6 +3,7 @@ use mathlib.Core.Path.{_≡_, refl, sym, ap, _∙_}
 use mathlib.Core.List.{List, map}
 use Prim.Native.Nat.{ℕ, _+_, _-_, _*_, _/_, _%_, _≤_, _<_}
 use native.Mathlib.Numerals.{add-one}
+use native.Mathlib.Numerals.{add-one-le}
 use native.Mathlib.Omega.{arith}
 use lib.IntN.{ℤ, pos}
 use lib.ListN.{getD}
@@ -12,13 +13,12 @@ use Rattle.clauses_rules.specs.Builder.{return, each}
 use Rattle.clauses_rules.specs.Translation.{absent}
 use Rattle.clauses_matrix.specs.Matrices.{matrixOf, EmitsCells}
 use Rattle.clauses_emission.proofs.Steps.{regular-return, emits-return, emits-map, emits-as}
-use Rattle.clauses_matrix.proofs.Numbers.{placeOf, places-by-number, some-columns, row-below, column-below}
+use Rattle.clauses_matrix.proofs.Numbers.{placeOf, places-by-number}
+use Rattle.relational.proofs.Places.{map-map, some-column, row-below, column-below}
 use Rattle.clauses_matrix.proofs.Fills.{cells-start, cells-next, cells-done, operand-at, operand-inside, size-fits, cell-below}
-use Rattle.clauses_matrix.proofs.Fills.{one-more}
 use Rattle.clauses_matrix.proofs.Fills.{fits-small, fits-part, fits-four, fits-next, place-in}
 use Rattle.clauses_matrix.proofs.Regulars.{each-return}
 use Rattle.relational.specs.Matrices.{Place, upto, cellAt, places, relationOf}
-use Rattle.relational.proofs.Places.{map-map}
 use Rattle.clauses_matrix.proofs.operators.inverse.Statement.{statement}
 use Rattle.clauses_matrix.proofs.operators.inverse.Tie as tie
 
@@ -62,7 +62,7 @@ place-below c =
 
 rem-l : tie.Need-rem-l Inv-loop μ-loop
 rem-l c =
-    some-columns (c .before .before .args .t2 .columns) (c .before .before .args .t2 .rows) (c .before .loop .k)
+    some-column (c .before .before .args .t2 .columns) (c .before .before .args .t2 .rows) (c .before .loop .k)
     (c .loop-test .taken)
 
 mul-l : tie.Need-mul-l Inv-loop μ-loop
@@ -70,7 +70,7 @@ mul-l c = fits-part _ _ (place-below c)
 
 div-l : tie.Need-div-l Inv-loop μ-loop
 div-l c =
-    some-columns (c .before .before .args .t2 .columns) (c .before .before .args .t2 .rows) (c .before .loop .k)
+    some-column (c .before .before .args .t2 .columns) (c .before .before .args .t2 .rows) (c .before .loop .k)
     (c .loop-test .taken)
 
 add-l : tie.Need-add-l Inv-loop μ-loop
@@ -103,7 +103,7 @@ loop-again c =
     let k = loop .k in
     let at = (k % p .rows) * p .columns + k / p .rows in
     let w = getD (p .cells) at (pos 0) in (
-      one-more k _ (turn .loop-test .taken),
+      add-one-le (turn .loop-test .taken),
       λ list.
           rw (add-one k, back w (record { sfits = c .l .given }))
           (cells-next (λ l. return l) (λ l. regular-return l)

@@ -3,6 +3,7 @@ use mathlib.Core.Path.{_≡_, _∙_}
 use mathlib.Core.List.{map}
 use Prim.Native.Nat.{ℕ, _+_, _-_, _*_, _≤_, _<_}
 use native.Mathlib.Numerals.{add-one}
+use native.Mathlib.Numerals.{add-one-le}
 use native.Mathlib.Omega.{arith}
 use lib.IntN.{pos}
 use lib.ListN.{getD}
@@ -17,7 +18,7 @@ use Rattle.clauses_matrix.specs.Matrices.{matrixOf, EmitsCells}
 use Rattle.clauses_emission.specs.declared.Pairing.the-variants.{Both}
 use Rattle.clauses_emission.proofs.Ranges.{inside-grows}
 use Rattle.clauses_emission.proofs.Steps.{regular-pairing, regular-each, regular-or, emits-bind}
-use Rattle.clauses_matrix.proofs.Fills.{cells-start, cells-next, cells-done, operand-at, operand-inside, pairAt, one-more}
+use Rattle.clauses_matrix.proofs.Fills.{cells-start, cells-next, cells-done, operand-at, operand-inside, pairAt}
 use Rattle.clauses_matrix.proofs.Fills.{fits-small, fits-part, fits-four, fits-next, place-in, front-inputs, front-length, join-few}
 use Rattle.clauses_matrix.proofs.operators.join_cell.Statement.{statement}
 use Rattle.clauses_matrix.proofs.operators.join_cell.Tie as tie
@@ -138,7 +139,7 @@ loop-again c =
     let j = k * columns + start .args .j in
     let call = c .before .before .before .both in
     let w = call .result .literal in (
-      one-more k _ (turn .loop-test .taken),
+      add-one-le (turn .loop-test .taken),
       rw (add-one k, back w (search needs))
           (cells-next both (regular-pairing Both)
           (pairAt left right (λ a. start .args .i * start .args .t3 .columns + a) (λ a. a * columns + start .args .j)) k (loop .middles) w

@@ -4,13 +4,15 @@ use mathlib.Core.Path.{refl, sym, ap}
 use mathlib.Core.List.{map}
 use Prim.Native.Nat.{_-_, _*_, _≤_, _<_}
 use native.Mathlib.Numerals.{add-one}
+use native.Mathlib.Numerals.{add-one-le}
 use native.Mathlib.Omega.{arith}
 use Rattle.literal.proofs.Signs.{back}
 use Rattle.clauses_rules.specs.Builder.{each}
 use Rattle.clauses_matrix.specs.Matrices.{matrixOf, EmitsCells, joinCell}
 use Rattle.clauses_emission.proofs.Steps.{emits-as}
-use Rattle.clauses_matrix.proofs.Numbers.{placeOf, places-by-number, some-columns, row-below, column-below}
-use Rattle.clauses_matrix.proofs.Fills.{cells-start, cells-next, cells-done, operand-grow, size-fits, cell-below, one-more}
+use Rattle.clauses_matrix.proofs.Numbers.{placeOf, places-by-number}
+use Rattle.relational.proofs.Places.{some-column, row-below, column-below}
+use Rattle.clauses_matrix.proofs.Fills.{cells-start, cells-next, cells-done, operand-grow, size-fits, cell-below}
 use Rattle.clauses_matrix.proofs.Fills.{fits-four, fits-next}
 use Rattle.clauses_matrix.proofs.Regulars.{regular-join-cell}
 use Rattle.relational.specs.Matrices.{upto}
@@ -53,12 +55,12 @@ loop-holds c =
 div-join-cell : tie.Need-div-join-cell Inv-loop μ-loop
 div-join-cell c =
     let a = c .before .before .before .before .before .args in
-    some-columns (a .p .rows) (c .before .before .before .before .join-columns .result) (c .before .before .loop .k) (c .before .loop-test .taken)
+    some-column (a .p .rows) (c .before .before .before .before .join-columns .result) (c .before .before .loop .k) (c .before .loop-test .taken)
 
 rem-join-cell : tie.Need-rem-join-cell Inv-loop μ-loop
 rem-join-cell c =
     let a = c .before .before .before .before .before .args in
-    some-columns (a .p .rows) (c .before .before .before .before .join-columns .result) (c .before .before .loop .k) (c .before .loop-test .taken)
+    some-column (a .p .rows) (c .before .before .before .before .join-columns .result) (c .before .before .loop .k) (c .before .loop-test .taken)
 
 join-cell-requires : tie.Need-join-cell-requires Inv-loop μ-loop
 join-cell-requires c κs =
@@ -101,7 +103,7 @@ loop-again c =
     let call = c .before .before .before .join-cell in
     let w = call .result .literal in
     let step = joinCell (matrixOf (start .args .p)) (matrixOf (start .args .q)) in (
-      one-more k _ (turn .loop-test .taken),
+      add-one-le (turn .loop-test .taken),
       rw (add-one k, back w (search needs))
           (cells-next step (regular-join-cell (matrixOf (start .args .p)) (matrixOf (start .args .q))) (placeOf (columns .result)) k
           (loop .cells) w (below turn)

@@ -3,6 +3,7 @@ use mathlib.Core.Path.{_≡_}
 use mathlib.Core.List.{map}
 use Prim.Native.Nat.{ℕ, _-_, _*_, _≤_, _<_}
 use native.Mathlib.Numerals.{add-one}
+use native.Mathlib.Numerals.{add-one-le}
 use native.Mathlib.Omega.{arith}
 use lib.IntN.{pos}
 use borrow.Author.Needs.{needs}
@@ -17,7 +18,7 @@ use Rattle.clauses_matrix.specs.Matrices.{matrixOf, EmitsCells}
 use Rattle.clauses_emission.proofs.Ranges.{inside-grows}
 use Rattle.clauses_emission.proofs.Steps.{regular-pairing}
 use Rattle.clauses_matrix.proofs.Fills.{cells-start, cells-next, cells-done, operand-at, operand-inside, pairAt, size-fits}
-use Rattle.clauses_matrix.proofs.Fills.{cell-below, one-more}
+use Rattle.clauses_matrix.proofs.Fills.{cell-below}
 use Rattle.clauses_matrix.proofs.operators.matched_cells.Statement.{statement}
 use Rattle.clauses_matrix.proofs.operators.matched_cells.Tie as tie
 
@@ -98,7 +99,7 @@ loop-again c =
     let k = loop .k in
     let call = c .before .before .before .pair in
     let w = call .result .literal in (
-      one-more k _ (turn .loop-test .taken),
+      add-one-le (turn .loop-test .taken),
       rw (add-one k, back w (search needs))
           (cells-next (pairing kind) (regular-pairing kind) (pairAt left right (λ i. i) (λ i. i)) k (loop .cells) w (below turn) (loop .inv .1)
           (rw (

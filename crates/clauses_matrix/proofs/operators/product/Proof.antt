@@ -3,6 +3,7 @@ use mathlib.Core.Path.{_≡_, refl, sym, ap, _∙_}
 use mathlib.Core.List.{map}
 use Prim.Native.Nat.{ℕ, _-_, _*_, _/_, _%_, _≤_, _<_}
 use native.Mathlib.Numerals.{add-one}
+use native.Mathlib.Numerals.{add-one-le}
 use native.Mathlib.Omega.{arith}
 use lib.IntN.{pos}
 use lib.ListN.{getD}
@@ -10,16 +11,16 @@ use borrow.Author.Needs.{needs}
 use Rattle.literal.specs.Literals.{literalOf}
 use Rattle.literal.proofs.Signs.{back}
 use Rattle.relational.specs.Matrices.{Place, upto, cellAt, crossed, productSize}
-use Rattle.relational.proofs.Places.{map-map}
 use Rattle.clauses_rules.specs.Builder.{each}
 use Rattle.clauses_rules.specs.Translation.{Two, absent, both}
 use Rattle.clauses_matrix.specs.Matrices.{matrixOf, EmitsCells}
 use Rattle.clauses_emission.specs.declared.Pairing.the-variants.{Both}
 use Rattle.clauses_emission.proofs.Ranges.{inside-grows}
 use Rattle.clauses_emission.proofs.Steps.{regular-pairing, emits-map, emits-as}
-use Rattle.clauses_matrix.proofs.Numbers.{placeOf, places-by-number, some-columns, row-below, column-below}
+use Rattle.clauses_matrix.proofs.Numbers.{placeOf, places-by-number}
+use Rattle.relational.proofs.Places.{map-map, some-column, row-below, column-below}
 use Rattle.clauses_matrix.proofs.Fills.{cells-start, cells-next, cells-done, operand-at, operand-inside, pairAt, size-fits}
-use Rattle.clauses_matrix.proofs.Fills.{cell-below, one-more}
+use Rattle.clauses_matrix.proofs.Fills.{cell-below}
 use Rattle.clauses_matrix.proofs.Fills.{fits-four, fits-next}
 use Rattle.clauses_matrix.proofs.operators.product.Statement.{statement}
 use Rattle.clauses_matrix.proofs.operators.product.Tie as tie
@@ -68,7 +69,7 @@ right-below c =
 div-both : tie.Need-div-both Inv-loop μ-loop
 div-both c =
     let a = c .before .before .before .args in
-    some-columns (a .t3 .columns) (a .t4 .columns) (c .before .before .loop .k) (c .before .loop-test .taken)
+    some-column (a .t3 .columns) (a .t4 .columns) (c .before .before .loop .k) (c .before .loop-test .taken)
 
 mul-both : tie.Need-mul-both Inv-loop μ-loop
 mul-both c = fits-four _ (left-below (c .before))
@@ -79,7 +80,7 @@ element-copy-out-both c = left-below (c .before)
 rem-both : tie.Need-rem-both Inv-loop μ-loop
 rem-both c =
     let a = c .before .before .before .before .args in
-    some-columns (a .t3 .columns) (a .t4 .columns) (c .before .before .before .loop .k) (c .before .before .loop-test .taken)
+    some-column (a .t3 .columns) (a .t4 .columns) (c .before .before .before .loop .k) (c .before .before .loop-test .taken)
 
 mul-both-2 : tie.Need-mul-both-2 Inv-loop μ-loop
 mul-both-2 c = fits-four _ (right-below (c .before .before))
@@ -129,7 +130,7 @@ loop-again c =
     let k = loop .k in
     let call = c .before .before .before .both in
     let w = call .result .literal in (
-      one-more k _ (turn .loop-test .taken),
+      add-one-le (turn .loop-test .taken),
       rw (add-one k, back w (search needs))
           (cells-next both (regular-pairing Both) (pairAt left right (λ a. a / columns) (λ a. a % columns)) k (loop .cells) w (below turn)
           (loop .inv .1)

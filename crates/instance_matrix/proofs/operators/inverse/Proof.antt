@@ -5,7 +5,8 @@ use Prim.Native.Nat.{ℕ, _≤_, _<_, _-_, _+_, _*_, _/_, _%_}
 use native.Mathlib.Omega.{arith}
 use mathlib.Core.Bool.{false}
 use lib.ListN.{getD}
-use Rattle.instance_matrix.proofs.Filling.{Filled, filled-none, filled-more, row-below, column-below, some-column}
+use Rattle.instance_matrix.proofs.Filling.{Filled, filled-none, filled-more}
+use Rattle.relational.proofs.Places.{row-below, column-below, some-column}
 use Rattle.instance_matrix.proofs.Results.{inverse-law}
 use Rattle.instance_matrix.proofs.operators.inverse.Statement.{statement}
 use Rattle.instance_matrix.proofs.operators.inverse.Tie as tie

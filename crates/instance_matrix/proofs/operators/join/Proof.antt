@@ -8,7 +8,8 @@ use Rattle.prelude.specs.Tests.{any}
 use Rattle.relational.specs.Matrices.{middles}
 use Rattle.relational.specs.Evaluation.{both}
 use Rattle.instance_matrix.specs.Values.{matrixOf}
-use Rattle.instance_matrix.proofs.Filling.{Filled, filled-none, filled-more, row-below, column-below, some-column}
+use Rattle.instance_matrix.proofs.Filling.{Filled, filled-none, filled-more}
+use Rattle.relational.proofs.Places.{row-below, column-below, some-column}
 use Rattle.instance_matrix.proofs.Results.{join-law}
 use Rattle.instance_matrix.proofs.Arities.{arity-most}
 use Rattle.instance_matrix.proofs.operators.join.Statement.{statement}

@@ -5,7 +5,8 @@ use native.Mathlib.Omega.{arith}
 use mathlib.Core.Bool.{false}
 use lib.ListN.{getD}
 use Rattle.relational.specs.Evaluation.{both}
-use Rattle.instance_matrix.proofs.Filling.{Filled, filled-none, filled-more, row-below, column-below, some-column}
+use Rattle.instance_matrix.proofs.Filling.{Filled, filled-none, filled-more}
+use Rattle.relational.proofs.Places.{row-below, column-below, some-column}
 use Rattle.instance_matrix.proofs.Results.{product-law}
 use Rattle.instance_matrix.proofs.operators.product.Statement.{statement}
 use Rattle.instance_matrix.proofs.operators.product.Tie as tie

@@ -7,7 +7,7 @@ use lib.ListN.{length, set, length-set}
 use Rattle.text.specs.Puts.{Put}
 use Rattle.text.specs.Texts.{decimal}
 use Rattle.text.proofs.Puts.{put-byte, put-both, put-as, put-length}
-use Rattle.cells.proofs.Layouts.{square}
+use Rattle.relational.proofs.Places.{square}
 use Rattle.clauses_rules.specs.Whole.{series}
 use Rattle.report.specs.Private.{rowFrom, lineFrom}
 use Rattle.report.proofs.Pieces.{put-none-of, put-more, row-length, number-short}

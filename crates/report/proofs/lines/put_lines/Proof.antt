@@ -7,7 +7,8 @@ use Rattle.text.proofs.Puts.{put-as, put-length}
 use Rattle.sheet_rules.specs.Blocks.{sheetOf, relationCount}
 use Rattle.sheet_rules.proofs.Acceptance.{accepted-facts}
 use Rattle.cells.proofs.Parts.{relations-counted, few-relations}
-use Rattle.cells.proofs.Layouts.{square, first-most}
+use Rattle.cells.proofs.Layouts.{first-most}
+use Rattle.relational.proofs.Places.{square}
 use Rattle.clauses_rules.specs.Whole.{series}
 use Rattle.report.specs.Printed.{relationLine, relationLines}
 use Rattle.report.proofs.Pieces.{PutLines, lines-none, lines-more}
