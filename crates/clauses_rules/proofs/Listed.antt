@@ -19,7 +19,8 @@ use Rattle.relational.proofs.Places.{length-from}
 use Rattle.clauses_rules.specs.Builder.{Gate}
 use Rattle.clauses_rules.specs.Gates.{Clause, inputClauses, gateClauses, gatesClauses}
 use Rattle.clauses_rules.specs.Translation.{Two, literalAt}
-use Rattle.clauses_rules.specs.Whole.{series, pairClause, rowClauses, rowLiterals, markClauses, cellLiterals, firstGate, rootWalk, clauses}
+use Rattle.clauses_rules.specs.Whole.{series, pairClause, rowClauses, rowLiterals, markClauses, cellLiterals, firstGate}
+use Rattle.clauses_rules.specs.Whole.{rootWalk, clauses}
 use Rattle.clauses_rules.specs.Whole.{words, variableTotal, wordTotal}
 use Rattle.clauses_rules.proofs.Bytes.{clauses-literals}
 use Rattle.clauses_rules.proofs.Match.{clauses-in, some-variable}

@@ -17,11 +17,13 @@ use Rattle.relational.specs.Evaluation as e
 use Rattle.clauses_rules.specs.Builder.{Builder, _>>=_, _<$>_, each}
 use Rattle.clauses_rules.specs.Gates.{or, and}
 use Rattle.clauses_rules.specs.Translation.{Two, absent, either, both, without, implies, same, joinCells, translateBinary, roundOf}
-use Rattle.clauses_rules.specs.Translation.{afterRounds, translateUnary, translateComparison, translateConnective, translateQuantifier}
+use Rattle.clauses_rules.specs.Translation.{afterRounds, translateUnary, translateComparison, translateConnective}
+use Rattle.clauses_rules.specs.Translation.{translateQuantifier}
 use Rattle.clauses_rules.proofs.Build.{Extends, extends-refl, Right, Means, Pairwise, nothing, more, Mean, One, means-extends}
 use Rattle.clauses_rules.proofs.Build.{mean-extends, right-return, right-map, right-bind, right-each, right-list}
 use Rattle.clauses_rules.proofs.Connect as c
-use Rattle.clauses_rules.proofs.Connect.{every, means-opposite, means-at, right-or, right-and, right-or-two, right-and-two, right-iff}
+use Rattle.clauses_rules.proofs.Connect.{every, means-opposite, means-at, right-or, right-and, right-or-two, right-and-two}
+use Rattle.clauses_rules.proofs.Connect.{right-iff}
 
 -- ---- two literals
 pub record Both (a : List Bool) (t : Two) (u : Bool × Bool) : Type 0 where

@@ -13,9 +13,11 @@ use Rattle.literal.specs.Literals.{Literal, positive}
 use Rattle.clauses_rules.specs.Builder.{Gate, Built, Builder}
 use Rattle.clauses_rules.specs.Gates.{Clause, gatesClauses}
 use Rattle.clauses_rules.proofs.Values.{value, satisfied, satisfied-append, AllIn, ClausesIn, clauses-in-append, clauses-in-split}
-use Rattle.clauses_rules.proofs.Gate.{outputs, run, Scoped, solved, solved-only, length-run, length-outputs, run-append, scoped-append}
+use Rattle.clauses_rules.proofs.Gate.{outputs, run, Scoped, solved, solved-only, length-run, length-outputs, run-append}
+use Rattle.clauses_rules.proofs.Gate.{scoped-append}
 use Rattle.clauses_rules.proofs.Gate.{gates-append}
-use Rattle.clauses_rules.proofs.Build.{Extends, extends-run, extends-trans, Right, nothing, more, Mean, One, means-extends, mean-extends}
+use Rattle.clauses_rules.proofs.Build.{Extends, extends-run, extends-trans, Right, nothing, more, Mean, One, means-extends}
+use Rattle.clauses_rules.proofs.Build.{mean-extends}
 use Rattle.clauses_rules.proofs.Connect.{every, mean-inside}
 use Rattle.clauses_rules.proofs.Ranges.{gates-in}
 

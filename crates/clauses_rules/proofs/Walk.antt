@@ -16,8 +16,10 @@ use Rattle.relational.specs.Evaluation.{flagAt, valueLeaf, atomsOf, valueOf, tr
 use Rattle.relational.specs.Evaluation.{truthTest, truthConnective, truthQuantifier}
 use Rattle.clauses_rules.specs.Builder.{Builder, _>>=_, each}
 use Rattle.clauses_rules.specs.Translation.{constant, absent, literalAt, translate, translateFormula, translateTree, translateBinary}
-use Rattle.clauses_rules.specs.Translation.{translateUnary, translateComparison, translateTest, translateConnective, translateQuantifier}
-use Rattle.clauses_rules.proofs.Build.{Extends, Right, Means, Mean, One, means-extends, mean-extends, right-return, right-map, right-bind}
+use Rattle.clauses_rules.specs.Translation.{translateUnary, translateComparison, translateTest, translateConnective}
+use Rattle.clauses_rules.specs.Translation.{translateQuantifier}
+use Rattle.clauses_rules.proofs.Build.{Extends, Right, Means, Mean, One, means-extends, mean-extends, right-return, right-map}
+use Rattle.clauses_rules.proofs.Build.{right-bind}
 use Rattle.clauses_rules.proofs.Build.{right-two, right-list}
 use Rattle.clauses_rules.proofs.Connect.{means-opposite, means-at}
 use Rattle.clauses_rules.proofs.Operators.{MeansMatrix, matrix-extends, pairwise-maps, right-binary, right-unary, right-comparison}

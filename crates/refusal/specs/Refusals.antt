@@ -1,7 +1,8 @@
 -- The paper's number of each refusal (document 01, "Answers that decline").
 use Prim.Native.Nat.{ℕ}
 use Rattle.refusal.specs.declared.Refusal.{Refusal}
-use Rattle.refusal.specs.declared.Refusal.the-variants.{Version, Length, Count, Scope, Declaration, Node, Shape, Root, Walk, Size, Cells, List, Short}
+use Rattle.refusal.specs.declared.Refusal.the-variants.{Version, Length, Count, Scope, Declaration, Node, Shape, Root, Walk}
+use Rattle.refusal.specs.declared.Refusal.the-variants.{Size, Cells, List, Short}
 
 abbrev pub numberOf : Refusal → ℕ
 numberOf Version = 1

@@ -10,15 +10,15 @@ use Rattle.prelude.proofs.Laws.{and-left, and-right, all-at}
 use Rattle.kinds.specs.Kinds.{rowOf}
 use Rattle.sheet_rules.specs.Blocks.{Sheet, sheetOf}
 use Rattle.sheet_rules.specs.Tables.{table, shapeStep, freeStep, visitsStep}
-use Rattle.sheet_rules.specs.Reading.{counted, scoped, declared, nodesFine, shaped, rooted, walkable, reading}
+use Rattle.sheet_rules.specs.declared.Layout.{Layout}
+use Rattle.sheet_rules.specs.Reading.{counted, scoped, declared, nodesFine, shaped, rooted, walkable, Answer, accepted, refused, reading}
 use Rattle.relational.specs.Trees.{symbolOf, treeStep}
 use Rattle.relational.specs.Cells.{firstCell, withinScopes}
 use Rattle.relational.specs.Matrices.{rounds, Matrix, relationOf}
 use Rattle.relational.specs.Meaning.{Satisfies}
 use Rattle.relational.specs.Evaluation.{same, afterRounds, valueOf, truthOf, marksHold, holds}
 use Rattle.relational.proofs.Flags.{Is}
-use Rattle.relational.proofs.Satisfaction.{holds-satisfies}
-use Rattle.relational.proofs.Accepted.{isAccepted, accepted-sound}
+use Rattle.relational.proofs.Accepted.{accepted-holds}
 
 record Case : Type 0 where
   sheet : List ℕ
@@ -87,6 +87,14 @@ cases =
     row imaged (0 ∷ 1 ∷ 1 ∷ 1 ∷ 1 ∷ 0 ∷ 0 ∷ 0 ∷ []) false ∷
     row imaged (0 ∷ 1 ∷ 0 ∷ 0 ∷ 0 ∷ 0 ∷ 0 ∷ 1 ∷ []) true ∷ []
 
+abbrev isAccepted : Answer → Bool
+isAccepted (accepted l) = true
+isAccepted (refused n) = false
+
+has-layout : (a : Answer) → isAccepted a ≡ true → (l : Layout) × (a ≡ accepted l)
+has-layout (accepted l) e = (l, refl)
+has-layout (refused n) e = absurd (false≢true e)
+
 abbrev computed : Case → Bool
 computed c =
     isAccepted (reading (c .sheet))
@@ -114,12 +122,12 @@ verdict false false P h e = λ p. false≢true (h .1 p)
 meets : (c : Case) → computed c ≡ true → Meets c
 meets c e =
     let s : Sheet = sheetOf (c .sheet) in
-    let accepted : Bool = isAccepted (reading (c .sheet)) in
+    let taken : Bool = isAccepted (reading (c .sheet)) in
     let fits : Bool = withinScopes s (c .instance) in
     let agrees : Bool = same (holds s (c .instance), c .satisfied) in
+    let layout = has-layout (reading (c .sheet)) (and-left taken (fits && agrees) e) in
     verdict (holds s (c .instance)) (c .satisfied) (Satisfies s (c .instance))
-    (holds-satisfies s (accepted-sound (c .sheet) (and-left accepted (fits && agrees) e)) (c .instance))
-    (and-right fits agrees (and-right accepted (fits && agrees) e))
+    (accepted-holds (c .sheet) (layout .0) (layout .1) (c .instance)) (and-right fits agrees (and-right taken (fits && agrees) e))
 
 pub worked : (i : ℕ) → i < length cases → Meets (getD cases i (row [] [] true))
 worked i h = meets (getD cases i (row [] [] true)) (all-at computed cases all-computed i (row [] [] true) h)

@@ -18,11 +18,14 @@ use Rattle.relational.specs.Evaluation.{flagAt, valueLeaf, valueOf, trut
 use Rattle.relational.proofs.Places.{length-map-from, from-at}
 use Rattle.relational.proofs.Flags.{Is, recast, is-not, is-eqb}
 use Rattle.relational.proofs.Stands.{line, table, Fits, place, place-lt, Stands, cells-line, cells-table}
-use Rattle.relational.proofs.Operators.{stands-union, stands-intersection, stands-difference, truth-comparison, truth-test, truth-connective}
+use Rattle.relational.proofs.Operators.{stands-union, stands-intersection, stands-difference, truth-comparison, truth-test}
+use Rattle.relational.proofs.Operators.{truth-connective}
 use Rattle.relational.proofs.Operators.{truth-quantifier}
 use Rattle.relational.proofs.Joins.{stands-image, stands-preimage, stands-join, stands-product, stands-inverse, stands-closure}
-use Rattle.relational.proofs.Typing.{sizeOf, Shaped, of-set, of-relation, of-variable, of-sort, of-identity, of-union, of-intersection}
-use Rattle.relational.proofs.Typing.{of-difference, of-image, of-preimage, of-join, of-product, of-inverse, of-closure, of-comprehension}
+use Rattle.relational.proofs.Typing.{sizeOf, Shaped, of-set, of-relation, of-variable, of-sort, of-identity, of-union}
+use Rattle.relational.proofs.Typing.{of-intersection}
+use Rattle.relational.proofs.Typing.{of-difference, of-image, of-preimage, of-join, of-product, of-inverse, of-closure}
+use Rattle.relational.proofs.Typing.{of-comprehension}
 use Rattle.relational.proofs.Typing.{Formed, of-comparison, of-test, of-negation, of-connective, of-quantified}
 
 module _ (sheet : Sheet) where

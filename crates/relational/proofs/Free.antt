@@ -11,10 +11,12 @@ use Rattle.prelude.proofs.Laws.{and-left, and-right, and-both, or-left, or-righ
 use Rattle.shapes.specs.declared.Shape.{Shape}
 use Rattle.sheet_rules.specs.Blocks.{Sheet, variableCount, scope, sortOf, kind, fieldA, fieldB, nodeCount}
 use Rattle.sheet_rules.specs.Tables.{freeBy, freeStep, free}
-use Rattle.relational.specs.Trees.{relation, variable, atoms, identity, Expression, leaf, binary, unary, comprehension, Formula, comparison}
+use Rattle.relational.specs.Trees.{relation, variable, atoms, identity, Expression, leaf, binary, unary, comprehension, Formula}
+use Rattle.relational.specs.Trees.{comparison}
 use Rattle.relational.specs.Trees.{test, negation, connective, quantified, Symbol, leaf-symbol, binary-symbol, unary-symbol}
 use Rattle.relational.specs.Trees.{comparison-symbol, test-symbol, connective-symbol, quantifier-symbol, comprehension-symbol}
-use Rattle.relational.specs.Trees.{negation-symbol, unknown-symbol, symbolOf, Tree, expression, formula, broken, withExpression, withFormula}
+use Rattle.relational.specs.Trees.{negation-symbol, unknown-symbol, symbolOf, Tree, expression, formula, broken, withExpression}
+use Rattle.relational.specs.Trees.{withFormula}
 use Rattle.relational.specs.Trees.{treeBy, treeStep, trees}
 use Rattle.relational.specs.Meaning.{Environment, bind}
 use Rattle.relational.specs.Matrices.{Matrix, setOf, upto}
@@ -22,7 +24,8 @@ use Rattle.relational.specs.Evaluation.{valueOf, truthOf, valueBinary, v
 use Rattle.relational.specs.Evaluation.{truthQuantifier}
 use Rattle.relational.proofs.Rows.{rowOfSymbol, row-of-symbol}
 use Rattle.relational.proofs.Typing.{Shaped, of-set, of-relation, of-variable, of-sort, of-identity, of-union, of-intersection}
-use Rattle.relational.proofs.Typing.{of-difference, of-image, of-preimage, of-join, of-product, of-inverse, of-closure, of-comprehension}
+use Rattle.relational.proofs.Typing.{of-difference, of-image, of-preimage, of-join, of-product, of-inverse, of-closure}
+use Rattle.relational.proofs.Typing.{of-comprehension}
 use Rattle.relational.proofs.Typing.{Formed, of-comparison, of-test, of-negation, of-connective, of-quantified}
 use Rattle.relational.proofs.WellShaped.{tables}
 

@@ -11,12 +11,14 @@ use Rattle.relational.specs.Trees.{union, intersection, difference, Comp
 use Rattle.relational.specs.Trees.{conjunction, disjunction, implication, equivalence, Quantifier, for-all, for-some}
 use Rattle.relational.specs.Meaning.{Tuple, Tuples, Combined, Compared, Tested, Connected, Quantified}
 use Rattle.relational.specs.Matrices.{upto, Matrix, sameSize, matched}
-use Rattle.relational.specs.Evaluation.{both, either, without, implies, same, valueBinary, truthComparison, truthTest, truthConnective}
+use Rattle.relational.specs.Evaluation.{both, either, without, implies, same, valueBinary, truthComparison, truthTest}
+use Rattle.relational.specs.Evaluation.{truthConnective}
 use Rattle.relational.specs.Evaluation.{truthQuantifier}
 use Rattle.relational.proofs.Places.{map-map}
 use Rattle.relational.proofs.Flags.{Is, recast, is-or, is-and, is-without, is-implies, is-same, is-any, is-all}
 use Rattle.relational.proofs.Counts as counts
-use Rattle.relational.proofs.Stands.{Size, line, table, matrixOf, total, Fits, place, place-lt, place-injective, tuple-at, Cells, Stands}
+use Rattle.relational.proofs.Stands.{Size, line, table, matrixOf, total, Fits, place, place-lt, place-injective, tuple-at}
+use Rattle.relational.proofs.Stands.{Cells, Stands}
 use Rattle.relational.proofs.Stands.{cells-flat}
 
 -- ---- union, intersection, difference: place by place

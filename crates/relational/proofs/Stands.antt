@@ -4,7 +4,8 @@ use mathlib.Core.Bool.{Bool, false}
 use mathlib.Core.List.{List, map}
 use Prim.Native.Nat.{ℕ, zero, suc, _+_, _*_, _/_, _%_, _<_}
 use native.Mathlib.Omega.{arith}
-use native.Mathlib.Nat.{mul-zero, div-add-mod', div-lt-iff-lt-mul, mod-lt, mul-add-div-right, mul-add-mod-self-right, div-eq-of-lt, mod-eq-of-lt}
+use native.Mathlib.Nat.{mul-zero, div-add-mod', div-lt-iff-lt-mul, mod-lt, mul-add-div-right, mul-add-mod-self-right, div-eq-of-lt}
+use native.Mathlib.Nat.{mod-eq-of-lt}
 use lib.ListN.{getD, length}
 use Rattle.relational.specs.Meaning.{Tuple, one, two, Tuples}
 use Rattle.relational.specs.Matrices.{upto, Place, places, Matrix, setOf, relationOf}

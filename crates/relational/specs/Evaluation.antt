@@ -6,13 +6,17 @@ use Prim.Native.Nat.{ℕ, zero, suc}
 use lib.Dec.{eqb, leb}
 use Rattle.prelude.specs.Tests.{each, all, any}
 use Rattle.sheet_rules.specs.Blocks.{Sheet, byte, scope, sortOf, relationCount, multiplicity}
-use Rattle.relational.specs.Trees.{Leaf, Binary, union, intersection, difference, join, product, Unary, inverse, closure, Comparison, equal}
-use Rattle.relational.specs.Trees.{within, Test, some, none, lone, Connective, conjunction, disjunction, implication, equivalence, Quantifier}
-use Rattle.relational.specs.Trees.{for-all, for-some, Expression, leaf, binary, unary, comprehension, Formula, comparison, test, negation}
+use Rattle.relational.specs.Trees.{Leaf, Binary, union, intersection, difference, join, product, Unary, inverse, closure}
+use Rattle.relational.specs.Trees.{Comparison, equal}
+use Rattle.relational.specs.Trees.{within, Test, some, none, lone, Connective, conjunction, disjunction, implication}
+use Rattle.relational.specs.Trees.{equivalence, Quantifier}
+use Rattle.relational.specs.Trees.{for-all, for-some, Expression, leaf, binary, unary, comprehension, Formula, comparison, test}
+use Rattle.relational.specs.Trees.{negation}
 use Rattle.relational.specs.Trees.{connective, quantified, Tree, expression, formula, broken, rootTree}
 use Rattle.relational.specs.Cells.{rowCount, rowLength, cell}
 use Rattle.relational.specs.Meaning.{Environment, bind}
-use Rattle.relational.specs.Matrices.{from, upto, rounds, Matrix, setOf, leafMatrix, sameSize, joinPlaces, joinSize, productSize, matched}
+use Rattle.relational.specs.Matrices.{from, upto, rounds, Matrix, setOf, leafMatrix, sameSize, joinPlaces, joinSize, productSize}
+use Rattle.relational.specs.Matrices.{matched}
 use Rattle.relational.specs.Matrices.{middles, crossed, inverted}
 
 -- ---- flags

@@ -6,10 +6,14 @@ use mathlib.Core.List.{List}
 use Prim.Native.Nat.{ℕ, zero, suc, _<_}
 use lib.Dec.{eqb}
 use Rattle.sheet_rules.specs.Blocks.{Sheet, byte, scope, sortOf, relationCount, columns, multiplicity, firstSort, secondSort}
-use Rattle.relational.specs.Trees.{Leaf, relation, variable, atoms, identity, Binary, union, intersection, difference, join, product, Unary}
-use Rattle.relational.specs.Trees.{inverse, closure, Comparison, equal, within, Test, some, none, lone, Connective, conjunction, disjunction}
-use Rattle.relational.specs.Trees.{implication, equivalence, Quantifier, for-all, for-some, Expression, leaf, binary, unary, comprehension}
-use Rattle.relational.specs.Trees.{Formula, comparison, test, negation, connective, quantified, Tree, expression, formula, broken, rootTree}
+use Rattle.relational.specs.Trees.{Leaf, relation, variable, atoms, identity, Binary, union, intersection, difference, join}
+use Rattle.relational.specs.Trees.{product, Unary}
+use Rattle.relational.specs.Trees.{inverse, closure, Comparison, equal, within, Test, some, none, lone, Connective, conjunction}
+use Rattle.relational.specs.Trees.{disjunction}
+use Rattle.relational.specs.Trees.{implication, equivalence, Quantifier, for-all, for-some, Expression, leaf, binary, unary}
+use Rattle.relational.specs.Trees.{comprehension}
+use Rattle.relational.specs.Trees.{Formula, comparison, test, negation, connective, quantified, Tree, expression, formula}
+use Rattle.relational.specs.Trees.{broken, rootTree}
 use Rattle.relational.specs.Cells.{cell}
 
 -- "Every expression in Alloy denotes a relation, i.e. a set of tuples of atoms." Here a tuple has one atom (in a set) or two.

@@ -16,7 +16,8 @@ use Rattle.search_rules.proofs.StepView.{Ends, run-ends}
 use Rattle.search_core.specs.declared.run.End.the-variants.{None, Found, Spent}
 use Rattle.search_core.specs.declared.run.Ran.{Ran}
 use Rattle.search_core.specs.Inner.{tallyOf, tallyAt, Ended}
-use Rattle.search.specs.Answers.{Answer, found, none, spent, refused, answerAt, valuesAt, trailAt, Outcome, refuse, finish, searchRun, outcome}
+use Rattle.search.specs.Answers.{Answer, found, none, spent, refused, answerAt, valuesAt, trailAt, Outcome, refuse, finish}
+use Rattle.search.specs.Answers.{searchRun, outcome}
 
 module _ (list : List ℤ) (v : ℕ) (values : List ℕ) (trail : List ℤ) (budget : ℕ) where
   abbrev long : Bool

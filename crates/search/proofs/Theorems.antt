@@ -19,7 +19,8 @@ use Rattle.search_rules.specs.Run.{Tally, zeros, total, End, wasNone, wasFound,
 use Rattle.search_rules.proofs.Invariant.{length-values}
 use Rattle.search_rules.proofs.Ranges.{fine-list, ranged}
 use Rattle.search_rules.proofs.Theorems as rules
-use Rattle.search.specs.Answers.{Answer, found, none, spent, refused, answerAt, valuesAt, trailAt, Outcome, refuse, finish, searchRun, outcome}
+use Rattle.search.specs.Answers.{Answer, found, none, spent, refused, answerAt, valuesAt, trailAt, Outcome, refuse, finish}
+use Rattle.search.specs.Answers.{searchRun, outcome}
 use Rattle.search.proofs.Outcomes.{no-list, short-values, short-trail, runs}
 
 module _ (list : List ℤ) (v : ℕ) (values : List ℕ) (trail : List ℤ) (budget : ℕ) where

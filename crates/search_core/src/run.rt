@@ -118,26 +118,23 @@ pub fn run(list: &[i32], values: &mut [u8], trail: &mut [i32], start: Position, 
         (run (clausesOf (now (list .entry))) (length (now (values .entry))) budget (tallyOf start) state)
         r (now (values .exit)) (now (trail .exit))) ⌝ }
 {
-    let mut p = start;
+    let mut position = start;
     let mut left = budget;
     while left > 0 {
-        let used = p.used;
+        let used = position.used;
         let moved = step(list, values, trail, used);
         match moved {
             Moved::NoneLeft => {
-                return Ran {
-                    end: End::None,
-                    position: emptied(p),
-                };
+                let end = End::None;
+                let position = emptied(position);
+                return Ran { end, position };
             }
             Moved::AllSet => {
-                return Ran {
-                    end: End::Found,
-                    position: p,
-                };
+                let end = End::Found;
+                return Ran { end, position };
             }
             Moved::To(kind, n) => {
-                p = advance(p, kind, n);
+                position = advance(position, kind, n);
             }
         }
         left -= 1;
@@ -145,21 +142,13 @@ pub fn run(list: &[i32], values: &mut [u8], trail: &mut [i32], start: Position, 
     let end = ends(list, values);
     match end {
         End::None => {
-            let used = p.used;
+            let used = position.used;
             back(values, trail, used);
-            Ran {
-                end: End::None,
-                position: emptied(p),
-            }
+            let position = emptied(position);
+            Ran { end, position }
         }
-        End::Found => Ran {
-            end: End::Found,
-            position: p,
-        },
-        End::Spent => Ran {
-            end: End::Spent,
-            position: p,
-        },
+        End::Found => Ran { end, position },
+        End::Spent => Ran { end, position },
     }
 }
 

@@ -7,7 +7,8 @@ use Rattle.prelude.specs.Tests.{all, any}
 use Rattle.clause_list.specs.ClauseList.{cut, clausesOf}
 use Rattle.clause_list.specs.Marked.{k1, k2}
 use Rattle.search_rules.specs.Rules.{truthOf, negated, literal, isFalsified, isSatisfied, conflict, openOf, sameLiteral, only, unitOf}
-use Rattle.search_rules.specs.Rules.{firstUnit, lowestOpen, wordOf, byteOf, placeOf, valuesOf, turn, decide, next, propagated, decided}
+use Rattle.search_rules.specs.Rules.{firstUnit, lowestOpen, wordOf, byteOf, placeOf, valuesOf, turn, decide, next, propagated}
+use Rattle.search_rules.specs.Rules.{decided}
 use Rattle.search_rules.specs.Run.{Tally, zeros, count, End, wasNone, wasFound, wasSpent, run}
 
 -- clauses in 32-bit words, v, a budget, and how the run from a fresh start ends

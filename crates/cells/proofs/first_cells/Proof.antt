@@ -81,17 +81,5 @@ returns c =
 pub first-cells-spec : {M : Type 1} → statement M
 first-cells-spec =
     tie.close
-    (tie.spec
-    Inv-loop
-    μ-loop
-    loop-holds
-    mul-starts
-    array-write-starts
-    row-count-requires
-    row-length-requires
-    mul-count
-    add-count
-    add-r
-    loop-less
-    loop-again
-    returns)
+    (tie.spec Inv-loop μ-loop loop-holds mul-starts array-write-starts row-count-requires row-length-requires mul-count
+    add-count add-r loop-less loop-again returns)

@@ -39,11 +39,4 @@ returns-2 c =
 pub row-length-spec : {M : Type 1} → statement M
 row-length-spec =
     tie.close
-    (tie.spec
-    arity-requires
-    declared-requires
-    scope-requires
-    returns
-    declared-requires-2
-    scope-requires-2
-    returns-2)
+    (tie.spec arity-requires declared-requires scope-requires returns declared-requires-2 scope-requires-2 returns-2)

@@ -29,10 +29,4 @@ returns-2 c = search needs
 pub count-spec : {M : Type 1} → statement M
 count-spec =
     tie.close
-    (tie.spec
-    read-requires
-    enum-known-answer
-    enum-known-answer-2
-    count-accepted-requires
-    returns
-    returns-2)
+    (tie.spec read-requires enum-known-answer enum-known-answer-2 count-accepted-requires returns returns-2)

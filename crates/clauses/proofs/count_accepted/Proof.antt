@@ -25,9 +25,4 @@ returns c =
 pub count-accepted-spec : {M : Type 1} → statement M
 count-accepted-spec =
     tie.close
-    (tie.spec
-    array-borrow-prefix-nothing
-    slice-aggregate-translate
-    translate-requires
-    size-of-requires
-    returns)
+    (tie.spec array-borrow-prefix-nothing slice-aggregate-translate translate-requires size-of-requires returns)

@@ -33,11 +33,4 @@ returns-2 c = search needs
 pub write-spec : {M : Type 1} → statement M
 write-spec =
     tie.close
-    (tie.spec
-    read-requires
-    enum-known-answer
-    enum-known-answer-2
-    write-accepted-requires
-    returns
-    same-length
-    returns-2)
+    (tie.spec read-requires enum-known-answer enum-known-answer-2 write-accepted-requires returns same-length returns-2)

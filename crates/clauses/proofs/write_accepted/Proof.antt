@@ -35,11 +35,5 @@ returns-2 c = search needs
 pub write-accepted-spec : {M : Type 1} → statement M
 write-accepted-spec =
     tie.close
-    (tie.spec
-    count-accepted-requires
-    enum-known-counted
-    enum-known-counted-2
-    write-counted-requires
-    returns
-    same-length
+    (tie.spec count-accepted-requires enum-known-counted enum-known-counted-2 write-counted-requires returns same-length
     returns-2)

@@ -102,18 +102,5 @@ returns c =
 pub pairs-with-spec : {M : Type 1} → statement M
 pairs-with-spec =
     tie.close
-    (tie.spec
-    Inv-loop
-    μ-loop
-    opposite-requires
-    loop-holds
-    mul-q
-    shared-slice-copy-out-q
-    opposite-requires-2
-    slice-aggregate-emit-clause
-    emit-clause-requires
-    add-k
-    loop-less
-    loop-again
-    same-length
-    returns)
+    (tie.spec Inv-loop μ-loop opposite-requires loop-holds mul-q shared-slice-copy-out-q opposite-requires-2
+    slice-aggregate-emit-clause emit-clause-requires add-k loop-less loop-again same-length returns)

@@ -139,25 +139,6 @@ returns c =
 pub relation-marks-spec : {M : Type 1} → statement M
 relation-marks-spec =
     tie.close
-    (tie.spec
-    Inv-loop
-    μ-loop
-    multiplicity-requires
-    row-count-requires
-    row-length-requires
-    mul-first
-    shared-slice-read-first
-    loop-holds
-    mul-start
-    add-start
-    add-end
-    mul-row-marks
-    sub-row-marks
-    part-row-marks-start
-    part-row-marks-end
-    row-marks-requires
-    add-i
-    loop-less
-    loop-again
-    same-length
-    returns)
+    (tie.spec Inv-loop μ-loop multiplicity-requires row-count-requires row-length-requires mul-first
+    shared-slice-read-first loop-holds mul-start add-start add-end mul-row-marks sub-row-marks part-row-marks-start
+    part-row-marks-end row-marks-requires add-i loop-less loop-again same-length returns)

@@ -73,15 +73,5 @@ returns-3 c =
 pub row-marks-spec : {M : Type 1} → statement M
 row-marks-spec =
     tie.close
-    (tie.spec
-    returns
-    row-pairs-requires
-    same-length
-    returns-2
-    shared-slice-copy-out-p
-    sub-emit-clause
-    part-emit-clause-start
-    part-emit-clause-end
-    emit-clause-requires
-    same-length-2
-    returns-3)
+    (tie.spec returns row-pairs-requires same-length returns-2 shared-slice-copy-out-p sub-emit-clause
+    part-emit-clause-start part-emit-clause-end emit-clause-requires same-length-2 returns-3)

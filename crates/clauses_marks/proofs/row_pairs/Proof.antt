@@ -97,20 +97,5 @@ returns c =
 pub row-pairs-spec : {M : Type 1} → statement M
 row-pairs-spec =
     tie.close
-    (tie.spec
-    Inv-loop
-    μ-loop
-    loop-holds
-    mul-p
-    shared-slice-copy-out-p
-    add-rest
-    mul-pairs-with
-    sub-pairs-with
-    part-pairs-with-start
-    part-pairs-with-end
-    pairs-with-requires
-    add-k
-    loop-less
-    loop-again
-    same-length
-    returns)
+    (tie.spec Inv-loop μ-loop loop-holds mul-p shared-slice-copy-out-p add-rest mul-pairs-with sub-pairs-with
+    part-pairs-with-start part-pairs-with-end pairs-with-requires add-k loop-less loop-again same-length returns)

@@ -10,7 +10,8 @@ use Rattle.text.specs.Puts.{Put, Room}
 use Rattle.text.proofs.Puts.{put-both, put-as, room-first, put-length, Left, left-all, left-as, left-put, left-room}
 use Rattle.clause_list.specs.ClauseList.{clausesOf, isList}
 use Rattle.dimacs.specs.Text.{header, clauseLines, textOf, textRoom}
-use Rattle.dimacs.proofs.Answers.{size-told, size-known, size-refused, write-no-list, write-short, write-put, after-no-list, after-short}
+use Rattle.dimacs.proofs.Answers.{size-told, size-known, size-refused, write-no-list, write-short, write-put, after-no-list}
+use Rattle.dimacs.proofs.Answers.{after-short}
 use Rattle.dimacs.proofs.Lines.{text-parts, text-fits}
 use Rattle.dimacs.proofs.write.Statement.{statement}
 use Rattle.dimacs.proofs.write.Tie as tie

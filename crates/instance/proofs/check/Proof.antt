@@ -33,10 +33,4 @@ returns-2 c =
 pub check-spec : {M : Type 1} → statement M
 check-spec =
     tie.close
-    (tie.spec
-    read-requires
-    enum-known-answer
-    enum-known-answer-2
-    check-accepted-requires
-    returns
-    returns-2)
+    (tie.spec read-requires enum-known-answer enum-known-answer-2 check-accepted-requires returns returns-2)

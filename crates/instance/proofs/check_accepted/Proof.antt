@@ -52,12 +52,5 @@ returns-4 c = ap (λ b. cond b yes no) (sym (c .if3 .left)) ∙ answered (c .bef
 pub check-accepted-spec : {M : Type 1} → statement M
 check-accepted-spec =
     tie.close
-    (tie.spec
-    first-cells-requires
-    returns
-    are-bits-requires
-    returns-2
-    slice-aggregate-holds
-    holds-requires
-    returns-3
+    (tie.spec first-cells-requires returns are-bits-requires returns-2 slice-aggregate-holds holds-requires returns-3
     returns-4)

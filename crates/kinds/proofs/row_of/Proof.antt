@@ -29,10 +29,4 @@ returns-2 c =
 pub row-of-spec : {M : Type 1} → statement M
 row-of-spec =
     tie.close
-    (tie.spec
-    returns
-    codes-of-requires
-    field-of-requires
-    field-of-requires-2
-    rule-of-requires
-    returns-2)
+    (tie.spec returns codes-of-requires field-of-requires field-of-requires-2 rule-of-requires returns-2)

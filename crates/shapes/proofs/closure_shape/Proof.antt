@@ -35,13 +35,4 @@ returns-4 c = c .only .ensures ∙ sym (ap closureShape (c .before .before .x .g
 pub closure-shape-spec : {M : Type 1} → statement M
 closure-shape-spec =
     tie.close
-    (tie.spec
-    enum-told
-    enum-told-2
-    enum-told-3
-    enum-known-x
-    only-requires
-    returns
-    returns-2
-    returns-3
-    returns-4)
+    (tie.spec enum-told enum-told-2 enum-told-3 enum-known-x only-requires returns returns-2 returns-3 returns-4)

@@ -40,14 +40,5 @@ returns-4 c =
 pub equal-shape-spec : {M : Type 1} → statement M
 equal-shape-spec =
     tie.close
-    (tie.spec
-    enum-told
-    enum-told-2
-    enum-known-x
-    is-set-of-requires
-    enum-known-x-2
-    is-relation-of-requires
-    returns
-    returns-2
-    returns-3
-    returns-4)
+    (tie.spec enum-told enum-told-2 enum-known-x is-set-of-requires enum-known-x-2 is-relation-of-requires returns
+    returns-2 returns-3 returns-4)

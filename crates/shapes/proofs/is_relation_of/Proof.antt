@@ -37,13 +37,4 @@ returns-4 c = c .both .ensures
 pub is-relation-of-spec : {M : Type 1} → statement M
 is-relation-of-spec =
     tie.close
-    (tie.spec
-    enum-told
-    enum-told-2
-    enum-told-3
-    enum-known-y
-    both-requires
-    returns
-    returns-2
-    returns-3
-    returns-4)
+    (tie.spec enum-told enum-told-2 enum-told-3 enum-known-y both-requires returns returns-2 returns-3 returns-4)

@@ -42,14 +42,5 @@ returns-4 c = c .only2 .ensures
 pub join-relation-spec : {M : Type 1} → statement M
 join-relation-spec =
     tie.close
-    (tie.spec
-    enum-told
-    enum-told-2
-    enum-known-y
-    only-requires
-    enum-known-y-2
-    only-requires-2
-    returns
-    returns-2
-    returns-3
-    returns-4)
+    (tie.spec enum-told enum-told-2 enum-known-y only-requires enum-known-y-2 only-requires-2 returns returns-2
+    returns-3 returns-4)

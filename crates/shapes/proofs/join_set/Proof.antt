@@ -35,13 +35,4 @@ returns-4 c = c .only .ensures ∙ sym (ap (joinSet (c .before .before .before .
 pub join-set-spec : {M : Type 1} → statement M
 join-set-spec =
     tie.close
-    (tie.spec
-    enum-told
-    enum-told-2
-    enum-told-3
-    enum-known-y
-    only-requires
-    returns
-    returns-2
-    returns-3
-    returns-4)
+    (tie.spec enum-told enum-told-2 enum-told-3 enum-known-y only-requires returns returns-2 returns-3 returns-4)

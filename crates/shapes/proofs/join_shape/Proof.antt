@@ -40,14 +40,5 @@ returns-4 c =
 pub join-shape-spec : {M : Type 1} → statement M
 join-shape-spec =
     tie.close
-    (tie.spec
-    enum-told
-    enum-told-2
-    enum-known-x
-    join-set-requires
-    enum-known-x-2
-    join-relation-requires
-    returns
-    returns-2
-    returns-3
-    returns-4)
+    (tie.spec enum-told enum-told-2 enum-known-x join-set-requires enum-known-x-2 join-relation-requires returns
+    returns-2 returns-3 returns-4)

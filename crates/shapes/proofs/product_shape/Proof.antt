@@ -36,13 +36,4 @@ returns-4 c = search needs
 pub product-shape-spec : {M : Type 1} → statement M
 product-shape-spec =
     tie.close
-    (tie.spec
-    enum-told
-    enum-told-2
-    enum-known-x
-    product-set-requires
-    enum-told-3
-    returns
-    returns-2
-    returns-3
-    returns-4)
+    (tie.spec enum-told enum-told-2 enum-known-x product-set-requires enum-told-3 returns returns-2 returns-3 returns-4)

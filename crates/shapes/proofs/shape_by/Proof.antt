@@ -192,56 +192,10 @@ returns-16 c =
 pub shape-by-spec : {M : Type 1} → statement M
 shape-by-spec =
     tie.close
-    (tie.spec
-    enum-told
-    enum-told-2
-    enum-told-3
-    enum-told-4
-    enum-told-5
-    enum-told-6
-    equal-shape-requires
-    only-requires
-    enum-told-7
-    join-shape-requires
-    enum-told-8
-    product-shape-requires
-    enum-told-9
-    inverse-shape-requires
-    enum-told-10
-    closure-shape-requires
-    enum-told-11
-    is-formula-requires
-    only-requires-2
-    enum-told-12
-    equal-shape-requires-2
-    only-requires-3
-    enum-told-13
-    is-expression-requires
-    only-requires-4
-    enum-told-14
-    is-formula-requires-2
-    only-requires-5
-    enum-told-15
-    is-formula-requires-3
-    is-formula-requires-4
-    both-requires
-    only-requires-6
-    enum-told-16
-    is-formula-requires-5
-    only-requires-7
-    returns
-    returns-2
-    returns-3
-    returns-4
-    returns-5
-    returns-6
-    returns-7
-    returns-8
-    returns-9
-    returns-10
-    returns-11
-    returns-12
-    returns-13
-    returns-14
-    returns-15
-    returns-16)
+    (tie.spec enum-told enum-told-2 enum-told-3 enum-told-4 enum-told-5 enum-told-6 equal-shape-requires only-requires
+    enum-told-7 join-shape-requires enum-told-8 product-shape-requires enum-told-9 inverse-shape-requires enum-told-10
+    closure-shape-requires enum-told-11 is-formula-requires only-requires-2 enum-told-12 equal-shape-requires-2
+    only-requires-3 enum-told-13 is-expression-requires only-requires-4 enum-told-14 is-formula-requires-2
+    only-requires-5 enum-told-15 is-formula-requires-3 is-formula-requires-4 both-requires only-requires-6 enum-told-16
+    is-formula-requires-5 only-requires-7 returns returns-2 returns-3 returns-4 returns-5 returns-6 returns-7 returns-8
+    returns-9 returns-10 returns-11 returns-12 returns-13 returns-14 returns-15 returns-16)

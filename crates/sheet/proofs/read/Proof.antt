@@ -113,28 +113,8 @@ returns-3 c =
 pub read-spec : {M : Type 1} → statement M
 read-spec =
     tie.close
-    (tie.spec
-    byte-requires
-    returns
-    after-requires
-    after-requires-2
-    after-requires-3
-    after-requires-4
-    returns-2
-    add-variables-start
-    add-relations-start
-    add-nodes-start
-    sub-judge-blocks
-    part-judge-blocks-start
-    part-judge-blocks-end
-    sub-judge-blocks-2
-    part-judge-blocks-start-2
-    part-judge-blocks-end-2
-    sub-judge-blocks-3
-    part-judge-blocks-start-3
-    part-judge-blocks-end-3
-    sub-judge-blocks-4
-    part-judge-blocks-start-4
-    part-judge-blocks-end-4
-    judge-blocks-requires
-    returns-3)
+    (tie.spec byte-requires returns after-requires after-requires-2 after-requires-3 after-requires-4 returns-2
+    add-variables-start add-relations-start add-nodes-start sub-judge-blocks part-judge-blocks-start
+    part-judge-blocks-end sub-judge-blocks-2 part-judge-blocks-start-2 part-judge-blocks-end-2 sub-judge-blocks-3
+    part-judge-blocks-start-3 part-judge-blocks-end-3 sub-judge-blocks-4 part-judge-blocks-start-4
+    part-judge-blocks-end-4 judge-blocks-requires returns-3)

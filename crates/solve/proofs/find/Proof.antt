@@ -66,15 +66,5 @@ returns-2 c =
 pub find-spec : {M : Type 1} → statement M
 find-spec =
     tie.close
-    (tie.spec
-    read-requires
-    enum-known-reading
-    enum-known-reading-2
-    cell-count-requires
-    find-accepted-requires
-    returns
-    same-length
-    same-length-2
-    same-length-3
-    same-length-4
-    returns-2)
+    (tie.spec read-requires enum-known-reading enum-known-reading-2 cell-count-requires find-accepted-requires returns
+    same-length same-length-2 same-length-3 same-length-4 returns-2)

@@ -46,14 +46,5 @@ returns-2 c = search needs
 pub find-accepted-spec : {M : Type 1} → statement M
 find-accepted-spec =
     tie.close
-    (tie.spec
-    count-requires
-    enum-known-counted
-    enum-known-counted-2
-    find-sized-requires
-    returns
-    same-length
-    same-length-2
-    same-length-3
-    same-length-4
-    returns-2)
+    (tie.spec count-requires enum-known-counted enum-known-counted-2 find-sized-requires returns same-length
+    same-length-2 same-length-3 same-length-4 returns-2)

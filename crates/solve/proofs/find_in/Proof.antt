@@ -113,22 +113,6 @@ returns-2 c =
 pub find-in-spec : {M : Type 1} → statement M
 find-in-spec =
     tie.close
-    (tie.spec
-    write-requires
-    slice-reshare-prefix-search
-    slice-aggregate-search
-    cast-search
-    search-requires
-    enum-told
-    slice-reshare-prefix-copy-cells
-    slice-aggregate-copy-cells
-    copy-cells-requires
-    same-length
-    same-length-2
-    same-length-3
-    same-length-4
-    returns
-    same-length-5
-    same-length-6
-    same-length-7
-    returns-2)
+    (tie.spec write-requires slice-reshare-prefix-search slice-aggregate-search cast-search search-requires enum-told
+    slice-reshare-prefix-copy-cells slice-aggregate-copy-cells copy-cells-requires same-length same-length-2
+    same-length-3 same-length-4 returns same-length-5 same-length-6 same-length-7 returns-2)

@@ -78,15 +78,5 @@ returns-6 c = search needs
 pub find-sized-spec : {M : Type 1} → statement M
 find-sized-spec =
     tie.close
-    (tie.spec
-    returns
-    returns-2
-    returns-3
-    returns-4
-    returns-5
-    find-in-requires
-    same-length
-    same-length-2
-    same-length-3
-    same-length-4
-    returns-6)
+    (tie.spec returns returns-2 returns-3 returns-4 returns-5 find-in-requires same-length same-length-2 same-length-3
+    same-length-4 returns-6)

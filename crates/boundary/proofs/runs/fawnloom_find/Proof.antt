@@ -30,11 +30,4 @@ returns c =
 pub fawnloom-find-spec : {M : Type 1} → statement M
 fawnloom-find-spec =
     tie.close
-    (tie.spec
-    find-requires
-    search-numbers-requires
-    same-length
-    same-length-2
-    same-length-3
-    same-length-4
-    returns)
+    (tie.spec find-requires search-numbers-requires same-length same-length-2 same-length-3 same-length-4 returns)

@@ -32,13 +32,5 @@ returns-4 c = cc
 pub search-numbers-spec : {M : Type 1} → statement M
 search-numbers-spec =
     tie.close
-    (tie.spec
-    enum-known-answer
-    enum-known-answer-2
-    enum-known-answer-3
-    enum-known-answer-4
-    number-requires
-    returns
-    returns-2
-    returns-3
-    returns-4)
+    (tie.spec enum-known-answer enum-known-answer-2 enum-known-answer-3 enum-known-answer-4 number-requires returns
+    returns-2 returns-3 returns-4)

@@ -52,16 +52,5 @@ returns c = words-done (c .before .loop .inv .1) (c .before .loop .inv .0) (c .l
 pub cell-words-spec : {M : Type 1} → statement M
 cell-words-spec =
     tie.close
-    (tie.spec
-    Inv-loop
-    μ-loop
-    loop-holds
-    add-positive
-    cast-positive
-    positive-requires
-    mul-words
-    array-set-from-words
-    add-i
-    loop-less
-    loop-again
-    returns)
+    (tie.spec Inv-loop μ-loop loop-holds add-positive cast-positive positive-requires mul-words array-set-from-words
+    add-i loop-less loop-again returns)

@@ -129,24 +129,7 @@ same-length c = returns c .kept
 pub translate-spec : {M : Type 1} → statement M
 translate-spec =
     tie.close
-    (tie.spec
-    first-cells-requires
-    cell-words-requires
-    add-t16
-    array-share-prefix-words
-    slice-aggregate-emit-clause
-    emit-clause-requires
-    array-share-prefix-words-2
-    slice-aggregate-marks
-    slice-aggregate-marks-2
-    marks-requires
-    sub-root
-    array-share-prefix-words-3
-    slice-aggregate-formula
-    slice-aggregate-formula-2
-    formula-requires
-    array-share-prefix-words-4
-    slice-aggregate-emit-clause-2
-    emit-clause-requires-2
-    same-length
-    returns)
+    (tie.spec first-cells-requires cell-words-requires add-t16 array-share-prefix-words slice-aggregate-emit-clause
+    emit-clause-requires array-share-prefix-words-2 slice-aggregate-marks slice-aggregate-marks-2 marks-requires
+    sub-root array-share-prefix-words-3 slice-aggregate-formula slice-aggregate-formula-2 formula-requires
+    array-share-prefix-words-4 slice-aggregate-emit-clause-2 emit-clause-requires-2 same-length returns)

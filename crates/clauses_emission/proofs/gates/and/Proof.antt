@@ -112,21 +112,6 @@ returns c =
 pub and-spec : {M : Type 1} → statement M
 and-spec =
     tie.close
-    (tie.spec
-    Inv-loop
-    μ-loop
-    loop-holds
-    mul-l
-    shared-slice-copy-out-l
-    opposite-requires
-    mul-opposites
-    array-set-from-opposites
-    add-k
-    loop-less
-    loop-again
-    array-share-prefix-opposites
-    slice-aggregate-or
-    or-requires
-    negate-requires
-    same-length
-    returns)
+    (tie.spec Inv-loop μ-loop loop-holds mul-l shared-slice-copy-out-l opposite-requires mul-opposites
+    array-set-from-opposites add-k loop-less loop-again array-share-prefix-opposites slice-aggregate-or or-requires
+    negate-requires same-length returns)

@@ -88,13 +88,5 @@ returns-2 c =
 pub gate-spec : {M : Type 1} → statement M
 gate-spec =
     tie.close
-    (tie.spec
-    returns
-    cast-positive
-    positive-requires
-    gate-inputs-requires
-    opposite-requires
-    emit-clause-requires
-    add-t14
-    same-length
-    returns-2)
+    (tie.spec returns cast-positive positive-requires gate-inputs-requires opposite-requires emit-clause-requires
+    add-t14 same-length returns-2)

@@ -94,17 +94,5 @@ returns c =
 pub gate-inputs-spec : {M : Type 1} → statement M
 gate-inputs-spec =
     tie.close
-    (tie.spec
-    Inv-loop
-    μ-loop
-    loop-holds
-    mul-l
-    shared-slice-copy-out-l
-    opposite-requires
-    slice-aggregate-emit-clause
-    emit-clause-requires
-    add-k
-    loop-less
-    loop-again
-    same-length
-    returns)
+    (tie.spec Inv-loop μ-loop loop-holds mul-l shared-slice-copy-out-l opposite-requires slice-aggregate-emit-clause
+    emit-clause-requires add-k loop-less loop-again same-length returns)

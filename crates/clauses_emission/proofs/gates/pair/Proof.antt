@@ -124,28 +124,6 @@ returns-6 c =
 pub pair-spec : {M : Type 1} → statement M
 pair-spec =
     tie.close
-    (tie.spec
-    enum-told
-    either-requires
-    enum-told-2
-    both-requires
-    enum-told-3
-    without-requires
-    enum-told-4
-    implies-requires
-    enum-told-5
-    same-requires
-    enum-told-6
-    apart-requires
-    same-length
-    returns
-    same-length-2
-    returns-2
-    same-length-3
-    returns-3
-    same-length-4
-    returns-4
-    same-length-5
-    returns-5
-    same-length-6
-    returns-6)
+    (tie.spec enum-told either-requires enum-told-2 both-requires enum-told-3 without-requires enum-told-4
+    implies-requires enum-told-5 same-requires enum-told-6 apart-requires same-length returns same-length-2 returns-2
+    same-length-3 returns-3 same-length-4 returns-4 same-length-5 returns-5 same-length-6 returns-6)

@@ -41,12 +41,5 @@ returns-2 c =
 pub write-at-spec : {M : Type 1} → statement M
 write-at-spec =
     tie.close
-    (tie.spec
-    mul-write-clause
-    sub-write-clause
-    part-write-clause-start
-    part-write-clause-end
-    write-clause-requires
-    same-length
-    returns
-    returns-2)
+    (tie.spec mul-write-clause sub-write-clause part-write-clause-start part-write-clause-end write-clause-requires
+    same-length returns returns-2)

@@ -90,21 +90,5 @@ same-length c =
 pub write-clause-spec : {M : Type 1} → statement M
 write-clause-spec =
     tie.close
-    (tie.spec
-    Inv-loop
-    μ-loop
-    add-positive
-    cast-positive
-    positive-requires
-    put-requires
-    put-requires-2
-    loop-holds
-    mul-l
-    shared-slice-copy-out-l
-    add-put
-    put-requires-3
-    add-k
-    loop-less
-    loop-again
-    same-length
-    returns)
+    (tie.spec Inv-loop μ-loop add-positive cast-positive positive-requires put-requires put-requires-2 loop-holds mul-l
+    shared-slice-copy-out-l add-put put-requires-3 add-k loop-less loop-again same-length returns)

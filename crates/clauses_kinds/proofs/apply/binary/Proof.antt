@@ -54,19 +54,5 @@ returns-5 c o s =
 pub binary-spec : {M : Type 1} → statement M
 binary-spec =
     tie.close
-    (tie.spec
-    matched-requires
-    matched-requires-2
-    matched-requires-3
-    join-requires
-    product-requires
-    same-length
-    returns
-    same-length-2
-    returns-2
-    same-length-3
-    returns-3
-    same-length-4
-    returns-4
-    same-length-5
-    returns-5)
+    (tie.spec matched-requires matched-requires-2 matched-requires-3 join-requires product-requires same-length returns
+    same-length-2 returns-2 same-length-3 returns-3 same-length-4 returns-4 same-length-5 returns-5)

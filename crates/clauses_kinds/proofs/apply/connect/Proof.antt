@@ -70,16 +70,5 @@ returns-4 c o s =
 pub connect-spec : {M : Type 1} → statement M
 connect-spec =
     tie.close
-    (tie.spec
-    pair-requires
-    pair-requires-2
-    pair-requires-3
-    pair-requires-4
-    same-length
-    returns
-    same-length-2
-    returns-2
-    same-length-3
-    returns-3
-    same-length-4
-    returns-4)
+    (tie.spec pair-requires pair-requires-2 pair-requires-3 pair-requires-4 same-length returns same-length-2 returns-2
+    same-length-3 returns-3 same-length-4 returns-4)

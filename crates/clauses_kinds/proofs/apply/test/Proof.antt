@@ -36,13 +36,5 @@ returns-3 c o s =
 pub test-spec : {M : Type 1} → statement M
 test-spec =
     tie.close
-    (tie.spec
-    some-requires
-    none-requires
-    lone-requires
-    same-length
-    returns
-    same-length-2
-    returns-2
-    same-length-3
+    (tie.spec some-requires none-requires lone-requires same-length returns same-length-2 returns-2 same-length-3
     returns-3)

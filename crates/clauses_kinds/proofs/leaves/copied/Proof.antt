@@ -53,15 +53,5 @@ returns c =
 pub copied-spec : {M : Type 1} → statement M
 copied-spec =
     tie.close
-    (tie.spec
-    Inv-loop
-    μ-loop
-    loop-holds
-    add-word-at
-    word-at-requires
-    mul-cells
-    array-set-from-cells
-    add-k
-    loop-less
-    loop-again
-    returns)
+    (tie.spec Inv-loop μ-loop loop-holds add-word-at word-at-requires mul-cells array-set-from-cells add-k loop-less
+    loop-again returns)

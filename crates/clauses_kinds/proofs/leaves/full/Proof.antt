@@ -43,13 +43,4 @@ returns c =
 pub full-spec : {M : Type 1} → statement M
 full-spec =
     tie.close
-    (tie.spec
-    Inv-loop
-    μ-loop
-    loop-holds
-    mul-cells
-    array-set-of-cells
-    add-k
-    loop-less
-    loop-again
-    returns)
+    (tie.spec Inv-loop μ-loop loop-holds mul-cells array-set-of-cells add-k loop-less loop-again returns)

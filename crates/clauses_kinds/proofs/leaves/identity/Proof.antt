@@ -69,17 +69,5 @@ returns c =
 pub identity-spec : {M : Type 1} → statement M
 identity-spec =
     tie.close
-    (tie.spec
-    Inv-loop
-    μ-loop
-    mul-size
-    loop-holds
-    div-truth
-    rem-truth
-    truth-requires
-    mul-cells
-    array-set-from-cells
-    add-k
-    loop-less
-    loop-again
-    returns)
+    (tie.spec Inv-loop μ-loop mul-size loop-holds div-truth rem-truth truth-requires mul-cells array-set-from-cells
+    add-k loop-less loop-again returns)

@@ -55,16 +55,5 @@ returns-4 c l s =
 pub leaf-spec : {M : Type 1} → statement M
 leaf-spec =
     tie.close
-    (tie.spec
-    relation-requires
-    scope-of-variable-requires
-    atom-at-requires
-    single-requires
-    scope-requires
-    full-requires
-    scope-requires-2
-    identity-requires
-    returns
-    returns-2
-    returns-3
-    returns-4)
+    (tie.spec relation-requires scope-of-variable-requires atom-at-requires single-requires scope-requires full-requires
+    scope-requires-2 identity-requires returns returns-2 returns-3 returns-4)

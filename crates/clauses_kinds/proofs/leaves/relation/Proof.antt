@@ -54,12 +54,5 @@ returns c env =
 pub relation-spec : {M : Type 1} → statement M
 relation-spec =
     tie.close
-    (tie.spec
-    mul-first
-    shared-slice-read-first
-    arity-requires
-    row-count-requires
-    row-length-requires
-    mul-copied
-    copied-requires
-    returns)
+    (tie.spec mul-first shared-slice-read-first arity-requires row-count-requires row-length-requires mul-copied
+    copied-requires returns)

@@ -55,14 +55,5 @@ returns c =
 pub single-spec : {M : Type 1} → statement M
 single-spec =
     tie.close
-    (tie.spec
-    Inv-loop
-    μ-loop
-    loop-holds
-    truth-requires
-    mul-cells
-    array-set-from-cells
-    add-k
-    loop-less
-    loop-again
+    (tie.spec Inv-loop μ-loop loop-holds truth-requires mul-cells array-set-from-cells add-k loop-less loop-again
     returns)

@@ -67,14 +67,4 @@ returns c =
 pub closure-spec : {M : Type 1} → statement M
 closure-spec =
     tie.close
-    (tie.spec
-    Inv-loop
-    μ-loop
-    rounds-requires
-    loop-holds
-    round-requires
-    add-k
-    loop-less
-    loop-again
-    same-length
-    returns)
+    (tie.spec Inv-loop μ-loop rounds-requires loop-holds round-requires add-k loop-less loop-again same-length returns)

@@ -150,20 +150,5 @@ returns c =
 pub inverse-spec : {M : Type 1} → statement M
 inverse-spec =
     tie.close
-    (tie.spec
-    Inv-loop
-    μ-loop
-    mul-size
-    loop-holds
-    rem-l
-    mul-l
-    div-l
-    add-l
-    mul-l-2
-    element-copy-out-l
-    mul-cells
-    array-set-from-cells
-    add-k
-    loop-less
-    loop-again
-    returns)
+    (tie.spec Inv-loop μ-loop mul-size loop-holds rem-l mul-l div-l add-l mul-l-2 element-copy-out-l mul-cells
+    array-set-from-cells add-k loop-less loop-again returns)

@@ -80,12 +80,4 @@ returns-2 c =
 pub join-spec : {M : Type 1} → statement M
 join-spec =
     tie.close
-    (tie.spec
-    join-columns-requires
-    join-cells-requires
-    add-if1
-    same-length
-    returns
-    mul-t13
-    same-length-2
-    returns-2)
+    (tie.spec join-columns-requires join-cells-requires add-if1 same-length returns mul-t13 same-length-2 returns-2)

@@ -207,27 +207,6 @@ returns c =
 pub join-cell-spec : {M : Type 1} → statement M
 join-cell-spec =
     tie.close
-    (tie.spec
-    Inv-loop
-    μ-loop
-    join-columns-requires
-    loop-holds
-    mul-both
-    add-both
-    mul-both-2
-    element-copy-out-both
-    mul-both-3
-    add-both-2
-    mul-both-4
-    element-copy-out-both-2
-    both-requires
-    mul-middles
-    array-set-from-middles
-    add-k
-    loop-less
-    loop-again
-    array-share-prefix-middles
-    slice-aggregate-or
-    or-requires
-    same-length
-    returns)
+    (tie.spec Inv-loop μ-loop join-columns-requires loop-holds mul-both add-both mul-both-2 element-copy-out-both
+    mul-both-3 add-both-2 mul-both-4 element-copy-out-both-2 both-requires mul-middles array-set-from-middles add-k
+    loop-less loop-again array-share-prefix-middles slice-aggregate-or or-requires same-length returns)

@@ -129,19 +129,5 @@ returns c =
 pub join-cells-spec : {M : Type 1} → statement M
 join-cells-spec =
     tie.close
-    (tie.spec
-    Inv-loop
-    μ-loop
-    join-columns-requires
-    mul-size
-    loop-holds
-    div-join-cell
-    rem-join-cell
-    join-cell-requires
-    mul-cells
-    array-set-from-cells
-    add-k
-    loop-less
-    loop-again
-    same-length
-    returns)
+    (tie.spec Inv-loop μ-loop join-columns-requires mul-size loop-holds div-join-cell rem-join-cell join-cell-requires
+    mul-cells array-set-from-cells add-k loop-less loop-again same-length returns)

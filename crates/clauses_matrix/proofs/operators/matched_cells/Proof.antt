@@ -133,20 +133,5 @@ returns c =
 pub matched-cells-spec : {M : Type 1} → statement M
 matched-cells-spec =
     tie.close
-    (tie.spec
-    Inv-loop
-    μ-loop
-    mul-size
-    loop-holds
-    mul-pair
-    element-copy-out-pair
-    mul-pair-2
-    element-copy-out-pair-2
-    pair-requires
-    mul-cells
-    array-set-from-cells
-    add-k
-    loop-less
-    loop-again
-    same-length
-    returns)
+    (tie.spec Inv-loop μ-loop mul-size loop-holds mul-pair element-copy-out-pair mul-pair-2 element-copy-out-pair-2
+    pair-requires mul-cells array-set-from-cells add-k loop-less loop-again same-length returns)

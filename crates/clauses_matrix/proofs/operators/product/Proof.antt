@@ -181,22 +181,5 @@ returns c =
 pub product-spec : {M : Type 1} → statement M
 product-spec =
     tie.close
-    (tie.spec
-    Inv-loop
-    μ-loop
-    mul-size
-    loop-holds
-    div-both
-    mul-both
-    element-copy-out-both
-    rem-both
-    mul-both-2
-    element-copy-out-both-2
-    both-requires
-    mul-cells
-    array-set-from-cells
-    add-k
-    loop-less
-    loop-again
-    same-length
-    returns)
+    (tie.spec Inv-loop μ-loop mul-size loop-holds div-both mul-both element-copy-out-both rem-both mul-both-2
+    element-copy-out-both-2 both-requires mul-cells array-set-from-cells add-k loop-less loop-again same-length returns)

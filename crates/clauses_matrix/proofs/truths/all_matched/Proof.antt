@@ -52,11 +52,5 @@ returns c =
 pub all-matched-spec : {M : Type 1} → statement M
 all-matched-spec =
     tie.close
-    (tie.spec
-    matched-cells-requires
-    mul-n
-    array-share-prefix-cells
-    slice-aggregate-and
-    and-requires
-    same-length
+    (tie.spec matched-cells-requires mul-n array-share-prefix-cells slice-aggregate-and and-requires same-length
     returns)

@@ -218,29 +218,6 @@ returns c =
 pub lone-spec : {M : Type 1} → statement M
 lone-spec =
     tie.close
-    (tie.spec
-    Inv-loop
-    μ-loop
-    mul-n
-    loop-holds
-    mul-both
-    element-copy-out-both
-    mul-both-2
-    element-copy-out-both-2
-    both-requires
-    mul-pairs
-    array-set-from-pairs
-    add-t
-    add-j
-    add-i
-    add-j-2
-    loop-less
-    loop-again
-    loop-less-2
-    loop-again-2
-    array-share-prefix-pairs
-    slice-aggregate-or
-    or-requires
-    negate-requires
-    same-length
-    returns)
+    (tie.spec Inv-loop μ-loop mul-n loop-holds mul-both element-copy-out-both mul-both-2 element-copy-out-both-2
+    both-requires mul-pairs array-set-from-pairs add-t add-j add-i add-j-2 loop-less loop-again loop-less-2 loop-again-2
+    array-share-prefix-pairs slice-aggregate-or or-requires negate-requires same-length returns)

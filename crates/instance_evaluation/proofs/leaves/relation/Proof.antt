@@ -53,11 +53,5 @@ returns c env =
 pub relation-spec : {M : Type 1} → statement M
 relation-spec =
     tie.close
-    (tie.spec
-    mul-first
-    shared-slice-read-first
-    row-count-requires
-    row-length-requires
-    arity-requires
-    given-requires
+    (tie.spec mul-first shared-slice-read-first row-count-requires row-length-requires arity-requires given-requires
     returns)

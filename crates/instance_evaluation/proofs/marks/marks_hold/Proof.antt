@@ -52,13 +52,4 @@ returns c =
 pub marks-hold-spec : {M : Type 1} → statement M
 marks-hold-spec =
     tie.close
-    (tie.spec
-    Inv-loop
-    μ-loop
-    loop-holds
-    rows-hold-requires
-    both-requires
-    add-r
-    loop-less
-    loop-again
-    returns)
+    (tie.spec Inv-loop μ-loop loop-holds rows-hold-requires both-requires add-r loop-less loop-again returns)

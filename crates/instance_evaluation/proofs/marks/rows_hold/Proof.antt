@@ -113,21 +113,6 @@ returns c =
 pub rows-hold-spec : {M : Type 1} → statement M
 rows-hold-spec =
     tie.close
-    (tie.spec
-    Inv-loop
-    μ-loop
-    multiplicity-requires
-    mul-first
-    shared-slice-read-first
-    row-count-requires
-    row-length-requires
-    loop-holds
-    mul-given
-    add-given
-    given-requires
-    row-holds-requires
-    both-requires
-    add-i
-    loop-less
-    loop-again
-    returns)
+    (tie.spec Inv-loop μ-loop multiplicity-requires mul-first shared-slice-read-first row-count-requires
+    row-length-requires loop-holds mul-given add-given given-requires row-holds-requires both-requires add-i loop-less
+    loop-again returns)

@@ -59,21 +59,6 @@ returns-5 c =
 pub pair-spec : {M : Type 1} → statement M
 pair-spec =
     tie.close
-    (tie.spec
-    enum-told
-    either-requires
-    enum-told-2
-    both-requires
-    enum-told-3
-    both-requires-2
-    enum-told-4
-    either-requires-2
-    enum-told-5
-    either-requires-3
-    either-requires-4
-    both-requires-3
-    returns
-    returns-2
-    returns-3
-    returns-4
-    returns-5)
+    (tie.spec enum-told either-requires enum-told-2 both-requires enum-told-3 both-requires-2 enum-told-4
+    either-requires-2 enum-told-5 either-requires-3 either-requires-4 both-requires-3 returns returns-2 returns-3
+    returns-4 returns-5)

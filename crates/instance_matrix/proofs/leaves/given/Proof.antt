@@ -55,15 +55,5 @@ returns c =
 pub given-spec : {M : Type 1} → statement M
 given-spec =
     tie.close
-    (tie.spec
-    Inv-loop
-    μ-loop
-    size-requires
-    loop-holds
-    add-byte
-    byte-requires
-    array-write-cells
-    add-k
-    loop-less
-    loop-again
-    returns)
+    (tie.spec Inv-loop μ-loop size-requires loop-holds add-byte byte-requires array-write-cells add-k loop-less
+    loop-again returns)

@@ -58,15 +58,5 @@ returns c =
 pub identity-spec : {M : Type 1} → statement M
 identity-spec =
     tie.close
-    (tie.spec
-    Inv-loop
-    μ-loop
-    size-requires
-    loop-holds
-    div-cells
-    rem-cells
-    array-write-cells
-    add-k
-    loop-less
-    loop-again
+    (tie.spec Inv-loop μ-loop size-requires loop-holds div-cells rem-cells array-write-cells add-k loop-less loop-again
     returns)

@@ -39,14 +39,5 @@ returns-5 c o s =
 pub binary-spec : {M : Type 1} → statement M
 binary-spec =
     tie.close
-    (tie.spec
-    matched-requires
-    matched-requires-2
-    matched-requires-3
-    join-requires
-    product-requires
-    returns
-    returns-2
-    returns-3
-    returns-4
-    returns-5)
+    (tie.spec matched-requires matched-requires-2 matched-requires-3 join-requires product-requires returns returns-2
+    returns-3 returns-4 returns-5)

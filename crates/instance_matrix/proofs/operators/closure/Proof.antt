@@ -50,13 +50,4 @@ returns c =
 pub closure-spec : {M : Type 1} → statement M
 closure-spec =
     tie.close
-    (tie.spec
-    Inv-loop
-    μ-loop
-    rounds-requires
-    loop-holds
-    round-requires
-    add-k
-    loop-less
-    loop-again
-    returns)
+    (tie.spec Inv-loop μ-loop rounds-requires loop-holds round-requires add-k loop-less loop-again returns)

@@ -76,17 +76,5 @@ returns c =
 pub inverse-spec : {M : Type 1} → statement M
 inverse-spec =
     tie.close
-    (tie.spec
-    Inv-loop
-    μ-loop
-    size-requires
-    loop-holds
-    rem-index
-    div-index
-    index-requires
-    element-copy-out-cells
-    array-write-cells
-    add-k
-    loop-less
-    loop-again
-    returns)
+    (tie.spec Inv-loop μ-loop size-requires loop-holds rem-index div-index index-requires element-copy-out-cells
+    array-write-cells add-k loop-less loop-again returns)

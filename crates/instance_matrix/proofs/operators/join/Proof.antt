@@ -113,19 +113,5 @@ returns-2 c =
 pub join-spec : {M : Type 1} → statement M
 join-spec =
     tie.close
-    (tie.spec
-    Inv-loop
-    μ-loop
-    join-columns-requires
-    size-requires
-    loop-holds
-    div-join-cell
-    rem-join-cell
-    join-cell-requires
-    array-write-cells
-    add-k
-    loop-less
-    loop-again
-    add-if1
-    returns
-    returns-2)
+    (tie.spec Inv-loop μ-loop join-columns-requires size-requires loop-holds div-join-cell rem-join-cell
+    join-cell-requires array-write-cells add-k loop-less loop-again add-if1 returns returns-2)

@@ -78,17 +78,5 @@ returns c =
 pub join-cell-spec : {M : Type 1} → statement M
 join-cell-spec =
     tie.close
-    (tie.spec
-    Inv-loop
-    μ-loop
-    loop-holds
-    index-requires
-    index-requires-2
-    element-copy-out-both
-    element-copy-out-both-2
-    both-requires
-    either-requires
-    add-k
-    loop-less
-    loop-again
-    returns)
+    (tie.spec Inv-loop μ-loop loop-holds index-requires index-requires-2 element-copy-out-both element-copy-out-both-2
+    both-requires either-requires add-k loop-less loop-again returns)

@@ -58,16 +58,5 @@ returns c =
 pub matched-spec : {M : Type 1} → statement M
 matched-spec =
     tie.close
-    (tie.spec
-    Inv-loop
-    μ-loop
-    size-requires
-    loop-holds
-    element-copy-out-pair
-    element-copy-out-pair-2
-    pair-requires
-    array-write-cells
-    add-k
-    loop-less
-    loop-again
-    returns)
+    (tie.spec Inv-loop μ-loop size-requires loop-holds element-copy-out-pair element-copy-out-pair-2 pair-requires
+    array-write-cells add-k loop-less loop-again returns)

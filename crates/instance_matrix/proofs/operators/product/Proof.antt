@@ -89,18 +89,5 @@ returns c =
 pub product-spec : {M : Type 1} → statement M
 product-spec =
     tie.close
-    (tie.spec
-    Inv-loop
-    μ-loop
-    size-requires
-    loop-holds
-    div-i
-    rem-j
-    element-copy-out-both
-    element-copy-out-both-2
-    both-requires
-    array-write-cells
-    add-k
-    loop-less
-    loop-again
-    returns)
+    (tie.spec Inv-loop μ-loop size-requires loop-holds div-i rem-j element-copy-out-both element-copy-out-both-2
+    both-requires array-write-cells add-k loop-less loop-again returns)

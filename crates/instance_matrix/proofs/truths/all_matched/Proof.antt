@@ -67,16 +67,5 @@ returns c =
 pub all-matched-spec : {M : Type 1} → statement M
 all-matched-spec =
     tie.close
-    (tie.spec
-    Inv-loop
-    μ-loop
-    size-requires
-    loop-holds
-    element-copy-out-pair
-    element-copy-out-pair-2
-    pair-requires
-    both-requires
-    add-k
-    loop-less
-    loop-again
-    returns)
+    (tie.spec Inv-loop μ-loop size-requires loop-holds element-copy-out-pair element-copy-out-pair-2 pair-requires
+    both-requires add-k loop-less loop-again returns)

@@ -56,14 +56,5 @@ returns c =
 pub count-spec : {M : Type 1} → statement M
 count-spec =
     tie.close
-    (tie.spec
-    Inv-loop
-    μ-loop
-    size-requires
-    loop-holds
-    element-copy-out-add-flag
-    add-flag-requires
-    add-k
-    loop-less
-    loop-again
-    returns)
+    (tie.spec Inv-loop μ-loop size-requires loop-holds element-copy-out-add-flag add-flag-requires add-k loop-less
+    loop-again returns)

@@ -47,12 +47,5 @@ returns c =
 pub read-node-spec : {M : Type 1} → statement M
 read-node-spec =
     tie.close
-    (tie.spec
-    nodes-of-requires
-    field-requires
-    field-requires-2
-    field-requires-3
-    row-of-requires
-    expression-form-requires
-    formula-form-requires
-    returns)
+    (tie.spec nodes-of-requires field-requires field-requires-2 field-requires-3 row-of-requires
+    expression-form-requires formula-form-requires returns)

@@ -63,14 +63,5 @@ returns-2 c =
 pub put-found-spec : {M : Type 1} → statement M
 put-found-spec =
     tie.close
-    (tie.spec
-    slice-aggregate-put-end
-    put-end-requires
-    read-requires
-    enum-told
-    enum-known-reading
-    put-lines-requires
-    same-length
-    returns
-    same-length-2
-    returns-2)
+    (tie.spec slice-aggregate-put-end put-end-requires read-requires enum-told enum-known-reading put-lines-requires
+    same-length returns same-length-2 returns-2)

@@ -101,25 +101,7 @@ returns-4 c =
 pub put-report-spec : {M : Type 1} → statement M
 put-report-spec =
     tie.close
-    (tie.spec
-    enum-known-ended
-    put-found-requires
-    enum-known-ended-2
-    slice-aggregate-put-end
-    put-end-requires
-    enum-known-ended-3
-    slice-aggregate-put-end-2
-    put-end-requires-2
-    enum-known-ended-4
-    slice-aggregate-put-end-3
-    number-requires
-    cast-put-end
-    put-end-requires-3
-    same-length
-    returns
-    same-length-2
-    returns-2
-    same-length-3
-    returns-3
-    same-length-4
-    returns-4)
+    (tie.spec enum-known-ended put-found-requires enum-known-ended-2 slice-aggregate-put-end put-end-requires
+    enum-known-ended-3 slice-aggregate-put-end-2 put-end-requires-2 enum-known-ended-4 slice-aggregate-put-end-3
+    number-requires cast-put-end put-end-requires-3 same-length returns same-length-2 returns-2 same-length-3 returns-3
+    same-length-4 returns-4)

@@ -132,20 +132,5 @@ returns c = (whole c, omega (arith, ended c))
 pub put-line-spec : {M : Type 1} → statement M
 put-line-spec =
     tie.close
-    (tie.spec
-    Inv-loop
-    μ-loop
-    slice-write-text
-    add-put-decimal
-    put-decimal-requires
-    loop-holds
-    mul-put-row
-    add-put-row
-    put-row-requires
-    add-i
-    loop-less
-    loop-again
-    slice-write-text-2
-    add-result
-    same-length
-    returns)
+    (tie.spec Inv-loop μ-loop slice-write-text add-put-decimal put-decimal-requires loop-holds mul-put-row add-put-row
+    put-row-requires add-i loop-less loop-again slice-write-text-2 add-result same-length returns)

@@ -89,18 +89,5 @@ same-length c = put-length (returns c)
 pub put-row-spec : {M : Type 1} → statement M
 put-row-spec =
     tie.close
-    (tie.spec
-    Inv-loop
-    μ-loop
-    slice-write-text
-    add-end
-    loop-holds
-    add-cell-digit
-    cell-digit-requires
-    slice-write-text-2
-    add-end-2
-    add-j
-    loop-less
-    loop-again
-    same-length
-    returns)
+    (tie.spec Inv-loop μ-loop slice-write-text add-end loop-holds add-cell-digit cell-digit-requires slice-write-text-2
+    add-end-2 add-j loop-less loop-again same-length returns)

@@ -140,8 +140,8 @@ returns-3 c state i =
     let e = (rw (l .wide) at (c .before .before .before .before .before .before .before .before .before .ends .ensures)) (f .at)
     (f .stored .was-open) (f .stored .values-are) in
     let b = (rw (l .wide) at (c .before .before .before .before .back .ensures)) (f .at) (f .stored) in
-    far-emptied _ _ _ _ _ _ _ _ _ f _ _ _ _ _ refl (sym (c .before .before .before .before .before .before .before .enum-told3 .given .1) ∙ e)
-    (c .emptied2 .ensures .0) (c .emptied2 .ensures .1) b
+    let told = c .before .before .before .before .before .before .before .enum-told3 .given .1 in
+    rw told (far-emptied _ _ _ _ _ _ _ _ _ f _ _ _ _ _ refl (sym told ∙ e) (c .emptied2 .ensures .0) (c .emptied2 .ensures .1) b)
 
 same-length-7 : tie.Need-same-length-7 Inv-loop μ-loop
 same-length-7 c = c .before .before .before .before .before .loop .inv .wide
@@ -154,7 +154,7 @@ returns-4 c state i =
     let l = c .before .before .before .before .before .loop .inv in
     let f = l .far state i in
     let e = (rw (l .wide) at (c .before .before .ends .ensures)) (f .at) (f .stored .was-open) (f .stored .values-are) in
-    far-full _ _ _ _ _ _ _ _ _ f _ refl (sym (c .enum-told4 .given .1) ∙ e)
+    rw (c .enum-told4 .given .1) (far-full _ _ _ _ _ _ _ _ _ f _ refl (sym (c .enum-told4 .given .1) ∙ e))
 
 same-length-9 : tie.Need-same-length-9 Inv-loop μ-loop
 same-length-9 c = c .before .before .before .before .before .loop .inv .wide
@@ -167,7 +167,8 @@ returns-5 c state i =
     let l = c .before .before .before .before .before .loop .inv in
     let f = l .far state i in
     let e = (rw (l .wide) at (c .before .before .ends .ensures)) (f .at) (f .stored .was-open) (f .stored .values-are) in
-    far-spent _ _ _ _ _ _ _ _ _ f _ (c .before .before .before .before .loop-test .left) refl (sym (c .enum-told5 .given .1) ∙ e)
+    let told = c .enum-told5 .given .1 in
+    rw told (far-spent _ _ _ _ _ _ _ _ _ f _ (c .before .before .before .before .loop-test .left) refl (sym told ∙ e))
 
 pub run-spec : {M : Type 1} → statement M
 run-spec =

@@ -51,14 +51,5 @@ returns c sheet e s =
 pub relation-fine-spec : {M : Type 1} → statement M
 relation-fine-spec =
     tie.close
-    (tie.spec
-    field-requires
-    field-requires-2
-    field-requires-3
-    field-requires-4
-    choose-requires
-    within-requires
-    both-requires
-    both-requires-2
-    both-requires-3
-    returns)
+    (tie.spec field-requires field-requires-2 field-requires-3 field-requires-4 choose-requires within-requires
+    both-requires both-requires-2 both-requires-3 returns)

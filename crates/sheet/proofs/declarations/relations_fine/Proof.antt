@@ -51,13 +51,4 @@ returns c sheet e s =
 pub relations-fine-spec : {M : Type 1} → statement M
 relations-fine-spec =
     tie.close
-    (tie.spec
-    Inv-loop
-    μ-loop
-    loop-holds
-    relation-fine-requires
-    both-requires
-    add-r
-    loop-less
-    loop-again
-    returns)
+    (tie.spec Inv-loop μ-loop loop-holds relation-fine-requires both-requires add-r loop-less loop-again returns)

@@ -51,14 +51,4 @@ returns c =
 pub scopes-fine-spec : {M : Type 1} → statement M
 scopes-fine-spec =
     tie.close
-    (tie.spec
-    Inv-loop
-    μ-loop
-    loop-holds
-    byte-requires
-    within-requires
-    both-requires
-    add-k
-    loop-less
-    loop-again
-    returns)
+    (tie.spec Inv-loop μ-loop loop-holds byte-requires within-requires both-requires add-k loop-less loop-again returns)

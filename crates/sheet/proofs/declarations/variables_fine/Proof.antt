@@ -48,13 +48,4 @@ returns c =
 pub variables-fine-spec : {M : Type 1} → statement M
 variables-fine-spec =
     tie.close
-    (tie.spec
-    Inv-loop
-    μ-loop
-    loop-holds
-    byte-requires
-    both-requires
-    add-x
-    loop-less
-    loop-again
-    returns)
+    (tie.spec Inv-loop μ-loop loop-holds byte-requires both-requires add-x loop-less loop-again returns)

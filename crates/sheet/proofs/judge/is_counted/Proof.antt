@@ -35,11 +35,4 @@ returns c =
 pub is-counted-spec : {M : Type 1} → statement M
 is-counted-spec =
     tie.close
-    (tie.spec
-    within-requires
-    within-requires-2
-    within-requires-3
-    both-requires
-    both-requires-2
-    both-requires-3
-    returns)
+    (tie.spec within-requires within-requires-2 within-requires-3 both-requires both-requires-2 both-requires-3 returns)

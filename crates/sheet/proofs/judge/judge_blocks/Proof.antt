@@ -126,18 +126,6 @@ returns-6 c = past-fine (c .before) (c .judge-walk .ensures)
 pub judge-blocks-spec : {M : Type 1} → statement M
 judge-blocks-spec =
     tie.close
-    (tie.spec
-    is-whole-requires
-    returns
-    is-counted-requires
-    returns-2
-    scopes-fine-requires
-    returns-3
-    variables-fine-requires
-    relations-fine-requires
-    both-requires
-    returns-4
-    nodes-fine-requires
-    returns-5
-    judge-walk-requires
-    returns-6)
+    (tie.spec is-whole-requires returns is-counted-requires returns-2 scopes-fine-requires returns-3
+    variables-fine-requires relations-fine-requires both-requires returns-4 nodes-fine-requires returns-5
+    judge-walk-requires returns-6)

@@ -102,18 +102,5 @@ returns-4 c =
 pub judge-walk-spec : {M : Type 1} → statement M
 judge-walk-spec =
     tie.close
-    (tie.spec
-    sub-root
-    shapes-of-requires
-    all-shaped-requires
-    returns
-    shape-at-requires
-    is-formula-requires
-    closed-requires
-    both-requires
-    returns-2
-    visits-of-requires
-    count-at-requires
-    returns-3
-    layout-requires
-    returns-4)
+    (tie.spec sub-root shapes-of-requires all-shaped-requires returns shape-at-requires is-formula-requires
+    closed-requires both-requires returns-2 visits-of-requires count-at-requires returns-3 layout-requires returns-4)

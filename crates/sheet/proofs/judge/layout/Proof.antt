@@ -28,11 +28,5 @@ returns c sheet s x r n = rw (s, x, r, n) refl
 pub layout-spec : {M : Type 1} → statement M
 layout-spec =
     tie.close
-    (tie.spec
-    add-variables-at
-    add-variables-at-2
-    add-relations-at
-    add-relations-at-2
-    add-nodes-at
-    add-nodes-at-2
+    (tie.spec add-variables-at add-variables-at-2 add-relations-at add-relations-at-2 add-nodes-at add-nodes-at-2
     returns)

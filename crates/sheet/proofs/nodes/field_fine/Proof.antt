@@ -37,14 +37,4 @@ returns-5 c sheet s x r = rw (c .enum-told5 .given .1, s) refl
 pub field-fine-spec : {M : Type 1} → statement M
 field-fine-spec =
     tie.close
-    (tie.spec
-    enum-told
-    enum-told-2
-    enum-told-3
-    enum-told-4
-    enum-told-5
-    returns
-    returns-2
-    returns-3
-    returns-4
-    returns-5)
+    (tie.spec enum-told enum-told-2 enum-told-3 enum-told-4 enum-told-5 returns returns-2 returns-3 returns-4 returns-5)

@@ -50,14 +50,5 @@ returns c sheet e s x r =
 pub node-fine-spec : {M : Type 1} → statement M
 node-fine-spec =
     tie.close
-    (tie.spec
-    field-requires
-    row-of-requires
-    field-requires-2
-    field-fine-requires
-    field-requires-3
-    field-fine-requires-2
-    is-known-requires
-    both-requires
-    both-requires-2
-    returns)
+    (tie.spec field-requires row-of-requires field-requires-2 field-fine-requires field-requires-3 field-fine-requires-2
+    is-known-requires both-requires both-requires-2 returns)

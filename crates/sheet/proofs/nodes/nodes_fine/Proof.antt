@@ -52,13 +52,4 @@ returns c sheet e s x r =
 pub nodes-fine-spec : {M : Type 1} → statement M
 nodes-fine-spec =
     tie.close
-    (tie.spec
-    Inv-loop
-    μ-loop
-    loop-holds
-    node-fine-requires
-    both-requires
-    add-v
-    loop-less
-    loop-again
-    returns)
+    (tie.spec Inv-loop μ-loop loop-holds node-fine-requires both-requires add-v loop-less loop-again returns)

@@ -52,14 +52,5 @@ returns c =
 pub all-shaped-spec : {M : Type 1} → statement M
 all-shaped-spec =
     tie.close
-    (tie.spec
-    Inv-loop
-    μ-loop
-    loop-holds
-    shape-at-requires
-    is-shaped-requires
-    both-requires
-    add-v
-    loop-less
-    loop-again
+    (tie.spec Inv-loop μ-loop loop-holds shape-at-requires is-shaped-requires both-requires add-v loop-less loop-again
     returns)

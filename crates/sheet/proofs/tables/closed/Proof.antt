@@ -58,15 +58,5 @@ returns c sheet n =
 pub closed-spec : {M : Type 1} → statement M
 closed-spec =
     tie.close
-    (tie.spec
-    Inv-loop
-    μ-loop
-    sub-root
-    loop-holds
-    free-in-requires
-    flag-at-requires
-    both-requires
-    add-x
-    loop-less
-    loop-again
-    returns)
+    (tie.spec Inv-loop μ-loop sub-root loop-holds free-in-requires flag-at-requires both-requires add-x loop-less
+    loop-again returns)

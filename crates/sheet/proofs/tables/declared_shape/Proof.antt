@@ -25,9 +25,4 @@ returns c sheet e =
 pub declared-shape-spec : {M : Type 1} → statement M
 declared-shape-spec =
     tie.close
-    (tie.spec
-    field-requires
-    field-requires-2
-    field-requires-3
-    shape-of-requires
-    returns)
+    (tie.spec field-requires field-requires-2 field-requires-3 shape-of-requires returns)

@@ -43,13 +43,5 @@ returns c =
 pub free-by-spec : {M : Type 1} → statement M
 free-by-spec =
     tie.close
-    (tie.spec
-    is-variable-requires
-    both-requires
-    is-node-requires
-    both-requires-2
-    choose-requires
-    is-node-requires-2
-    both-requires-3
-    either-requires
-    returns)
+    (tie.spec is-variable-requires both-requires is-node-requires both-requires-2 choose-requires is-node-requires-2
+    both-requires-3 either-requires returns)

@@ -101,19 +101,5 @@ returns c sheet n =
 pub free-in-spec : {M : Type 1} → statement M
 free-in-spec =
     tie.close
-    (tie.spec
-    Inv-loop
-    μ-loop
-    loop-holds
-    field-requires
-    row-of-requires
-    field-requires-2
-    field-requires-3
-    flag-at-requires
-    flag-at-requires-2
-    free-by-requires
-    array-write-free
-    add-v
-    loop-less
-    loop-again
-    returns)
+    (tie.spec Inv-loop μ-loop loop-holds field-requires row-of-requires field-requires-2 field-requires-3
+    flag-at-requires flag-at-requires-2 free-by-requires array-write-free add-v loop-less loop-again returns)

@@ -53,14 +53,5 @@ returns c sheet e s n =
 pub node-shape-spec : {M : Type 1} → statement M
 node-shape-spec =
     tie.close
-    (tie.spec
-    field-requires
-    row-of-requires
-    field-requires-2
-    field-requires-3
-    shape-at-requires
-    shape-at-requires-2
-    declared-shape-requires
-    byte-requires
-    shape-by-requires
-    returns)
+    (tie.spec field-requires row-of-requires field-requires-2 field-requires-3 shape-at-requires shape-at-requires-2
+    declared-shape-requires byte-requires shape-by-requires returns)

@@ -65,14 +65,5 @@ returns c sheet e s n =
 pub shapes-of-spec : {M : Type 1} → statement M
 shapes-of-spec =
     tie.close
-    (tie.spec
-    Inv-loop
-    μ-loop
-    loop-holds
-    node-shape-requires
-    mul-shapes
-    array-set-from-shapes
-    add-v
-    loop-less
-    loop-again
+    (tie.spec Inv-loop μ-loop loop-holds node-shape-requires mul-shapes array-set-from-shapes add-v loop-less loop-again
     returns)

@@ -61,15 +61,5 @@ returns c =
 pub visits-by-spec : {M : Type 1} → statement M
 visits-by-spec =
     tie.close
-    (tie.spec
-    is-node-requires
-    pick-requires
-    is-variable-requires
-    pick-requires-2
-    is-node-requires-2
-    pick-requires-3
-    add-capped
-    mul-capped
-    add-capped-2
-    capped-requires
-    returns)
+    (tie.spec is-node-requires pick-requires is-variable-requires pick-requires-2 is-node-requires-2 pick-requires-3
+    add-capped mul-capped add-capped-2 capped-requires returns)

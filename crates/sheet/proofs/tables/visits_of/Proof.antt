@@ -135,22 +135,6 @@ returns c sheet s x n =
 pub visits-of-spec : {M : Type 1} → statement M
 visits-of-spec =
     tie.close
-    (tie.spec
-    Inv-loop
-    μ-loop
-    loop-holds
-    field-requires
-    row-of-requires
-    field-requires-2
-    field-requires-3
-    byte-requires
-    byte-requires-2
-    count-at-requires
-    count-at-requires-2
-    visits-by-requires
-    mul-visits
-    array-write-visits
-    add-v
-    loop-less
-    loop-again
-    returns)
+    (tie.spec Inv-loop μ-loop loop-holds field-requires row-of-requires field-requires-2 field-requires-3 byte-requires
+    byte-requires-2 count-at-requires count-at-requires-2 visits-by-requires mul-visits array-write-visits add-v
+    loop-less loop-again returns)
