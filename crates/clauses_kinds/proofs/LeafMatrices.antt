@@ -3,12 +3,12 @@ use mathlib.Core.Path.{_≡_, refl, sym, ap, _∙_}
 use mathlib.Core.Bool.{Bool, true, false}
 use mathlib.Core.List.{List, map}
 use mathlib.Core.Logic.{_⊎_, inl, inr}
-use Prim.Native.Nat.{ℕ, zero, suc, _+_, _*_, _/_, _%_, _≤_, _<_}
-use native.Mathlib.Nat.{le-refl, one-mul, mod-lt, div-add-mod', div-lt-iff-lt-mul}
+use Prim.Native.Nat.{ℕ, _+_, _*_, _/_, _%_, _≤_, _<_}
+use native.Mathlib.Nat.{le-refl, one-mul}
 use native.Mathlib.Omega.{arith}
 use lib.Dec.{eqb}
 use lib.IntN.{ℤ}
-use lib.ListN.{length, getD, List·getD-eq-default}
+use lib.ListN.{length, List·getD-eq-default}
 use Rattle.literal.specs.Literals.{Literal, wordOf, literalOf}
 use Rattle.sheet_rules.specs.Blocks.{Sheet, relationCount}
 use Rattle.sheet_rules.specs.Blocks as blocks
@@ -17,12 +17,13 @@ use Rattle.relational.specs.Trees.{Leaf, relation}
 use Rattle.relational.specs.Cells.{rowCount, rowLength, firstCell}
 use Rattle.relational.specs.Meaning.{Environment}
 use Rattle.relational.specs.Matrices.{from, upto, Place, places, Matrix, setOf, relationOf, leafMatrix}
-use Rattle.relational.proofs.Places.{length-map-from, from-at, length-places, places-at}
+use Rattle.relational.proofs.Places.{map-map, length-map-from, from-at}
 use Rattle.cells.proofs.Layouts.{square, set-rows}
 use Rattle.clauses_rules.specs.Translation.{constant, absent, literalAt}
 use Rattle.clauses_emission.specs.Emission.{Inside, AllInside, literalsOf}
 use Rattle.clauses_matrix.specs.declared.Literals.{Literals}
 use Rattle.clauses_matrix.specs.Matrices.{cellsOf}
+use Rattle.clauses_matrix.proofs.Numbers.{placeOf, places-by-number}
 use Rattle.clauses_kinds.specs.Leaves.{Filled, cellFrom, LeafIs, Constants}
 use Rattle.clauses_kinds.proofs.Lists.{filled-is, filled-cells, filled-fine}
 
@@ -52,15 +53,18 @@ module _ (n : ℕ) (f : ℕ → Bool) (ws : List ℤ) where
             };
       }
 
+-- matrices are equal by their sizes and cells
+matrix-same : {a a′ r r′ c c′ : ℕ} {xs ys : List Literal} → a ≡ a′ → r ≡ r′ → c ≡ c′ → xs ≡ ys
+    → _≡_ {A = Matrix Literal} (record { arity = a; rows = r; columns = c; cells = xs })
+    (record { arity = a′; rows = r′; columns = c′; cells = ys })
+matrix-same p q s t = rw (p, q, s, t)
+
+two-columns : (k : ℕ) → (k ≡ 1) ⊎ (k ≡ 2) → (1 ≤ k) × (k ≤ 2)
+two-columns k (inl e) = (omega (arith, e), omega (arith, e))
+two-columns k (inr e) = (omega (arith, e), omega (arith, e))
+
 abbrev pub diagonal : ℕ → ℕ → Literal
 diagonal n k = constant (eqb (k / n) (k % n))
-
-pub some-root : (n k : ℕ) → k < n * n → 0 < n
-some-root zero k h = absurd (omega arith)
-some-root (suc n) k h = omega arith
-
-place-in : (n k : ℕ) → k < n * n → (k / n < n) × (k % n < n)
-place-in n k h = (div-lt-iff-lt-mul (some-root n k h) .1 h, mod-lt k (some-root n k h))
 
 pub identity-from : (n : ℕ) (ws : List ℤ) → n ≤ 8 → Filled (diagonal n) (n * n) ws
     → Constants (relationOf n n (map (λ (t : Place). constant (eqb (t .0) (t .1))) (places n n)))
@@ -69,10 +73,8 @@ identity-from n ws l h =
     let f : Place → Literal = λ t. constant (eqb (t .0) (t .1)) in
     record {
       is =
-          rw
-          (filled-is (diagonal n) h (square l l) (map f (places n n)) (length-places f n n)
-          λ k p. ap (λ (i : ℕ). getD (map f (places n n)) i absent) (sym (div-add-mod' k n))
-          ∙ places-at f absent n n (k / n) (k % n) (place-in n k p .0) (place-in n k p .1));
+          rw (filled-cells (diagonal n) h (square l l))
+          (matrix-same refl refl refl (sym (ap (map f) (places-by-number n n) ∙ map-map f (placeOf n) (upto (n * n)))));
       fine = λ k two.
           record {
             arity-low = omega arith;
@@ -95,16 +97,6 @@ pub constant-leaf : {sheet : Sheet} {given : List ℤ} {l : Leaf} {a : ℕ} {env
     → Constants matrix m → matrix ≡ leafMatrix sheet (literalAt sheet (literalsOf given)) constant l a env → LeafIs sheet given l a env m
 constant-leaf {given = given} h e =
     record { matrix = h .is ∙ e; fine = λ n i. h .fine n (inside-two n (literalsOf given) i) }
-
--- matrices are equal by their sizes and cells
-matrix-same : {a a′ r r′ c c′ : ℕ} {xs ys : List Literal} → a ≡ a′ → r ≡ r′ → c ≡ c′ → xs ≡ ys
-    → _≡_ {A = Matrix Literal} (record { arity = a; rows = r; columns = c; cells = xs })
-    (record { arity = a′; rows = r′; columns = c′; cells = ys })
-matrix-same p q s t = rw (p, q, s, t)
-
-two-columns : (k : ℕ) → (k ≡ 1) ⊎ (k ≡ 2) → (1 ≤ k) × (k ≤ 2)
-two-columns k (inl e) = (omega (arith, e), omega (arith, e))
-two-columns k (inr e) = (omega (arith, e), omega (arith, e))
 
 -- the cells of a relation
 module _ {sheet : Sheet} (facts : Facts sheet) (given : List ℤ) (r : ℕ) (env : Environment)

@@ -1,2 +1,2 @@
-pub mod Lists
+mod Lists
 mod LeafMatrices

@@ -1,6 +1,6 @@
 // The operators, by kind (document 01, "Clauses", the last list). What an operand left on the tape is where the operator starts.
 ghost use mathlib.Core.Path.{_≡_};
-ghost use Rattle.literal.specs.Literals.{literalOf, opposite};
+ghost use Rattle.literal.specs.Literals.{literalOf};
 ghost use Rattle.relational.specs.Trees.{Binary, Unary, Comparison, Test, Connective, Quantifier};
 ghost use Rattle.relational.specs.Trees.{binary-symbol, unary-symbol, comparison-symbol, test-symbol, connective-symbol};
 ghost use Rattle.relational.specs.Trees.{quantifier-symbol, symbolOf};
@@ -91,17 +91,6 @@ pub fn test(list: &mut [i32], kind: usize, p: MadeMatrix) -> Made
         23 => none(list, tape, operand),
         _ => lone(list, tape, operand),
     }
-}
-
-// Kind 30, not: the opposite literal.
-pub fn negate(p: Made) -> Made
-    requires { ⌜ Bounded (p .tape) ⌝ }
-    requires { ⌜ Inside (p .tape .next) (literalOf (p .literal)) ⌝ }
-    ensures { λ r. ⌜ (r .tape ≡ p .tape) × (literalOf (r .literal) ≡ opposite (literalOf (p .literal))) ⌝ }
-{
-    let tape = p.tape;
-    let literal = literal::opposite(p.literal);
-    Made { literal, tape }
 }
 
 // Kinds 31 to 34: and, or, implies, iff.

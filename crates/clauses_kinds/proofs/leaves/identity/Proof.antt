@@ -2,7 +2,8 @@
 use mathlib.Core.Path.{_∙_}
 use Rattle.clauses_kinds.specs.Leaves.{Filled}
 use Rattle.cells.proofs.Layouts.{square}
-use Rattle.clauses_kinds.proofs.LeafMatrices.{constant-word, identity-from, diagonal, some-root}
+use Rattle.clauses_matrix.proofs.Numbers.{some-columns}
+use Rattle.clauses_kinds.proofs.LeafMatrices.{constant-word, identity-from, diagonal}
 use Rattle.literal.proofs.Signs.{back}
 use Rattle.clauses_kinds.proofs.Lists.{filled-none, filled-more, filled-at}
 use borrow.Author.Needs.{needs}
@@ -25,10 +26,14 @@ loop-holds : tie.Need-loop-holds Inv-loop μ-loop
 loop-holds c = (omega arith, filled-none (diagonal (c .args .n)))
 
 div-truth : tie.Need-div-truth Inv-loop μ-loop
-div-truth c = omega (arith, some-root (c .before .before .args .n) (c .before .loop .k) (c .loop-test .taken))
+div-truth c =
+    let n = c .before .before .args .n in
+    omega (arith, some-columns n n (c .before .loop .k) (c .loop-test .taken))
 
 rem-truth : tie.Need-rem-truth Inv-loop μ-loop
-rem-truth c = omega (arith, some-root (c .before .before .args .n) (c .before .loop .k) (c .loop-test .taken))
+rem-truth c =
+    let n = c .before .before .args .n in
+    omega (arith, some-columns n n (c .before .loop .k) (c .loop-test .taken))
 
 truth-requires : tie.Need-truth-requires Inv-loop μ-loop
 truth-requires c κs = search needs

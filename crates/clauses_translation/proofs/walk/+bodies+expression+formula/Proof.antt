@@ -37,7 +37,7 @@ use Rattle.clauses_kinds.proofs.apply.connect.Reads as connect-reads
 use Rattle.clauses_kinds.proofs.apply.compare.Reads as compare-reads
 use Rattle.clauses_kinds.proofs.apply.unary.Reads as unary-reads
 use Rattle.clauses_kinds.proofs.apply.test.Reads as test-reads
-use Rattle.clauses_kinds.proofs.apply.negate.Reads as negate-reads
+use Rattle.clauses_emission.proofs.gates.negate.Reads as negate-reads
 use Rattle.clauses_kinds.proofs.apply.quantify.Reads as quantify-reads
 use Rattle.clauses_kinds.proofs.leaves.leaf.Reads as leaf-reads
 use Rattle.clauses_kinds.proofs.leaves.nothing.Reads as nothing-reads
