@@ -17,8 +17,8 @@ use Rattle.relational.specs.Trees.{Leaf, relation}
 use Rattle.relational.specs.Cells.{rowCount, rowLength, firstCell}
 use Rattle.relational.specs.Meaning.{Environment}
 use Rattle.relational.specs.Matrices.{from, upto, Place, places, Matrix, setOf, relationOf, leafMatrix}
-use Rattle.relational.proofs.Places.{map-map, length-map-from, from-at}
-use Rattle.cells.proofs.Layouts.{square, set-rows}
+use Rattle.relational.proofs.Places.{map-map, length-map-from, from-at, square}
+use Rattle.cells.proofs.Layouts.{set-rows}
 use Rattle.clauses_rules.specs.Translation.{constant, absent, literalAt}
 use Rattle.clauses_emission.specs.Emission.{Inside, AllInside, literalsOf}
 use Rattle.clauses_matrix.specs.declared.Literals.{Literals}

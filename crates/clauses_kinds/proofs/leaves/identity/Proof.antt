@@ -1,8 +1,7 @@
 -- `identity` meets its contract.
 use mathlib.Core.Path.{_∙_}
 use Rattle.clauses_kinds.specs.Leaves.{Filled}
-use Rattle.cells.proofs.Layouts.{square}
-use Rattle.clauses_matrix.proofs.Numbers.{some-columns}
+use Rattle.relational.proofs.Places.{square, some-column}
 use Rattle.clauses_kinds.proofs.LeafMatrices.{constant-word, identity-from, diagonal}
 use Rattle.literal.proofs.Signs.{back}
 use Rattle.clauses_kinds.proofs.Lists.{filled-none, filled-more, filled-at}
@@ -28,12 +27,12 @@ loop-holds c = (omega arith, filled-none (diagonal (c .args .n)))
 div-truth : tie.Need-div-truth Inv-loop μ-loop
 div-truth c =
     let n = c .before .before .args .n in
-    omega (arith, some-columns n n (c .before .loop .k) (c .loop-test .taken))
+    omega (arith, some-column n n (c .before .loop .k) (c .loop-test .taken))
 
 rem-truth : tie.Need-rem-truth Inv-loop μ-loop
 rem-truth c =
     let n = c .before .before .args .n in
-    omega (arith, some-columns n n (c .before .loop .k) (c .loop-test .taken))
+    omega (arith, some-column n n (c .before .loop .k) (c .loop-test .taken))
 
 truth-requires : tie.Need-truth-requires Inv-loop μ-loop
 truth-requires c κs = search needs

@@ -1,7 +1,8 @@
 -- `relation` meets its contract.
 use native.Mathlib.Omega.{arith}
 use Rattle.sheet_rules.proofs.Acceptance.{accepted-facts}
-use Rattle.cells.proofs.Layouts.{first-most, square}
+use Rattle.cells.proofs.Layouts.{first-most}
+use Rattle.relational.proofs.Places.{square}
 use Rattle.clauses_kinds.proofs.LeafMatrices.{relation-from}
 use Rattle.clauses_kinds.proofs.leaves.relation.Statement.{statement}
 use Rattle.clauses_kinds.proofs.leaves.relation.Tie as tie

@@ -10,7 +10,7 @@ use Rattle.sheet_rules.specs.Reading.{accepted}
 use Rattle.sheet.specs.declared.answer.Reading.{Reading}
 use Rattle.sheet.specs.declared.answer.Reading.the-variants.{Accepted, Refused}
 use Rattle.sheet.specs.Answers.{answerOf}
-use Rattle.sheet.proofs.Reading.{the-type}
+use Rattle.sheet.proofs.answer.Reading.{the-type}
 use Rattle.report.proofs.finder.put_found.Statement.{statement}
 use Rattle.report.proofs.finder.put_found.Tie as tie
 
