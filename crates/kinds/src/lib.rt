@@ -143,7 +143,7 @@ fn field_of(code: u8) -> Field
     }
 }
 
-fn rule_of(code: u8) -> Rule
+fn rule_by(code: u8) -> Rule
     ensures { λ r. ⌜ r ≡ ruleAt code ⌝ }
 {
     match code {
@@ -188,8 +188,19 @@ pub fn row_of(kind: usize) -> Row
     let codes = codes_of(kind);
     let a = field_of(codes.0);
     let b = field_of(codes.1);
-    let rule = rule_of(codes.2);
+    let rule = rule_by(codes.2);
     Row { a, b, rule }
+}
+
+// The rule alone.
+pub fn rule_of(kind: usize) -> Rule
+    ensures { λ r. ⌜ r ≡ rowOf kind .rule ⌝ }
+{
+    if 42 <= kind {
+        return Rule::Unknown;
+    }
+    let codes = codes_of(kind);
+    rule_by(codes.2)
 }
 
 // Whether a rule is one of a known kind.

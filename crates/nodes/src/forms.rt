@@ -6,7 +6,7 @@ ghost use Rattle.sheet_rules.specs.Reading.{accepted, reading};
 ghost use Rattle.nodes.specs.Nodes.{expressionForm, formulaForm, nodeAt};
 use cells::blocks::nodes_of;
 use kinds::Rule;
-use kinds::row_of;
+use kinds::rule_of;
 use sheet::bytes::field;
 use sheet_rules::Layout;
 
@@ -93,8 +93,7 @@ pub fn read_node(sheet: &[u8], layout: Layout, v: usize) -> Node
     let kind = field(nodes, 3, v, 0);
     let a = field(nodes, 3, v, 1);
     let b = field(nodes, 3, v, 2);
-    let row = row_of(kind);
-    let rule = row.rule;
+    let rule = rule_of(kind);
     let expression = expression_form(rule);
     let formula = formula_form(rule);
     Node {

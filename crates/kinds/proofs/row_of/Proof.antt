@@ -16,17 +16,17 @@ field-of-requires c κs = search needs
 field-of-requires-2 : tie.Need-field-of-requires-2
 field-of-requires-2 c κs = search needs
 
-rule-of-requires : tie.Need-rule-of-requires
-rule-of-requires c κs = search needs
+rule-by-requires : tie.Need-rule-by-requires
+rule-by-requires c κs = search needs
 
 returns-2 : tie.Need-returns-2
 returns-2 c =
     let codes = c .before .before .before .codes-of in
     row-from (c .before .before .before .before .before .args .kind) (codes .result) (c .before .before .field-of .result)
-    (c .before .field-of2 .result) (c .rule-of .result) (c .before .before .before .before .if1 .left) (codes .ensures)
-    (c .before .before .field-of .ensures) (c .before .field-of2 .ensures) (c .rule-of .ensures)
+    (c .before .field-of2 .result) (c .rule-by .result) (c .before .before .before .before .if1 .left) (codes .ensures)
+    (c .before .before .field-of .ensures) (c .before .field-of2 .ensures) (c .rule-by .ensures)
 
 pub row-of-spec : {M : Type 1} → statement M
 row-of-spec =
     tie.close
-    (tie.spec returns codes-of-requires field-of-requires field-of-requires-2 rule-of-requires returns-2)
+    (tie.spec returns codes-of-requires field-of-requires field-of-requires-2 rule-by-requires returns-2)

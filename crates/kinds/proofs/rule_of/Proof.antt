@@ -1,61 +1,26 @@
--- A number that no arm has is 0 or past the list.
-use Rattle.kinds.specs.declared.Rule.the-variants.{Unknown}
-use Rattle.kinds.specs.Codes.{knownRules}
-use Rattle.kinds.proofs.Table.{first-or-past}
+-- The rule of a row.
+use mathlib.Core.Path.{refl, ap}
+use Rattle.kinds.specs.Codes.{fieldAt}
+use Rattle.kinds.proofs.Table.{row-from, row-past}
 use borrow.Author.Needs.{needs}
 use Rattle.kinds.proofs.rule_of.Statement.{statement}
 use Rattle.kinds.proofs.rule_of.Tie as tie
 
 returns : tie.Need-returns
-returns c = search needs
+returns c = ap (λ row. row .rule) (row-past (c .before .args .kind) (c .if1 .taken))
+
+codes-of-requires : tie.Need-codes-of-requires
+codes-of-requires c κs = search needs
+
+rule-by-requires : tie.Need-rule-by-requires
+rule-by-requires c κs = search needs
 
 returns-2 : tie.Need-returns-2
-returns-2 c = search needs
-
-returns-3 : tie.Need-returns-3
-returns-3 c = search needs
-
-returns-4 : tie.Need-returns-4
-returns-4 c = search needs
-
-returns-5 : tie.Need-returns-5
-returns-5 c = search needs
-
-returns-6 : tie.Need-returns-6
-returns-6 c = search needs
-
-returns-7 : tie.Need-returns-7
-returns-7 c = search needs
-
-returns-8 : tie.Need-returns-8
-returns-8 c = search needs
-
-returns-9 : tie.Need-returns-9
-returns-9 c = search needs
-
-returns-10 : tie.Need-returns-10
-returns-10 c = search needs
-
-returns-11 : tie.Need-returns-11
-returns-11 c = search needs
-
-returns-12 : tie.Need-returns-12
-returns-12 c = search needs
-
-returns-13 : tie.Need-returns-13
-returns-13 c = search needs
-
-returns-14 : tie.Need-returns-14
-returns-14 c = search needs
-
-returns-15 : tie.Need-returns-15
-returns-15 c = search needs
-
-returns-16 : tie.Need-returns-16
-returns-16 c = first-or-past Unknown knownRules (c .before .args .code) (c .match .rest)
+returns-2 c =
+    let codes = c .before .codes-of in
+    ap (λ row. row .rule)
+    (row-from (c .before .before .before .args .kind) (codes .result) _ _ (c .rule-by .result) (c .before .before .if1 .left)
+    (codes .ensures) refl refl (c .rule-by .ensures))
 
 pub rule-of-spec : {M : Type 1} → statement M
-rule-of-spec =
-    tie.close
-    (tie.spec returns returns-2 returns-3 returns-4 returns-5 returns-6 returns-7 returns-8 returns-9 returns-10
-    returns-11 returns-12 returns-13 returns-14 returns-15 returns-16)
+rule-of-spec = tie.close (tie.spec returns codes-of-requires rule-by-requires returns-2)

@@ -18,8 +18,8 @@ field-requires-2 c κs = (search needs, (search needs, search needs))
 field-requires-3 : tie.Need-field-requires-3
 field-requires-3 c κs = (search needs, (search needs, search needs))
 
-row-of-requires : tie.Need-row-of-requires
-row-of-requires c κs = search needs
+rule-of-requires : tie.Need-rule-of-requires
+rule-of-requires c κs = search needs
 
 expression-form-requires : tie.Need-expression-form-requires
 expression-form-requires c κs = search needs
@@ -34,7 +34,7 @@ returns c =
       rw (
         c .formula-form .ensures,
         c .before .expression-form .ensures,
-        c .before .before .row-of .ensures,
+        c .before .before .rule-of .ensures,
         c .before .before .before .field3 .ensures .0,
         c .before .before .before .before .field2 .ensures .0,
         c .before .before .before .before .before .field .ensures .0,
@@ -47,5 +47,5 @@ returns c =
 pub read-node-spec : {M : Type 1} → statement M
 read-node-spec =
     tie.close
-    (tie.spec nodes-of-requires field-requires field-requires-2 field-requires-3 row-of-requires
+    (tie.spec nodes-of-requires field-requires field-requires-2 field-requires-3 rule-of-requires
     expression-form-requires formula-form-requires returns)
