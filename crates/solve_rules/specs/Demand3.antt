@@ -8,7 +8,7 @@
 --   `outcome`                          `search::search`: its answer, and the lent values and trail afterwards, equal its fields
 --   `readBackAnswer`, `instanceAfter`  `solve::read_back`: its answer, and the lent instance afterwards, equal them
 -- `Solution` (an instance within the scopes that satisfies marks and formula), `Satisfying` and `EndedWithin` are no code's answer:
--- they are the paper's words, in encoding/specs/Matching, clause_list/specs/ClauseList and search_rules/specs/Run.
+-- they are the paper's words, in clauses_rules/specs/Matching, clause_list/specs/ClauseList and search_rules/specs/Run.
 use mathlib.Core.Path.{_≡_}
 use mathlib.Core.Logic.{_↔_}
 use mathlib.Core.List.{List, [], _++_}
