@@ -107,10 +107,7 @@ pub fn formula(
             let p = expression(list, tape, sheet, layout, given, starts, env, a);
             test(list, kind, p)
         }
-        FormulaForm::Negation => {
-            let p = formula(list, tape, sheet, layout, given, starts, env, a);
-            negate(p)
-        }
+        FormulaForm::Negation => negate(formula(list, tape, sheet, layout, given, starts, env, a)),
         FormulaForm::Connective => {
             let p = formula(list, tape, sheet, layout, given, starts, env, a);
             let after = p.tape;

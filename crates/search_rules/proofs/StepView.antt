@@ -27,7 +27,8 @@ pub record Lowest (values : List ℕ) (i : ℕ) : Type 0 where
 abbrev Low : ℕ → List ℕ → Type 0
 Low k values = ((lowestOpen k values ≡ none) × Full values) ⊎ ((i : ℕ) × Lowest values i × (lowestOpen k values ≡ some (k + i)))
 
-low-next : (b k : ℕ) (values : List ℕ) → (b ≡ 2 → ⊥) → lowestOpen k (b ∷ values) ≡ lowestOpen (suc k) values → Low (suc k) values → Low k (b ∷ values)
+low-next : (b k : ℕ) (values : List ℕ) → (b ≡ 2 → ⊥) → lowestOpen k (b ∷ values) ≡ lowestOpen (suc k) values
+    → Low (suc k) values → Low k (b ∷ values)
 low-next b k values h e (inl (d, f)) = inl (e ∙ d, full)
   where
     full : (i : ℕ) → i < length (b ∷ values) → getD (b ∷ values) i 2 ≡ 2 → ⊥
