@@ -1,8 +1,8 @@
--- The paper's number of each refusal (document 01, "Answers that decline").
+-- The papers' number of each refusal (document 01, "Answers that decline"; document 02).
 use Prim.Native.Nat.{ℕ}
 use Rattle.refusal.specs.declared.Refusal.{Refusal}
 use Rattle.refusal.specs.declared.Refusal.the-variants.{Version, Length, Count, Scope, Declaration, Node, Shape, Root, Walk}
-use Rattle.refusal.specs.declared.Refusal.the-variants.{Size, Cells, List, Short}
+use Rattle.refusal.specs.declared.Refusal.the-variants.{Size, Cells, List, Short, State}
 
 abbrev pub numberOf : Refusal → ℕ
 numberOf Version = 1
@@ -18,3 +18,4 @@ numberOf Size = 10
 numberOf Cells = 11
 numberOf List = 12
 numberOf Short = 13
+numberOf State = 14

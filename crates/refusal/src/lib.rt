@@ -1,4 +1,4 @@
-// The answers that decline (document 01, "Answers that decline"): one case for each row of its table.
+// The answers that decline (document 01, "Answers that decline", and document 02): one case for each number.
 ghost use mathlib.Core.Path.{_≡_};
 ghost use Rattle.refusal.specs.Refusals.{numberOf};
 
@@ -16,6 +16,7 @@ pub enum Refusal {
     Cells,
     List,
     Short,
+    State,
 }
 
 // The paper's number of a refusal.
@@ -36,5 +37,6 @@ pub fn number(r: Refusal) -> u32
         Refusal::Cells => 11,
         Refusal::List => 12,
         Refusal::Short => 13,
+        Refusal::State => 14,
     }
 }

@@ -1,2 +1,5 @@
 -- What a call of the search answers and leaves.
 pub mod Answers
+pub mod Resumed
+pub mod Resuming
+pub mod Inner

@@ -16,11 +16,11 @@ use Rattle.prelude.specs.Tests.{any}
 use Rattle.prelude.proofs.Laws.{clash, or-left, or-right, or-rest}
 use Rattle.search_core.specs.declared.steps.StepKind.{StepKind}
 use Rattle.search_core.specs.declared.steps.Moved.the-variants.{NoneLeft, AllSet, To}
-use Rattle.search_core.specs.declared.run.Position.{Position}
+use Rattle.search_core.specs.declared.run.Progress.{Progress}
 use Rattle.search_core.specs.declared.run.End.the-variants.{None, Found, Spent}
-use Rattle.search_rules.specs.Inner.{WasOpen}
+use Rattle.search_rules.specs.Held.{WasOpen, Stored}
 use Rattle.search_scan.specs.Seen.{conflicting, unit, neither, seen}
-use Rattle.search_core.specs.Inner.{Stored, Turned, kindAs, kindOf, Stepped, tallyOf, Advanced, endAfter, Ended}
+use Rattle.search_core.specs.Inner.{Turned, kindAs, kindOf, Stepped, tallyOf, Advanced, endAfter, Ended}
 use Rattle.search_rules.specs.Rules.{lowestOpen, propagated, decided, State, wordOf, byteOf, placeOf, valuesOf, Kind, propagation}
 use Rattle.search_rules.specs.Rules.{decision, backtrack, Next, endNone, endFound, step, turn, decide, next}
 use Rattle.search_rules.specs.Run.{Tally, total, count, wasNone, wasFound, wasSpent, run}
@@ -159,12 +159,12 @@ module _ (clauses : List (List ℤ)) (v : ℕ) where
   kind-back backtrack = refl
 
   -- how far the loop has come: what is left of the run is the run
-  pub record Far (budget : ℕ) (t : Tally) (state : State) (values : List ℕ) (trail : List ℤ) (p : Position) (left : ℕ) : Type 0 where
+  pub record Far (budget : ℕ) (t : Tally) (state : State) (values : List ℕ) (trail : List ℤ) (p : Progress) (left : ℕ) : Type 0 where
     pub at : State
     pub stored : Stored v at values trail (p .used)
     pub alike : run clauses v left (tallyOf p) at ≡ run clauses v budget t state
 
-  module _ (budget : ℕ) (t : Tally) (state : State) (values : List ℕ) (trail : List ℤ) (p : Position) (left : ℕ)
+  module _ (budget : ℕ) (t : Tally) (state : State) (values : List ℕ) (trail : List ℤ) (p : Progress) (left : ℕ)
       (f : Far budget t state values trail p left) where
     by-none : next clauses v (f .at) ≡ endNone → run clauses v budget t state ≡ wasNone (tallyOf p)
     by-none e = sym (f .alike) ∙ run-none left (tallyOf p) (f .at) e
@@ -173,19 +173,19 @@ module _ (clauses : List (List ℤ)) (v : ℕ) where
     by-found e = sym (f .alike) ∙ run-found left (tallyOf p) (f .at) e
 
     module _ (values' : List ℕ) (trail' : List ℤ) where
-      pub far-none : (x : Next) (q : Position) → next clauses v (f .at) ≡ x → q .used ≡ 0 → tallyOf q ≡ tallyOf p
-          → Stepped v (f .at) x NoneLeft values' trail' → Ended v (run clauses v budget t state) (record { end = None; position = q }) values' trail'
+      pub far-none : (x : Next) (q : Progress) → next clauses v (f .at) ≡ x → q .used ≡ 0 → tallyOf q ≡ tallyOf p
+          → Stepped v (f .at) x NoneLeft values' trail' → Ended v (run clauses v budget t state) (record { end = None; progress = q }) values' trail'
       far-none endNone q e l c s = rw (by-none e) (record { end-is = refl; tally-is = c; stored = rw l (s .1) })
       far-none endFound q e l c s = absurd (let d : NoneLeft ≡ AllSet = s .0 in let z : _≡_ {A = ℕ} 0 1 = cc in omega arith)
       far-none (step kind r) q e l c s = absurd (let d : NoneLeft ≡ To (kindAs kind) (length r) = s .0 in let z : _≡_ {A = ℕ} 0 1 = cc in omega arith)
 
       pub far-found : (x : Next) → next clauses v (f .at) ≡ x → Stepped v (f .at) x AllSet values' trail'
-          → Ended v (run clauses v budget t state) (record { end = Found; position = p }) values' trail'
+          → Ended v (run clauses v budget t state) (record { end = Found; progress = p }) values' trail'
       far-found endNone e s = absurd (let d : AllSet ≡ NoneLeft = s .0 in let z : _≡_ {A = ℕ} 0 1 = cc in omega arith)
       far-found endFound e s = rw (by-found e) (record { end-is = refl; tally-is = refl; stored = rw (f .stored .used-is) (s .1) })
       far-found (step kind r) e s = absurd (let d : AllSet ≡ To (kindAs kind) (length r) = s .0 in let z : _≡_ {A = ℕ} 0 1 = cc in omega arith)
 
-      pub far-on : (k : StepKind) (m : ℕ) (q : Position) → 0 < left → Advanced p k m q → (x : Next) → next clauses v (f .at) ≡ x
+      pub far-on : (k : StepKind) (m : ℕ) (q : Progress) → 0 < left → Advanced p k m q → (x : Next) → next clauses v (f .at) ≡ x
           → Stepped v (f .at) x (To k m) values' trail' → Far budget t state values' trail' q (left - 1)
       far-on k m q h a endNone e s = absurd (let d : To k m ≡ NoneLeft = s .0 in let z : _≡_ {A = ℕ} 0 1 = cc in omega arith)
       far-on k m q h a endFound e s = absurd (let d : To k m ≡ AllSet = s .0 in let z : _≡_ {A = ℕ} 0 1 = cc in omega arith)
@@ -204,8 +204,8 @@ module _ (clauses : List (List ℤ)) (v : ℕ) where
           }
 
       -- no step is left
-      pub far-emptied : (x : Next) (n : ℕ) (q : Position) → next clauses v (f .at) ≡ x → None ≡ endAfter x → q .used ≡ 0 → tallyOf q ≡ tallyOf p
-          → Turned v (turn (f .at)) n values' trail' → Ended v (run clauses v budget t state) (record { end = None; position = q }) values' trail'
+      pub far-emptied : (x : Next) (n : ℕ) (q : Progress) → next clauses v (f .at) ≡ x → None ≡ endAfter x → q .used ≡ 0 → tallyOf q ≡ tallyOf p
+          → Turned v (turn (f .at)) n values' trail' → Ended v (run clauses v budget t state) (record { end = None; progress = q }) values' trail'
       far-emptied endNone n q e d l c s =
           rw (by-none e) (record { end-is = refl; tally-is = c; stored = rw l (fresh (rw (next-none (f .at) _ (view clauses v (f .at)) e) at s)) })
         where
@@ -215,13 +215,13 @@ module _ (clauses : List (List ℤ)) (v : ℕ) where
       far-emptied (step kind r) n q e d l c s = absurd (let z : _≡_ {A = ℕ} 0 1 = cc in omega arith)
 
     pub far-full : (x : Next) → next clauses v (f .at) ≡ x → Found ≡ endAfter x
-        → Ended v (run clauses v budget t state) (record { end = Found; position = p }) values trail
+        → Ended v (run clauses v budget t state) (record { end = Found; progress = p }) values trail
     far-full endNone e d = absurd (let z : _≡_ {A = ℕ} 0 1 = cc in omega arith)
     far-full endFound e d = rw (by-found e) (record { end-is = refl; tally-is = refl; stored = f .stored })
     far-full (step kind r) e d = absurd (let z : _≡_ {A = ℕ} 0 1 = cc in omega arith)
 
     pub far-spent : (x : Next) → left ≤ 0 → next clauses v (f .at) ≡ x → Spent ≡ endAfter x
-        → Ended v (run clauses v budget t state) (record { end = Spent; position = p }) values trail
+        → Ended v (run clauses v budget t state) (record { end = Spent; progress = p }) values trail
     far-spent endNone h e d = absurd (let z : _≡_ {A = ℕ} 0 1 = cc in omega arith)
     far-spent endFound h e d = absurd (let z : _≡_ {A = ℕ} 0 1 = cc in omega arith)
     far-spent (step kind r) h e d =
@@ -230,8 +230,8 @@ module _ (clauses : List (List ℤ)) (v : ℕ) where
         (record { end-is = refl; tally-is = refl; stored = f .stored })
 
 -- the loop of `run`: the steps done and left, the slices' lengths, and how far it has come from every state that they held at first
-pub record Loop (clauses : List (List ℤ)) (budget : ℕ) (values₀ : List ℕ) (trail₀ : List ℤ) (p₀ : Position)
-    (values : List ℕ) (trail : List ℤ) (p : Position) (left : ℕ) : Type 0 where
+pub record Loop (clauses : List (List ℤ)) (budget : ℕ) (values₀ : List ℕ) (trail₀ : List ℤ) (p₀ : Progress)
+    (values : List ℕ) (trail : List ℤ) (p : Progress) (left : ℕ) : Type 0 where
   pub figure : total (tallyOf p) + left ≡ total (tallyOf p₀) + budget
   pub wide : length values ≡ length values₀
   pub deep : length trail ≡ length trail₀
@@ -239,6 +239,6 @@ pub record Loop (clauses : List (List ℤ)) (budget : ℕ) (values₀ : List ℕ
       → Far clauses (length values₀) budget (tallyOf p₀) state values trail p left
 
 -- a step more is done, and one less is left
-pub figure-on : (p q : Position) (kind : StepKind) (m left s : ℕ) → Advanced p kind m q → 0 < left → total (tallyOf p) + left ≡ s
+pub figure-on : (p q : Progress) (kind : StepKind) (m left s : ℕ) → Advanced p kind m q → 0 < left → total (tallyOf p) + left ≡ s
     → total (tallyOf q) + (left - 1) ≡ s
 figure-on p q kind m left s a h e = omega (arith, ap total (a .tally-is), total-count (kindOf kind) (tallyOf p))

@@ -9,8 +9,8 @@ use lib.ListN.{length, getD, take, set, replicate, length-set, length-replicate,
 use lib.Seq.{getD-set-same, getD-set-other, set-set, set-getD, take-suc-set, take-all}
 use Rattle.literal.specs.Literals.{lastVariable, oppositeWord, positiveWord}
 use Rattle.literal.proofs.Words.{opposite-is, positive-is}
-use Rattle.search_rules.specs.Inner.{InRange, WasOpen}
-use Rattle.search_core.specs.Inner.{Stored, Turned}
+use Rattle.search_rules.specs.Held.{InRange, WasOpen, Stored}
+use Rattle.search_core.specs.Inner.{Turned}
 use Rattle.search_rules.specs.Rules.{Entry, propagated, decided, State, wordOf, byteOf, placeOf, valuesOf, trailOf}
 use Rattle.search_rules.specs.Rules.{step, backtrack, turn}
 use Rattle.search_rules.proofs.Found.{place-below}

@@ -14,9 +14,9 @@ use mir.Val.{SFits}
 use Rattle.literal.specs.Literals.{lastVariable}
 use Rattle.search_core.specs.declared.steps.StepKind.the-variants.{Propagation, Decision, Backtrack}
 use Rattle.search_core.specs.declared.steps.Moved.the-variants.{NoneLeft, AllSet, To}
-use Rattle.search_rules.specs.Inner.{InRange}
+use Rattle.search_rules.specs.Held.{InRange, Stored}
 use Rattle.search_scan.specs.Seen.{Sight, conflicting, unit, neither, seen}
-use Rattle.search_core.specs.Inner.{Stored, Turned, Stepped}
+use Rattle.search_core.specs.Inner.{Turned, Stepped}
 use Rattle.search_rules.specs.Rules.{conflict, firstUnit, lowestOpen, propagated, decided, State, wordOf, byteOf, placeOf, valuesOf}
 use Rattle.search_rules.specs.Rules.{trailOf, Kind, propagation, backtrack, Next, endNone, endFound, step, turn, decide, next}
 use Rattle.search_rules.proofs.Found.{place-below}

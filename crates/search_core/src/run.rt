@@ -9,8 +9,9 @@ ghost use Rattle.clause_list.specs.ClauseList.{clausesOf};
 ghost use Rattle.literal.specs.Literals.{lastVariable};
 ghost use Rattle.search_rules.specs.Rules.{State, valuesOf, next};
 ghost use Rattle.search_rules.specs.Run.{total, run};
-ghost use Rattle.search_rules.specs.Inner.{Fine, WasOpen};
-ghost use Rattle.search_core.specs.Inner.{Stored, SomeStored, tallyOf, Advanced, endAfter, Ended};
+ghost use Rattle.search_rules.specs.Held.{WasOpen, Stored};
+ghost use Rattle.search_rules.specs.Inner.{Fine};
+ghost use Rattle.search_core.specs.Inner.{SomeStored, tallyOf, Advanced, endAfter, Ended};
 use crate::steps::Moved;
 use crate::steps::StepKind;
 use crate::steps::back;
@@ -20,7 +21,7 @@ use search_scan::Seen;
 use search_scan::scan;
 
 // Where a run stands: how much of the trail is in use, and the steps done by kind.
-pub struct Position {
+pub struct Progress {
     pub used: usize,
     pub propagations: u64,
     pub decisions: u64,
@@ -35,28 +36,28 @@ pub enum End {
 
 pub struct Ran {
     pub end: End,
-    pub position: Position,
+    pub progress: Progress,
 }
 
-// The position after one step more.
-fn advance(p: Position, kind: StepKind, used: usize) -> Position
+// The progress after one step more.
+fn advance(p: Progress, kind: StepKind, used: usize) -> Progress
     requires { ⌜ total (tallyOf p) + 1 < 2 ^ 64 ⌝ }
     ensures { λ r. ⌜ Advanced p kind used r ⌝ }
 {
     match kind {
-        StepKind::Propagation => Position {
+        StepKind::Propagation => Progress {
             used,
             propagations: p.propagations + 1,
             decisions: p.decisions,
             backtracks: p.backtracks,
         },
-        StepKind::Decision => Position {
+        StepKind::Decision => Progress {
             used,
             propagations: p.propagations,
             decisions: p.decisions + 1,
             backtracks: p.backtracks,
         },
-        StepKind::Backtrack => Position {
+        StepKind::Backtrack => Progress {
             used,
             propagations: p.propagations,
             decisions: p.decisions,
@@ -107,8 +108,8 @@ fn ends(list: &[i32], values: &[u8]) -> End
     }
 }
 
-// The run from the state that the slices and the position hold.
-pub fn run(list: &[i32], values: &mut [u8], trail: &mut [i32], start: Position, budget: u64) -> Ran
+// The run from the state that the slices and the progress hold.
+pub fn run(list: &[i32], values: &mut [u8], trail: &mut [i32], start: Progress, budget: u64) -> Ran
     requires { ⌜ Fine (length (now values)) (now list) ⌝ }
     requires { ⌜ length (now values) ≤ lastVariable ⌝ }
     requires { ⌜ SomeStored (length (now values)) (now values) (now trail) (start .used) ⌝ }
@@ -118,23 +119,23 @@ pub fn run(list: &[i32], values: &mut [u8], trail: &mut [i32], start: Position, 
         (run (clausesOf (now (list .entry))) (length (now (values .entry))) budget (tallyOf start) state)
         r (now (values .exit)) (now (trail .exit))) ⌝ }
 {
-    let mut position = start;
+    let mut progress = start;
     let mut left = budget;
     while left > 0 {
-        let used = position.used;
+        let used = progress.used;
         let moved = step(list, values, trail, used);
         match moved {
             Moved::NoneLeft => {
                 let end = End::None;
-                let position = emptied(position);
-                return Ran { end, position };
+                let progress = emptied(progress);
+                return Ran { end, progress };
             }
             Moved::AllSet => {
                 let end = End::Found;
-                return Ran { end, position };
+                return Ran { end, progress };
             }
             Moved::To(kind, n) => {
-                position = advance(position, kind, n);
+                progress = advance(progress, kind, n);
             }
         }
         left -= 1;
@@ -142,21 +143,21 @@ pub fn run(list: &[i32], values: &mut [u8], trail: &mut [i32], start: Position, 
     let end = ends(list, values);
     match end {
         End::None => {
-            let used = position.used;
+            let used = progress.used;
             back(values, trail, used);
-            let position = emptied(position);
-            Ran { end, position }
+            let progress = emptied(progress);
+            Ran { end, progress }
         }
-        End::Found => Ran { end, position },
-        End::Spent => Ran { end, position },
+        End::Found => Ran { end, progress },
+        End::Spent => Ran { end, progress },
     }
 }
 
-// The position of a fresh state, with the steps done.
-fn emptied(p: Position) -> Position
+// The progress of a fresh state, with the steps done.
+fn emptied(p: Progress) -> Progress
     ensures { λ r. ⌜ (r .used ≡ 0) × (tallyOf r ≡ tallyOf p) ⌝ }
 {
-    Position {
+    Progress {
         used: 0,
         propagations: p.propagations,
         decisions: p.decisions,

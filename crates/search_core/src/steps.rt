@@ -7,8 +7,9 @@ ghost use lib.IntN.{negsuc};
 ghost use Rattle.clause_list.specs.ClauseList.{clausesOf};
 ghost use Rattle.literal.specs.Literals.{lastVariable};
 ghost use Rattle.search_rules.specs.Rules.{State, lowestOpen, propagated, byteOf, placeOf, turn, next};
-ghost use Rattle.search_rules.specs.Inner.{InRange, Fine};
-ghost use Rattle.search_core.specs.Inner.{Stored, SomeStored, Turned, Stepped};
+ghost use Rattle.search_rules.specs.Held.{InRange, Stored};
+ghost use Rattle.search_rules.specs.Inner.{Fine};
+ghost use Rattle.search_core.specs.Inner.{SomeStored, Turned, Stepped};
 use search_scan::Seen;
 use search_scan::scan;
 

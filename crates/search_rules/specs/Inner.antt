@@ -1,15 +1,11 @@
--- The lists and the states that the code of the search runs on.
+-- The lists that the code of the search runs on.
 -- No public contract reaches this file: nothing here needs belief.
 use mathlib.Core.Path.{_≡_}
 use mathlib.Core.List.{List, [], _∷_}
 use Prim.Native.Nat.{ℕ, zero, suc, _≤_}
 use lib.IntN.{ℤ, pos, natAbs}
-use lib.ListN.{length, take, drop, getD}
-use Rattle.search_rules.specs.Rules.{State, wordOf, placeOf, valuesOf}
-
--- a literal of the variables 1 to v
-abbrev pub InRange : ℕ → ℤ → Type 0
-InRange v l = (1 ≤ natAbs l) × (natAbs l ≤ v)
+use lib.ListN.{length, take, drop}
+use Rattle.search_rules.specs.Held.{InRange}
 
 unfoldable pub AllIn : ℕ → List ℤ → Type 0
 AllIn v [] = Unit {0}
@@ -24,8 +20,3 @@ FineIn v (suc rounds) (w ∷ ws) =
 
 unfoldable pub Fine : ℕ → List ℤ → Type 0
 Fine v ws = FineIn v (length ws) ws
-
--- each literal is one of the v variables', and its variable was open when it was set
-unfoldable pub WasOpen : ℕ → State → Type 0
-WasOpen v [] = Unit {0}
-WasOpen v (e ∷ state) = InRange v (wordOf e) × (getD (valuesOf v state) (placeOf (wordOf e)) 2 ≡ 2) × WasOpen v state

@@ -1,4 +1,5 @@
 -- The rules of the search and their run.
 pub mod Rules
 pub mod Run
+pub mod Held
 pub mod Inner

@@ -16,7 +16,8 @@ use mir.Facts.{toZ-ofZ}
 use Rattle.literal.specs.Literals.{countOf}
 use Rattle.literal.proofs.Signs.{same-word}
 use Rattle.clause_list.specs.ClauseList.{cut, clausesOf}
-use Rattle.search_rules.specs.Inner.{InRange, AllIn, FineIn, Fine}
+use Rattle.search_rules.specs.Held.{InRange}
+use Rattle.search_rules.specs.Inner.{AllIn, FineIn, Fine}
 use Rattle.search_scan.specs.Seen.{truthCode, Sight, conflicting, unit, neither, seen}
 use Rattle.search_rules.specs.Rules.{Truth, falsified, satisfied, unassigned, literal, sameLiteral}
 use Rattle.search_rules.proofs.Booleans.{bool-false}

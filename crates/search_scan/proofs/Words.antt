@@ -10,7 +10,7 @@ use lib.ListN.{length, getD}
 use borrow.Author.Tests.{ltb-false}
 use Rattle.prelude.proofs.Laws.{clash}
 use Rattle.literal.specs.Literals.{isPositive}
-use Rattle.search_rules.specs.Inner.{InRange}
+use Rattle.search_rules.specs.Held.{InRange}
 use Rattle.search_scan.specs.Seen.{truthCode}
 use Rattle.search_rules.specs.Rules.{falsified, truthOf, negated, literal, propagated, byteOf, placeOf}
 use Rattle.search_rules.proofs.Found.{place-below}

@@ -5,7 +5,8 @@ ghost use lib.ListN.{length};
 ghost use Rattle.clause_list.specs.ClauseList.{clausesOf};
 ghost use Rattle.literal.specs.Literals.{lastVariable};
 ghost use Rattle.search_rules.specs.Rules.{literal};
-ghost use Rattle.search_rules.specs.Inner.{InRange, Fine};
+ghost use Rattle.search_rules.specs.Held.{InRange};
+ghost use Rattle.search_rules.specs.Inner.{Fine};
 ghost use Rattle.search_scan.specs.Seen.{truthCode, seenAs, seen};
 
 // What a look over the clauses shows.

@@ -11,7 +11,8 @@ use mir.Facts.{toZ-ofZ}
 use borrow.Author.Needs.{needs, sfits-of, scaled-fits}
 use Rattle.literal.specs.Literals.{oppositeWord}
 use Rattle.search_scan.proofs.Words.{place-of}
-use Rattle.search_core.specs.Inner.{Stored, SomeStored}
+use Rattle.search_rules.specs.Held.{Stored}
+use Rattle.search_core.specs.Inner.{SomeStored}
 use Rattle.search_rules.specs.Rules.{State, wordOf, byteOf, placeOf}
 use Rattle.search_core.proofs.Slices.{Went, Top, top-of, off-top, turn-top, turn-on, turned-word, went-none, size-values, size-trail}
 use Rattle.search_core.proofs.steps.back.Statement.{statement}

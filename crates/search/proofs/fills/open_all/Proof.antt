@@ -1,11 +1,11 @@
--- `search::open_all` meets its contract. Assumes nothing.
+-- `search::fills::open_all` meets its contract. Assumes nothing.
 use mathlib.Core.Path.{_≡_, refl}
 use Prim.Native.Nat.{_-_, _≤_}
 use native.Mathlib.Omega.{arith}
 use lib.ListN.{length, take, replicate, length-set}
 use Rattle.search_core.proofs.Slices.{filled-more, filled-all}
-use Rattle.search.proofs.open_all.Statement.{statement}
-use Rattle.search.proofs.open_all.Tie as tie
+use Rattle.search.proofs.fills.open_all.Statement.{statement}
+use Rattle.search.proofs.fills.open_all.Tie as tie
 
 abbrev Inv-loop : tie.InvT-loop
 Inv-loop values₀ i₀ values i = (i ≤ length values₀) × (length values ≡ length values₀) × (take i values ≡ replicate i 2)

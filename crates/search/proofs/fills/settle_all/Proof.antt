@@ -1,12 +1,12 @@
--- `search::settle_all` meets its contract. Assumes nothing.
+-- `search::fills::settle_all` meets its contract. Assumes nothing.
 use mathlib.Core.Path.{_≡_, refl, _∙_, ap}
 use mathlib.Core.Logic.{⊎-elim}
 use Prim.Native.Nat.{_-_, _≤_}
 use native.Mathlib.Omega.{arith}
 use lib.ListN.{length}
 use Rattle.search.proofs.Settled.{settleFirst, length-first, more-three, more-other, settled-all}
-use Rattle.search.proofs.settle_all.Statement.{statement}
-use Rattle.search.proofs.settle_all.Tie as tie
+use Rattle.search.proofs.fills.settle_all.Statement.{statement}
+use Rattle.search.proofs.fills.settle_all.Tie as tie
 
 abbrev Inv-loop : tie.InvT-loop
 Inv-loop values₀ i₀ values i = (i ≤ length values₀) × (values ≡ settleFirst i values₀)

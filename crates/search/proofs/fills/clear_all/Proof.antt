@@ -1,4 +1,4 @@
--- `search::clear_all` meets its contract. Assumes nothing.
+-- `search::fills::clear_all` meets its contract. Assumes nothing.
 use mathlib.Core.Path.{_≡_, refl}
 use Prim.Native.Nat.{_-_, _≤_}
 use native.Mathlib.Omega.{arith}
@@ -6,8 +6,8 @@ use lib.IntN.{pos}
 use lib.ListN.{length, take, replicate, length-set}
 use borrow.Author.Needs.{scaled-fits}
 use Rattle.search_core.proofs.Slices.{filled-more, filled-all}
-use Rattle.search.proofs.clear_all.Statement.{statement}
-use Rattle.search.proofs.clear_all.Tie as tie
+use Rattle.search.proofs.fills.clear_all.Statement.{statement}
+use Rattle.search.proofs.fills.clear_all.Tie as tie
 
 abbrev Inv-loop : tie.InvT-loop
 Inv-loop trail₀ i₀ trail i = (i ≤ length trail₀) × (length trail ≡ length trail₀) × (take i trail ≡ replicate i (pos 0))

@@ -1,4 +1,4 @@
--- `search::fresh` meets its contract. Assumes nothing.
+-- `search::runs::fresh` meets its contract. Assumes nothing.
 use mathlib.Core.Path.{_≡_, _∙_, ap}
 use mathlib.Core.List.{[]}
 use Prim.Native.Nat.{ℕ, _<_, _^_}
@@ -8,12 +8,13 @@ use lib.ListN.{length, replicate, length-replicate}
 use borrow.Author.Needs.{needs}
 use Rattle.clause_list.specs.ClauseList.{clausesOf}
 use Rattle.search_rules.specs.Run.{total, zeros}
-use Rattle.search_core.specs.Inner.{Stored, tallyOf, Ended}
+use Rattle.search_rules.specs.Held.{Stored}
+use Rattle.search_core.specs.Inner.{tallyOf, Ended}
 use Rattle.search_core.proofs.Slices as slices
 use Rattle.search.specs.Answers.{searchRun}
 use Rattle.search.proofs.Outcomes.{figure-within, finish-none, finish-found, finish-spent}
-use Rattle.search.proofs.fresh.Statement.{statement}
-use Rattle.search.proofs.fresh.Tie as tie
+use Rattle.search.proofs.runs.fresh.Statement.{statement}
+use Rattle.search.proofs.runs.fresh.Tie as tie
 
 open-all-requires : tie.Need-open-all-requires
 open-all-requires c κs = search needs

@@ -1,0 +1,17 @@
+-- What a run leaves, as the code has it.
+-- No public contract reaches this file: nothing here needs belief.
+use mathlib.Core.Path.{_≡_}
+use mathlib.Core.List.{List}
+use Prim.Native.Nat.{ℕ}
+use lib.IntN.{ℤ}
+use Rattle.search_rules.specs.Run.{End}
+use Rattle.search.specs.declared.answer.Resumed.{Resumed}
+use Rattle.search.specs.Answers.{answerOf, answerAt, valuesAt, trailAt}
+use Rattle.search.specs.Resumed.{after, positionAt}
+
+-- what `go_on` answers and leaves: the end of a run over v variables, after so many steps
+pub record Finished (v done : ℕ) (end : End) (r : Resumed) (values : List ℕ) (trail : List ℤ) : Type 0 where
+  pub answer-is : answerOf (r .answer) ≡ after done (answerAt end)
+  pub values-are : values ≡ valuesAt v end
+  pub trail-is : trail ≡ trailAt v end
+  pub position-is : r .position ≡ positionAt done end

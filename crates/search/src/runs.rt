@@ -1,0 +1,90 @@
+// The run of the rules over slices of one byte and one word for each variable: from the state that they hold, and from a fresh start.
+ghost use mathlib.Core.Path.{_≡_};
+ghost use Prim.Native.Nat.{_+_, _≤_};
+ghost use lib.ListN.{length};
+ghost use Rattle.literal.specs.Literals.{lastVariable};
+ghost use Rattle.search_rules.specs.Rules.{State};
+ghost use Rattle.search_rules.specs.Held.{Stored};
+ghost use Rattle.search_rules.specs.Inner.{Fine};
+ghost use Rattle.search_core.specs.Inner.{SomeStored};
+ghost use Rattle.search.specs.Answers.{answerOf, answerAt, valuesAt, trailAt, searchRun};
+ghost use Rattle.search.specs.Resumed.{resumedRun};
+ghost use Rattle.search.specs.Inner.{Finished};
+use super::answer::Position;
+use super::answer::Resumed;
+use super::answer::Search;
+use super::fills::clear_all;
+use super::fills::open_all;
+use super::fills::settle_all;
+use search_core::run::End;
+use search_core::run::Progress;
+use search_core::run::run;
+
+// The run from the state that the slices hold.
+pub(crate) fn go_on(
+    list: &[i32],
+    values: &mut [u8],
+    trail: &mut [i32],
+    position: Position,
+    budget: u64,
+) -> Resumed
+    requires { ⌜ Fine (length (now values)) (now list) ⌝ }
+    requires { ⌜ length (now values) ≤ lastVariable ⌝ }
+    requires { ⌜ SomeStored (length (now values)) (now values) (now trail) (position .length) ⌝ }
+    requires { ⌜ position .steps + budget ≤ 18446744073709551615 ⌝ }
+    ensures { λ r. ⌜ ((state : State) → Stored (length (now (values .entry))) state (now (values .entry)) (now (trail .entry)) (position .length)
+        → Finished (length (now (values .entry))) (position .steps)
+        (resumedRun (now (list .entry)) (length (now (values .entry))) state budget)
+        r (now (values .exit)) (now (trail .exit))) ⌝ }
+{
+    let start = Progress {
+        used: position.length,
+        propagations: 0,
+        decisions: 0,
+        backtracks: 0,
+    };
+    let ran = run(list, values, trail, start, budget);
+    let p = ran.progress;
+    let steps = position.steps + (p.propagations + p.decisions + p.backtracks);
+    let position = Position {
+        length: p.used,
+        steps,
+    };
+    let end = ran.end;
+    match end {
+        End::None => {
+            let answer = Search::None(steps);
+            Resumed { answer, position }
+        }
+        End::Found => {
+            settle_all(values);
+            let answer = Search::Found(steps);
+            Resumed { answer, position }
+        }
+        End::Spent => {
+            let answer = Search::Spent(steps);
+            Resumed { answer, position }
+        }
+    }
+}
+
+// The run from a fresh start.
+pub(crate) fn fresh(list: &[i32], values: &mut [u8], trail: &mut [i32], budget: u64) -> Search
+    requires { ⌜ Fine (length (now values)) (now list) ⌝ }
+    requires { ⌜ length (now values) ≤ lastVariable ⌝ }
+    requires { ⌜ length (now trail) ≡ length (now values) ⌝ }
+    ensures { λ r. ⌜ answerOf r ≡ answerAt (searchRun (now (list .entry)) (length (now (values .entry))) budget) ⌝ }
+    ensures { λ r. ⌜ now (values .exit)
+        ≡ valuesAt (length (now (values .entry))) (searchRun (now (list .entry)) (length (now (values .entry))) budget) ⌝ }
+    ensures { λ r. ⌜ now (trail .exit)
+        ≡ trailAt (length (now (values .entry))) (searchRun (now (list .entry)) (length (now (values .entry))) budget) ⌝ }
+{
+    open_all(values);
+    clear_all(trail);
+    let start = Position {
+        length: 0,
+        steps: 0,
+    };
+    let ended = go_on(list, values, trail, start, budget);
+    ended.answer
+}
