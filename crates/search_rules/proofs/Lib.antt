@@ -6,4 +6,6 @@ pub mod Invariant
 pub mod Found
 pub mod Reached
 pub mod Theorems
+pub mod Trails
+mod Conditions
 pub mod Cases
