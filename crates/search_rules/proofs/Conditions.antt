@@ -22,16 +22,20 @@ use Rattle.search_rules.proofs.Booleans.{or-false, or-both-false, bool-
 abbrev pub wordAt : List ℤ → ℕ → ℤ
 wordAt trail i = getD trail i (pos 0)
 
--- no variable of the first n words is at place j
+-- the place of its variable
+abbrev pub placeAt : List ℤ → ℕ → ℕ
+placeAt trail i = placeOf (wordAt trail i)
+
+-- the variable at place j is none of the first n words'
 abbrev pub Off : List ℤ → ℕ → ℕ → Type 0
-Off trail n j = (i : ℕ) → i < n → placeOf (wordAt trail i) ≡ j → ⊥
+Off trail n j = (i : ℕ) → i < n → placeAt trail i ≡ j → ⊥
 
 -- slices and a length to which 14 does not apply, but for the steps
 pub record Consistent (v : ℕ) (values : List ℕ) (trail : List ℤ) (n : ℕ) : Type 0 where
   pub short : n ≤ v
   pub range : (i : ℕ) → i < n → InRange v (wordAt trail i)
   pub once : (i j : ℕ) → i < j → j < n → wordAt trail i ≡ wordAt trail j → ⊥
-  pub agrees : (i : ℕ) → i < n → goesWith (wordAt trail i) (getD values (placeOf (wordAt trail i)) 2) ≡ true
+  pub agrees : (i : ℕ) → i < n → goesWith (wordAt trail i) (getD values (placeAt trail i) 2) ≡ true
   pub rest-open : (j : ℕ) → j < v → Off trail n j → getD values j 2 ≡ 2
   pub rest-zero : (i : ℕ) → n ≤ i → i < v → wordAt trail i ≡ pos 0
 

@@ -8,4 +8,5 @@ pub mod Reached
 pub mod Theorems
 pub mod Trails
 mod Conditions
+mod Decoding
 pub mod Cases
