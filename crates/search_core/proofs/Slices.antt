@@ -5,8 +5,8 @@ use Prim.Native.Nat.{ℕ, zero, suc, _+_, _-_, _<_, _≤_}
 use native.Mathlib.Omega.{arith}
 use native.Mathlib.Numerals.{add-one}
 use lib.IntN.{ℤ, pos, negsuc, negℤ}
-use lib.ListN.{length, getD, take, set, replicate, length-set, length-replicate, getD-replicate}
-use lib.Seq.{getD-set-same, getD-set-other, set-set, set-getD, take-suc-set, take-all}
+use lib.ListN.{length, getD, take, set, replicate}
+use lib.Seq.{getD-set-same, set-set, set-getD, take-suc-set, take-all}
 use Rattle.literal.specs.Literals.{lastVariable, oppositeWord, positiveWord}
 use Rattle.literal.proofs.Words.{opposite-is, positive-is}
 use Rattle.search_rules.specs.Held.{InRange, WasOpen, Stored}

@@ -1,7 +1,7 @@
 -- The conditions of 14 as facts of the places: what passes them, and what they let through.
 use mathlib.Core.Path.{_≡_, refl, sym, _∙_, ap, subst}
 use mathlib.Core.Bool.{Bool, true, false, not, _||_}
-use mathlib.Core.Logic.{_⊎_, inl, inr, ⊎-elim}
+use mathlib.Core.Logic.{⊎-elim}
 use mathlib.Core.List.{List, [], _∷_}
 use Prim.Native.Nat.{ℕ, zero, suc, _+_, _-_, _<_, _≤_}
 use native.Mathlib.Omega.{arith}
@@ -10,7 +10,7 @@ use lib.IntN.{ℤ, pos, negsuc}
 use lib.ListN.{length, getD, take, drop, length-drop}
 use lib.Seq.{length-take-le, getD-take, getD-drop}
 use borrow.Author.Tests.{ltb-false, le-ltb, eqb-true, eq-eqb, ne-eqb, eqb-false, not-false}
-use Rattle.prelude.specs.Tests.{each, any}
+use Rattle.prelude.specs.Tests.{any}
 use Rattle.prelude.proofs.Laws.{clash, decided, or-left, or-right, or-cases, each-at, each-of}
 use Rattle.literal.specs.Literals.{isLiteral}
 use Rattle.literal.proofs.Words.{literal-low, literal-high, is-literal}
@@ -103,8 +103,8 @@ module _ (v : ℕ) (values : List ℕ) (trail : List ℤ) (n : ℕ) (size : leng
   twice-not : n ≤ v → ((i j : ℕ) → i < j → j < n → wordAt trail i ≡ wordAt trail j → ⊥) → repeats (take n trail) ≡ false
   twice-not s h =
       not-repeats (take n trail) (λ i j a b e.
-        let l : j < n = omega (arith, long s) in
-        h i j a l (sym (word-of i (omega arith)) ∙ e ∙ word-of j l))
+      let l : j < n = omega (arith, long s) in
+      h i j a l (sym (word-of i (omega arith)) ∙ e ∙ word-of j l))
 
   off-trail : n ≤ v → (j : ℕ) → Off trail n j → onTrail (take n trail) j ≡ false
   off-trail s j off = used-none (λ l. eqb (placeOf l) j) s (λ i h. ne-eqb _ j (off i h))
@@ -125,10 +125,10 @@ module _ (v : ℕ) (values : List ℕ) (trail : List ℤ) (n : ℕ) (size : leng
   unfolding open-or-on
   open-outside s h =
       ap not (each-of open-or-on v (λ j b.
-        ⊎-elim
-        (or-left (onTrail (take n trail) j) _)
-        (λ f. or-right (onTrail (take n trail) j) _ (eq-eqb _ 2 (h j b (trail-off s j f))))
-        (decided (onTrail (take n trail) j))))
+      ⊎-elim
+      (or-left (onTrail (take n trail) j) _)
+      (λ f. or-right (onTrail (take n trail) j) _ (eq-eqb _ 2 (h j b (trail-off s j f))))
+      (decided (onTrail (take n trail) j))))
 
   -- the words behind the first n
   behind-zero : filledOutside trail n ≡ false → (i : ℕ) → n ≤ i → i < v → wordAt trail i ≡ pos 0

@@ -2,7 +2,7 @@
 use mathlib.Core.Path.{_≡_, refl, sym, _∙_, ap, subst}
 use mathlib.Core.Bool.{Bool, true, false, cond}
 use mathlib.Core.Logic.{_⊎_, inl, inr, ⊎-elim}
-use mathlib.Core.List.{List, [], _∷_}
+use mathlib.Core.List.{List}
 use Prim.Native.Nat.{ℕ, zero, suc, pred, _<_, _≤_}
 use native.Mathlib.Nat.{le-of-suc-le-suc, eq-or-lt-of-le}
 use native.Mathlib.Omega.{arith}
@@ -92,10 +92,10 @@ module _ (v : ℕ) (values : List ℕ) (trail : List ℤ) (n : ℕ) (c : Consist
   set-there zero i a b = absurd (omega arith)
   set-there (suc k) i a b =
       rw (first-suc k a) (
-        ⊎-elim
-        (λ e. rw e (getD-set-same (first k) (placeAt trail k) (byteAt k) 2 (inside k k a)))
-        (λ l. getD-set-other (first k) (placeAt trail k) (placeAt trail i) (byteAt k) 2 (apart i k l a) ∙ set-there k i (omega arith) l)
-        (below-suc b))
+      ⊎-elim
+      (λ e. rw e (getD-set-same (first k) (placeAt trail k) (byteAt k) 2 (inside k k a)))
+      (λ l. getD-set-other (first k) (placeAt trail k) (placeAt trail i) (byteAt k) 2 (apart i k l a) ∙ set-there k i (omega arith) l)
+      (below-suc b))
 
   -- another is open
   open-there : (k j : ℕ) → k ≤ n → j < v → Off trail k j → getD (first k) j 2 ≡ 2
@@ -103,8 +103,8 @@ module _ (v : ℕ) (values : List ℕ) (trail : List ℤ) (n : ℕ) (c : Consist
   open-there zero j a b off = getD-replicate v j 2 2 b
   open-there (suc k) j a b off =
       rw (first-suc k a) (
-        getD-set-other (first k) (placeAt trail k) j (byteAt k) 2 (λ d. off k (omega arith) (sym d))
-        ∙ open-there k j (omega arith) b (λ i l. off i (omega arith)))
+      getD-set-other (first k) (placeAt trail k) j (byteAt k) 2 (λ d. off k (omega arith) (sym d))
+      ∙ open-there k j (omega arith) b (λ i l. off i (omega arith)))
 
   each-open : (k : ℕ) → k ≤ n → WasOpen v (stateIn values trail k)
   unfolding stateIn WasOpen
@@ -141,18 +141,18 @@ module _ (v : ℕ) (values : List ℕ) (trail : List ℤ) (n : ℕ) (c : Consist
       let t : List ℤ = trailOf v (stateIn values trail k) in
       let s : k < length t = let q = c .short in omega (arith, length-trail v (stateIn values trail k)) in
       rw (length-state values trail k, word-entry (wordAt trail k) (byteAt k)) (
-        ⊎-elim
-        (λ e. rw e (getD-set-same t k (wordAt trail k) (pos 0) s))
-        (λ l. getD-set-other t k i (wordAt trail k) (pos 0) (λ d. omega arith) ∙ trail-there k i (omega arith) l)
-        (below-suc b))
+      ⊎-elim
+      (λ e. rw e (getD-set-same t k (wordAt trail k) (pos 0) s))
+      (λ l. getD-set-other t k i (wordAt trail k) (pos 0) (λ d. omega arith) ∙ trail-there k i (omega arith) l)
+      (below-suc b))
 
   trail-same : (i : ℕ) → i < v → wordAt trail i ≡ wordAt (trailOf v (stateIn values trail n)) i
   trail-same i h =
       ⊎-elim
       (λ e. sym (trail-there n i (omega arith) (ltb-true i n e)))
       (λ e.
-        let l : n ≤ i = ltb-false i n e in
-        c .rest-zero i l h ∙ sym (past v (stateIn values trail n) i (omega (arith, length-state values trail n)) h))
+      let l : n ≤ i = ltb-false i n e in
+      c .rest-zero i l h ∙ sym (past v (stateIn values trail n) i (omega (arith, length-state values trail n)) h))
       (laws.decided (ltb i n))
 
   -- slices that pass hold the state that is read from them

@@ -9,4 +9,6 @@ pub mod Theorems
 pub mod Trails
 mod Conditions
 mod Decoding
+mod Storing
+pub mod StateHeld
 pub mod Cases
