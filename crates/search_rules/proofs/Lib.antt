@@ -12,3 +12,4 @@ mod Decoding
 mod Storing
 pub mod StateHeld
 pub mod Cases
+pub mod StateCases
