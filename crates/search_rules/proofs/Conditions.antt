@@ -30,11 +30,15 @@ placeAt trail i = placeOf (wordAt trail i)
 abbrev pub Off : List ℤ → ℕ → ℕ → Type 0
 Off trail n j = (i : ℕ) → i < n → placeAt trail i ≡ j → ⊥
 
+-- no two of the first n words are equal
+abbrev pub Distinct : List ℤ → ℕ → Type 0
+Distinct trail n = (i j : ℕ) → i < j → j < n → wordAt trail i ≡ wordAt trail j → ⊥
+
 -- slices and a length to which 14 does not apply, but for the steps
 pub record Consistent (v : ℕ) (values : List ℕ) (trail : List ℤ) (n : ℕ) : Type 0 where
   pub short : n ≤ v
   pub range : (i : ℕ) → i < n → InRange v (wordAt trail i)
-  pub once : (i j : ℕ) → i < j → j < n → wordAt trail i ≡ wordAt trail j → ⊥
+  pub distinct : Distinct trail n
   pub agrees : (i : ℕ) → i < n → goesWith (wordAt trail i) (getD values (placeAt trail i) 2) ≡ true
   pub rest-open : (j : ℕ) → j < v → Off trail n j → getD values j 2 ≡ 2
   pub rest-zero : (i : ℕ) → n ≤ i → i < v → wordAt trail i ≡ pos 0
@@ -52,23 +56,24 @@ unfolding sameLiteral
 equal-same (pos n) = eq-eqb n n refl
 equal-same (negsuc n) = eq-eqb n n refl
 
--- none is repeated
-repeats-not : (ls : List ℤ) → repeats ls ≡ false → (i j : ℕ) → i < j → j < length ls → wordAt ls i ≡ wordAt ls j → ⊥
+-- "repeated"
+repeats-distinct : (ls : List ℤ) → repeats ls ≡ false → Distinct ls (length ls)
 unfolding repeats
-repeats-not [] r i j a b e = omega arith
-repeats-not (l ∷ ls) r i zero a b e = omega arith
-repeats-not (l ∷ ls) r zero (suc j) a b e =
+repeats-distinct [] r i j a b e = omega arith
+repeats-distinct (l ∷ ls) r i zero a b e = omega arith
+repeats-distinct (l ∷ ls) r zero (suc j) a b e =
     clash (sameLiteral l (wordAt ls j)) (subst (λ k. sameLiteral l k ≡ true) e (equal-same l))
     (none-at (sameLiteral l) ls (or-false (any (sameLiteral l) ls) _ r .0) j (pos 0) (omega arith))
-repeats-not (l ∷ ls) r (suc i) (suc j) a b e = repeats-not ls (or-false (any (sameLiteral l) ls) _ r .1) i j (omega arith) (omega arith) e
+repeats-distinct (l ∷ ls) r (suc i) (suc j) a b e =
+    repeats-distinct ls (or-false (any (sameLiteral l) ls) _ r .1) i j (omega arith) (omega arith) e
 
-not-repeats : (ls : List ℤ) → ((i j : ℕ) → i < j → j < length ls → wordAt ls i ≡ wordAt ls j → ⊥) → repeats ls ≡ false
+distinct-repeats : (ls : List ℤ) → Distinct ls (length ls) → repeats ls ≡ false
 unfolding repeats
-not-repeats [] h = refl
-not-repeats (l ∷ ls) h =
+distinct-repeats [] h = refl
+distinct-repeats (l ∷ ls) h =
     or-both-false _ _
     (none-of (sameLiteral l) ls (pos 0) (λ j b. bool-false _ (λ e. h 0 (suc j) (omega arith) (omega arith) (same-equal l _ e))))
-    (not-repeats ls (λ i j a b e. h (suc i) (suc j) (omega arith) (omega arith) e))
+    (distinct-repeats ls (λ i j a b e. h (suc i) (suc j) (omega arith) (omega arith) e))
 
 module _ (v : ℕ) (values : List ℕ) (trail : List ℤ) (n : ℕ) (size : length trail ≡ v) where
   -- the first n words
@@ -88,6 +93,7 @@ module _ (v : ℕ) (values : List ℕ) (trail : List ℤ) (n : ℕ) (size : leng
       none-of p (take n trail) (pos 0)
       (λ i b. let l : i < n = omega (arith, long s) in subst (λ l. p l ≡ false) (sym (word-of i l)) (h i l))
 
+  -- "out of range"
   in-range : n ≤ v → strays v (take n trail) ≡ false → (i : ℕ) → i < n → InRange v (wordAt trail i)
   in-range s e i h =
       let l : isLiteral v (wordAt trail i) ≡ true = not-false _ (none-used (λ l. not (isLiteral v l)) s e i h) in
@@ -96,41 +102,38 @@ module _ (v : ℕ) (values : List ℕ) (trail : List ℤ) (n : ℕ) (size : leng
   not-strays : n ≤ v → ((i : ℕ) → i < n → InRange v (wordAt trail i)) → strays v (take n trail) ≡ false
   not-strays s r = used-none (λ l. not (isLiteral v l)) s (λ i h. ap not (is-literal v (wordAt trail i) (r i h .0) (r i h .1)))
 
-  not-twice : n ≤ v → repeats (take n trail) ≡ false → (i j : ℕ) → i < j → j < n → wordAt trail i ≡ wordAt trail j → ⊥
-  not-twice s e i j a b d =
-      repeats-not (take n trail) e i j a (omega (arith, long s)) (word-of i (omega arith) ∙ d ∙ sym (word-of j b))
+  all-distinct : n ≤ v → repeats (take n trail) ≡ false → Distinct trail n
+  all-distinct s e i j a b d =
+      repeats-distinct (take n trail) e i j a (omega (arith, long s)) (word-of i (omega arith) ∙ d ∙ sym (word-of j b))
 
-  twice-not : n ≤ v → ((i j : ℕ) → i < j → j < n → wordAt trail i ≡ wordAt trail j → ⊥) → repeats (take n trail) ≡ false
-  twice-not s h =
-      not-repeats (take n trail) (λ i j a b e.
-      let l : j < n = omega (arith, long s) in
-      h i j a l (sym (word-of i (omega arith)) ∙ e ∙ word-of j l))
+  not-repeats : n ≤ v → Distinct trail n → repeats (take n trail) ≡ false
+  not-repeats s h =
+      let d : Distinct (take n trail) n = λ i j a b e. h i j a b (sym (word-of i (omega arith)) ∙ e ∙ word-of j b) in
+      distinct-repeats (take n trail) (rw (long s) d)
 
+  -- "outside the trail": bytes
   off-trail : n ≤ v → (j : ℕ) → Off trail n j → onTrail (take n trail) j ≡ false
   off-trail s j off = used-none (λ l. eqb (placeOf l) j) s (λ i h. ne-eqb _ j (off i h))
 
   trail-off : n ≤ v → (j : ℕ) → onTrail (take n trail) j ≡ false → Off trail n j
   trail-off s j e i h = eqb-false _ j (none-used (λ l. eqb (placeOf l) j) s e i h)
 
-  open-or-on : ℕ → Bool
+  abbrev open-or-on : ℕ → Bool
   open-or-on j = onTrail (take n trail) j || eqb (getD values j 2) 2
 
   outside-open : n ≤ v → setOutside v values (take n trail) ≡ false → (j : ℕ) → j < v → Off trail n j → getD values j 2 ≡ 2
-  unfolding open-or-on
   outside-open s e j h off =
-      ⊎-elim (λ t. clash _ t (off-trail s j off)) (eqb-true _ 2)
-      (or-cases _ _ (each-at open-or-on v (not-false _ e) j h))
+      ⊎-elim (λ t. clash _ t (off-trail s j off)) (eqb-true _ 2) (or-cases _ _ (each-at open-or-on v (not-false _ e) j h))
+
+  is-open-or-on : n ≤ v → (j : ℕ) → (Off trail n j → getD values j 2 ≡ 2) → open-or-on j ≡ true
+  is-open-or-on s j h =
+      let on = onTrail (take n trail) j in
+      ⊎-elim (or-left on _) (λ f. or-right on _ (eq-eqb _ 2 (h (trail-off s j f)))) (decided on)
 
   open-outside : n ≤ v → ((j : ℕ) → j < v → Off trail n j → getD values j 2 ≡ 2) → setOutside v values (take n trail) ≡ false
-  unfolding open-or-on
-  open-outside s h =
-      ap not (each-of open-or-on v (λ j b.
-      ⊎-elim
-      (or-left (onTrail (take n trail) j) _)
-      (λ f. or-right (onTrail (take n trail) j) _ (eq-eqb _ 2 (h j b (trail-off s j f))))
-      (decided (onTrail (take n trail) j))))
+  open-outside s h = ap not (each-of open-or-on v (λ j b. is-open-or-on s j (h j b)))
 
-  -- the words behind the first n
+  -- and words
   behind-zero : filledOutside trail n ≡ false → (i : ℕ) → n ≤ i → i < v → wordAt trail i ≡ pos 0
   behind-zero e i a b =
       let f : not (sameLiteral (wordAt (drop n trail) (i - n)) (pos 0)) ≡ false =
@@ -156,19 +159,19 @@ module _ (v : ℕ) (values : List ℕ) (trail : List ℤ) (n : ℕ) (size : leng
       record {
         short = s;
         range = in-range s (b .0);
-        once = not-twice s (c .0);
+        distinct = all-distinct s (c .0);
         agrees = λ i h. not-false _ (none-used (λ l. not (goesWith l (getD values (placeOf l) 2))) s (d .0) i h);
         rest-open = outside-open s (f .0);
         rest-zero = behind-zero (f .1);
       }
 
-  -- and that it lets it through
+  -- and it lets all such slices through
   pub passes : Consistent v values trail n → noState v values trail n ≡ false
   unfolding noState
   passes c =
       let s : n ≤ v = c .short in
       or-both-false (tooLong v n) _ (le-ltb v n s)
       (or-both-false (strays v (take n trail)) _ (not-strays s (c .range))
-      (or-both-false (repeats (take n trail)) _ (twice-not s (c .once))
+      (or-both-false (repeats (take n trail)) _ (not-repeats s (c .distinct))
       (or-both-false (contradicts values (take n trail)) _ (used-none _ s (λ i h. ap not (c .agrees i h)))
       (or-both-false (setOutside v values (take n trail)) _ (open-outside s (c .rest-open)) (zero-behind (c .rest-zero))))))

@@ -69,7 +69,7 @@ module _ (v : ℕ) (values : List ℕ) (trail : List ℤ) (n : ℕ) (c : Consist
 
   apart : (i j : ℕ) → i < j → j < n → placeAt trail i ≡ placeAt trail j → ⊥
   apart i j a b e =
-      c .once i j a b
+      c .distinct i j a b
       (same-word v (wordAt trail i) (wordAt trail j) (getD values (placeAt trail i) 2) (c .range i (omega arith)) (c .range j b) e
       (c .agrees i (omega arith)) (subst (λ p. goesWith (wordAt trail j) (getD values p 2) ≡ true) (sym e) (c .agrees j b)))
 
@@ -91,8 +91,8 @@ module _ (v : ℕ) (values : List ℕ) (trail : List ℤ) (n : ℕ) (c : Consist
   set-there : (k i : ℕ) → k ≤ n → i < k → getD (first k) (placeAt trail i) 2 ≡ byteAt i
   set-there zero i a b = absurd (omega arith)
   set-there (suc k) i a b =
-      rw (first-suc k a) (
-      ⊎-elim
+      rw (first-suc k a)
+      (⊎-elim
       (λ e. rw e (getD-set-same (first k) (placeAt trail k) (byteAt k) 2 (inside k k a)))
       (λ l. getD-set-other (first k) (placeAt trail k) (placeAt trail i) (byteAt k) 2 (apart i k l a) ∙ set-there k i (omega arith) l)
       (below-suc b))
@@ -102,10 +102,11 @@ module _ (v : ℕ) (values : List ℕ) (trail : List ℤ) (n : ℕ) (c : Consist
   unfolding stateIn valuesOf
   open-there zero j a b off = getD-replicate v j 2 2 b
   open-there (suc k) j a b off =
-      rw (first-suc k a) (
-      getD-set-other (first k) (placeAt trail k) j (byteAt k) 2 (λ d. off k (omega arith) (sym d))
+      rw (first-suc k a)
+      (getD-set-other (first k) (placeAt trail k) j (byteAt k) 2 (λ d. off k (omega arith) (sym d))
       ∙ open-there k j (omega arith) b (λ i l. off i (omega arith)))
 
+  -- and so was each when it was set
   each-open : (k : ℕ) → k ≤ n → WasOpen v (stateIn values trail k)
   unfolding stateIn WasOpen
   each-open zero a = tt
@@ -134,25 +135,27 @@ module _ (v : ℕ) (values : List ℕ) (trail : List ℤ) (n : ℕ) (c : Consist
       (λ off. c .rest-open j h off ∙ sym (open-there n j (omega arith) h off))
       (on-or-off n j)
 
+  -- the first k words are those of the first k entries; past the n-th there are 0s
   trail-there : (k i : ℕ) → k ≤ n → i < k → wordAt (trailOf v (stateIn values trail k)) i ≡ wordAt trail i
   unfolding stateIn trailOf
   trail-there zero i a b = absurd (omega arith)
   trail-there (suc k) i a b =
       let t : List ℤ = trailOf v (stateIn values trail k) in
       let s : k < length t = let q = c .short in omega (arith, length-trail v (stateIn values trail k)) in
-      rw (length-state values trail k, word-entry (wordAt trail k) (byteAt k)) (
-      ⊎-elim
+      rw (length-state values trail k, word-entry (wordAt trail k) (byteAt k))
+      (⊎-elim
       (λ e. rw e (getD-set-same t k (wordAt trail k) (pos 0) s))
       (λ l. getD-set-other t k i (wordAt trail k) (pos 0) (λ d. omega arith) ∙ trail-there k i (omega arith) l)
       (below-suc b))
+
+  trail-past : (i : ℕ) → n ≤ i → i < v → wordAt trail i ≡ wordAt (trailOf v (stateIn values trail n)) i
+  trail-past i l h = c .rest-zero i l h ∙ sym (past v (stateIn values trail n) i (omega (arith, length-state values trail n)) h)
 
   trail-same : (i : ℕ) → i < v → wordAt trail i ≡ wordAt (trailOf v (stateIn values trail n)) i
   trail-same i h =
       ⊎-elim
       (λ e. sym (trail-there n i (omega arith) (ltb-true i n e)))
-      (λ e.
-      let l : n ≤ i = ltb-false i n e in
-      c .rest-zero i l h ∙ sym (past v (stateIn values trail n) i (omega (arith, length-state values trail n)) h))
+      (λ e. trail-past i (ltb-false i n e) h)
       (laws.decided (ltb i n))
 
   -- slices that pass hold the state that is read from them

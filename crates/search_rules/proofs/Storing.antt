@@ -13,7 +13,7 @@ use Rattle.search_rules.specs.Held.{InRange, goesWith, entryOf, stateIn,
 use Rattle.search_rules.proofs.Invariant.{length-values}
 use Rattle.search_rules.proofs.Found.{place-below}
 use Rattle.search_rules.proofs.Trails.{room, length-trail}
-use Rattle.search_rules.proofs.Conditions.{wordAt, placeAt, Off, Consistent}
+use Rattle.search_rules.proofs.Conditions.{wordAt, placeAt, Off, Distinct, Consistent}
 use Rattle.search_rules.proofs.Decoding.{below-suc}
 
 -- the value of an entry goes with its literal, is not open, and gives the entry
@@ -95,11 +95,11 @@ module _ (v : ℕ) (e : Entry) (state : State) (was-open : WasOpen v (e ∷ stat
   range-put : (i : ℕ) → i < suc (length state) → InRange v (wordAt new-trail i)
   range-put i h = ⊎-elim (λ d. rw (word-top i d) range-new) (λ l. rw (word-below i l) (c .range i l)) (below-suc h)
 
-  once-put : (i j : ℕ) → i < j → j < suc (length state) → wordAt new-trail i ≡ wordAt new-trail j → ⊥
-  once-put i j a b d =
+  distinct-put : Distinct new-trail (suc (length state))
+  distinct-put i j a b d =
       ⊎-elim
       (λ t. other-place i (omega arith) (ap placeOf (sym (word-below i (omega arith)) ∙ d ∙ word-top j t)))
-      (λ l. c .once i j a l (sym (word-below i (omega arith)) ∙ d ∙ word-below j l))
+      (λ l. c .distinct i j a l (sym (word-below i (omega arith)) ∙ d ∙ word-below j l))
       (below-suc b)
 
   agrees-put : (i : ℕ) → i < suc (length state) → goesWith (wordAt new-trail i) (getD new-values (placeAt new-trail i) 2) ≡ true
@@ -118,7 +118,7 @@ module _ (v : ℕ) (e : Entry) (state : State) (was-open : WasOpen v (e ∷ stat
   consistent-put = record {
     short = lower;
     range = range-put;
-    once = once-put;
+    distinct = distinct-put;
     agrees = agrees-put;
     rest-open = open-put;
     rest-zero = λ i a b. word-old i (λ d. omega arith) ∙ c .rest-zero i (omega arith) b;
@@ -129,7 +129,7 @@ unfolding valuesOf trailOf
 consistent-none v = record {
   short = omega arith;
   range = λ i h. absurd (omega arith);
-  once = λ i j a b d. omega arith;
+  distinct = λ i j a b d. omega arith;
   agrees = λ i h. absurd (omega arith);
   rest-open = λ j h off. getD-replicate v j 2 2 h;
   rest-zero = λ i a b. getD-replicate v i (pos 0) (pos 0) b;
