@@ -1,5 +1,5 @@
 -- Literals against each other and against the byte of their variable.
-use mathlib.Core.Path.{_≡_, refl, sym, ap, _∙_}
+use mathlib.Core.Path.{_≡_, refl, ap, _∙_}
 use mathlib.Core.Bool.{true, false, _||_}
 use Prim.Native.Nat.{ℕ, zero, suc, min, _-_, _≤_}
 use native.Mathlib.Numerals.{sub-one}
@@ -8,8 +8,8 @@ use lib.Dec.{eqb}
 use lib.IntN.{ℤ, pos, negsuc, natAbs}
 use mir.Syntax.{w32}
 use mir.Val.{SFits, ofZ}
-use borrow.Author.Tests.{eq-eqb, eqb-true, ne-eqb, ltb-true, ltb-false}
-use Rattle.prelude.proofs.Laws.{clash, or-rest, or-left}
+use borrow.Author.Tests.{eq-eqb, eqb-true, ltb-false}
+use Rattle.prelude.proofs.Laws.{clash}
 use Rattle.literal.specs.Literals.{isLiteral, isPositive, lastVariable}
 use Rattle.literal.proofs.Signs.{same-word}
 use Rattle.literal.proofs.Words.{within-words}

@@ -1,16 +1,16 @@
 -- The table of the variables of the first literals, literal by literal.
 use mathlib.Core.Path.{_≡_, refl, sym, ap, _∙_}
-use mathlib.Core.Bool.{Bool, true, false, not, _&&_, _||_}
+use mathlib.Core.Bool.{Bool, true, false, not, _&&_, _||_, or-true}
 use mathlib.Core.List.{List, [], _∷_, _++_}
 use mathlib.Core.Logic.{⊎-elim}
 use Prim.Native.Nat.{ℕ, zero, suc, _+_, _≤_, _<_}
 use native.Mathlib.Numerals.{add-one}
 use native.Mathlib.Omega.{arith}
 use lib.Dec.{eqb}
-use lib.IntN.{ℤ, pos, natAbs}
+use lib.IntN.{ℤ, pos}
 use lib.ListN.{length, getD, set, take, drop, replicate, length-set, length-replicate}
 use lib.Seq.{take-suc, split-at, getD-set-same, getD-set-other}
-use borrow.Author.Tests.{eq-eqb, eqb-true, eqb-false, not-true, not-false}
+use borrow.Author.Tests.{eqb-true, eqb-false, not-false}
 use Rattle.prelude.specs.Tests.{any}
 use Rattle.prelude.proofs.Laws.{clash, and-left, and-both, and-rest, or-left, or-right, or-cases, any-append, any-at}
 use Rattle.literal.specs.Literals.{isLiteral}
@@ -21,7 +21,7 @@ use Rattle.search_rules.proofs.Booleans.{and-true, or-false}
 use Rattle.search_rules.proofs.Found.{place-below}
 use Rattle.search_state.specs.Inner.{faulty, Marked}
 use Rattle.search_state.proofs.Tests.{any-take, any-weaker, getD-any}
-use Rattle.search_state.proofs.Literals.{place-of, same-place, same-literal}
+use Rattle.search_state.proofs.Literals.{same-place, same-literal}
 
 or-nothing : (b : Bool) → b || false ≡ b
 or-nothing true = refl
@@ -91,15 +91,16 @@ no-mark (suc n) (suc i) = no-mark n i
 pub empty-long : (seen : List Bool) → seen ≡ replicate 16000 false → length seen ≡ 16000
 empty-long seen e = ap length e ∙ length-replicate 16000 false
 
-pub marked-none : (values : List ℕ) (literals : List ℤ) (seen : List Bool) → seen ≡ replicate 16000 false → Marked values (take 0 literals) seen
+pub marked-none : (values : List ℕ) (literals : List ℤ) (seen : List Bool) → seen ≡ replicate 16000 false
+    → Marked values (take 0 literals) seen
 unfolding repeats any
 marked-none values literals seen e = record {
-    long = empty-long seen e;
-    within = refl;
-    apart = refl;
-    agree = refl;
-    marks = λ i. ap (λ (t : List Bool). getD t i false) e ∙ no-mark 16000 i;
-  }
+  long = empty-long seen e;
+  within = refl;
+  apart = refl;
+  agree = refl;
+  marks = λ i. ap (λ (t : List Bool). getD t i false) e ∙ no-mark 16000 i;
+}
 
 -- the literal behind the first k
 module _ (values : List ℕ) (literals : List ℤ) (k : ℕ) (h : k < length literals) (l : ℤ) (is : getD literals k (pos 0) ≡ l) where
@@ -108,8 +109,10 @@ module _ (values : List ℕ) (literals : List ℤ) (k : ℕ) (h : k < length lit
     where
       strays-at : isLiteral (length values) l ≡ false → strays (length values) literals ≡ true
       strays-at f = any-at (λ l. not (isLiteral (length values) l)) literals k (pos 0) h (rw is (ap not f))
+
       contradicts-at : goesWith l (getD values (placeOf l) 2) ≡ false → contradicts values literals ≡ true
       contradicts-at f = any-at (λ l. not (goesWith l (getD values (placeOf l) 2))) literals k (pos 0) h (rw is (ap not f))
+
       by : (b : Bool) → isLiteral (length values) l ≡ b → b && goesWith l (getD values (placeOf l) 2) ≡ false → faulty values literals ≡ true
       by true d e = or-right (strays (length values) literals) _ (or-right (repeats literals) _ (contradicts-at e))
       by false d e = or-left (strays (length values) literals) _ (strays-at d)
@@ -138,8 +141,9 @@ module _ (values : List ℕ) (literals : List ℤ) (k : ℕ) (h : k < length lit
       where
         at : placeOf l < length seen
         at = omega (arith, place-within values l (and-left (isLiteral (length values) l) _ a), m .long)
+
         by : (b : Bool) → eqb (placeOf l) i ≡ b → getD (set seen (placeOf l) true) i false ≡ (getD seen i false || (b || false))
-        by true e = rw (← (eqb-true (placeOf l) i e)) (getD-set-same seen (placeOf l) true false at ∙ sym (or-right (getD seen (placeOf l) false) true refl))
+        by true e = rw (← (eqb-true (placeOf l) i e)) (getD-set-same seen (placeOf l) true false at ∙ sym (or-true (getD seen (placeOf l) false)))
         by false e = getD-set-other seen (placeOf l) i true false (λ d. eqb-false (placeOf l) i e (sym d)) ∙ sym (or-nothing (getD seen i false))
 
     pub marked-more : length values ≤ 16000 → getD seen (placeOf l) false ≡ false

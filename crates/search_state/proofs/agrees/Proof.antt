@@ -1,16 +1,15 @@
 -- `search_state::agrees` meets its contract. Assumes nothing.
-use mathlib.Core.Path.{_≡_, refl, sym, ap, _∙_}
-use mathlib.Core.Bool.{true, _&&_}
+use mathlib.Core.Path.{_≡_, sym, ap, _∙_}
+use mathlib.Core.Bool.{true}
 use native.Mathlib.Omega.{arith}
-use lib.ListN.{length, getD}
+use lib.ListN.{length}
 use mir.Facts.{toZ-ofZ}
 use borrow.Author.Needs.{needs}
 use borrow.Author.Tests.{not-true, not-false}
-use Rattle.prelude.proofs.Laws.{and-not-left, and-rest}
+use Rattle.prelude.proofs.Laws.{and-not-left}
 use Rattle.literal.specs.Literals.{isLiteral}
 use Rattle.literal.proofs.Words.{literal-low, literal-high}
 use Rattle.search_rules.specs.Rules.{placeOf}
-use Rattle.search_rules.specs.Held.{goesWith}
 use Rattle.search_state.proofs.Literals.{place-of, is-within}
 use Rattle.search_state.proofs.Marks.{place-within, agrees-at}
 use Rattle.search_state.proofs.agrees.Statement.{statement}

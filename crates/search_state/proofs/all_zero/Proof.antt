@@ -50,9 +50,8 @@ loop-again : tie.Need-loop-again Inv-loop μ-loop
 loop-again c =
     let i = c .before .before .before .loop .i in
     let words = c .before .before .before .before .args .words .now in
-    let zero : filled (getD words i (pos 0)) ≡ false =
-        ap not (zero-word _ (record { sfits = c .before .if12 .given }) (c .if1 .left)) in
-    (omega arith, any-take filled words i (pos 0) (c .before .before .loop-test .taken) (c .before .before .before .loop .inv .1) zero)
+    let no = ap not (zero-word (getD words i (pos 0)) (record { sfits = c .before .if12 .given }) (c .if1 .left)) in
+    (omega arith, any-take filled words i (pos 0) (c .before .before .loop-test .taken) (c .before .before .before .loop .inv .1) no)
 
 returns-2 : tie.Need-returns-2 Inv-loop μ-loop
 returns-2 c =

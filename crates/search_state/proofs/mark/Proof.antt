@@ -122,11 +122,12 @@ loop-again c =
     let b = c .before .before .before .before .before .before in
     let s = b .before .before .before .before in
     let l = literal (c .before .before .before .before) in
-    let seen = b .before .loop .seen in
-    let more =
-        marked-more (s .args .values .now) (s .args .literals .now) (b .before .loop .k) (b .loop-test .taken) l refl seen
-        (b .before .loop .inv .1) (agrees (c .before .before .before)) (s .pre .0) (rw (at (c .before .before)) at (c .if2 .left)) in
-    (omega (arith, b .loop-test .taken), rw (at (c .before .before)) more)
+    let seen = b .before .loop .seen in (
+      omega (arith, b .loop-test .taken),
+      rw (at (c .before .before))
+          (marked-more (s .args .values .now) (s .args .literals .now) (b .before .loop .k) (b .loop-test .taken) l refl seen
+          (b .before .loop .inv .1) (agrees (c .before .before .before)) (s .pre .0) (rw (at (c .before .before)) at (c .if2 .left))),
+    )
 
 same-length-3 : tie.Need-same-length-3 Inv-loop μ-loop
 same-length-3 c =

@@ -43,17 +43,22 @@ add-i c = search needs
 loop-less : tie.Need-loop-less Inv-loop μ-loop
 loop-less c = search needs
 
-loop-again : tie.Need-loop-again Inv-loop μ-loop
-loop-again c =
-    let i = c .before .before .before .loop .i in
+-- behind both tests
+passed : (c : tie.Joined1 Inv-loop μ-loop) → let s = c .before .before .before .before .args in
+    settled (s .values .now) (s .seen .now) (c .before .before .before .loop .i) ≡ true
+passed c =
     let s = c .before .before .before .before .args in
     let h = c .before .before .loop-test .taken in
-    let is : settled (s .values .now) (s .seen .now) i ≡ true =
-        ⊎-elim
-        (λ x. open-settled (s .values .now) (s .seen .now) i h (x .2 .left))
-        (λ x. marked-settled (s .values .now) (s .seen .now) i h (not-false _ (x .left)))
-        (c .if1 .came) in
-    (omega arith, each-more (settled (s .values .now) (s .seen .now)) i (c .before .before .before .loop .inv .1) is)
+    ⊎-elim
+    (λ x. open-settled (s .values .now) (s .seen .now) _ h (x .2 .left))
+    (λ x. marked-settled (s .values .now) (s .seen .now) _ h (not-false _ (x .left)))
+    (c .if1 .came)
+
+loop-again : tie.Need-loop-again Inv-loop μ-loop
+loop-again c =
+    let s = c .before .before .before .before .args in
+    let b = c .before .before .before .loop in
+    (omega arith, each-more (settled (s .values .now) (s .seen .now)) (b .i) (b .inv .1) (passed c))
 
 returns-2 : tie.Need-returns-2 Inv-loop μ-loop
 returns-2 c =
