@@ -25,7 +25,7 @@ module _ (values : List ℕ) (literals : List ℤ) (seen : List Bool) where
   unfolding MarkedIf
   if-faulty r m e = rw e at m
 
--- the first conditions, of five
+-- three conditions, with another behind them
 or-three : (a b c d : Bool) → a || (b || c) ≡ true → a || (b || (c || d)) ≡ true
 or-three true b c d e = refl
 or-three false true c d e = refl

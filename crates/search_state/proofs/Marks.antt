@@ -28,7 +28,7 @@ or-nothing true = refl
 or-nothing false = refl
 
 -- a literal that stands among those before it
-pub repeats-at : (xs : List ℤ) (l : ℤ) (ys : List ℤ) → any (λ k. sameLiteral k l) xs ≡ true → repeats (xs ++ (l ∷ ys)) ≡ true
+repeats-at : (xs : List ℤ) (l : ℤ) (ys : List ℤ) → any (λ k. sameLiteral k l) xs ≡ true → repeats (xs ++ (l ∷ ys)) ≡ true
 unfolding repeats any
 repeats-at [] l ys e = clash false e refl
 repeats-at (x ∷ xs) l ys e =
@@ -40,6 +40,7 @@ repeats-at (x ∷ xs) l ys e =
     again : sameLiteral x l ≡ true → any (sameLiteral x) (xs ++ (l ∷ ys)) ≡ true
     again s = rw (any-append (sameLiteral x) xs (l ∷ ys)) (or-right (any (sameLiteral x) xs) _ (or-left (sameLiteral x l) _ s))
 
+-- one that does not
 repeats-more : (xs : List ℤ) (l : ℤ) → repeats xs ≡ false → any (λ k. sameLiteral k l) xs ≡ false → repeats (xs ++ (l ∷ [])) ≡ false
 unfolding repeats any
 repeats-more [] l e f = refl
@@ -52,7 +53,7 @@ repeats-more (x ∷ xs) l e f =
 abbrev pub agreesWith : List ℕ → ℤ → Bool
 agreesWith values l = isLiteral (length values) l && goesWith l (getD values (placeOf l) 2)
 
--- two of one variable are the same literal
+-- two such literals of one variable are the same literal
 same-variable : (values : List ℕ) (k l : ℤ) → agreesWith values k ≡ true → agreesWith values l ≡ true → placeOf k ≡ placeOf l
     → sameLiteral k l ≡ true
 same-variable values k l a b e =
@@ -61,6 +62,7 @@ same-variable values k l a b e =
     same-literal k l (getD values (placeOf l) 2) (literal-low (length values) k (g .0)) (literal-low (length values) l (h .0)) e
     (rw e at (g .1)) (h .1)
 
+-- a variable that is on the trail already: its literal stands there
 among : (values : List ℕ) (l : ℤ) → agreesWith values l ≡ true → (xs : List ℤ) → strays (length values) xs ≡ false
     → contradicts values xs ≡ false → onTrail xs (placeOf l) ≡ true → any (λ k. sameLiteral k l) xs ≡ true
 unfolding any
@@ -82,7 +84,7 @@ pub agrees-at : (values : List ℕ) (z l : ℤ) (p : ℕ) → z ≡ l → p ≡ 
     → goesWith z (getD values p 0) ≡ agreesWith values l
 agrees-at values z l p e d is = rw (e, d, getD-any values (placeOf l) 0 2 (place-within values l is)) (sym (and-rest _ _ is))
 
--- an empty table for no literal
+-- the empty table, for no literal
 no-mark : (n i : ℕ) → getD (replicate n false) i false ≡ false
 no-mark zero i = refl
 no-mark (suc n) zero = refl

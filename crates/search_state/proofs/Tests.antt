@@ -23,7 +23,7 @@ module _ {A : Type 0} (p : A → Bool) where
       → any p (take (k + 1) xs) ≡ false
   any-take xs k d h e f = rw (add-one k, take-suc xs k d h) (any-more (take k xs) (getD xs k d) e f)
 
-  -- a test that each element which passes another one passes too
+  -- where no element passes the weaker test, none passes
   pub any-weaker : (q : A → Bool) (xs : List A) → ((x : A) → p x ≡ true → q x ≡ true) → any q xs ≡ false → any p xs ≡ false
   unfolding any
   any-weaker q [] h e = refl
@@ -32,6 +32,7 @@ module _ {A : Type 0} (p : A → Bool) where
       rw (bool-false (p x) (λ d. clash (q x) (h x d) (b .0))) (any-weaker q xs h (b .1))
 
 module _ (p : ℕ → Bool) where
+  -- one number more, and a number that fails
   pub each-more : (n : ℕ) → each n p ≡ true → p n ≡ true → each (n + 1) p ≡ true
   unfolding each
   each-more n e f = rw (add-one n) (and-both (each n p) (p n) e f)
@@ -45,6 +46,7 @@ getD-any [] i d e h = absurd (not-suc-le-zero h)
 getD-any (x ∷ xs) zero d e h = refl
 getD-any (x ∷ xs) (suc i) d e h = getD-any xs i d e (le-of-suc-le-suc h)
 
+-- the test of `open_outside` at one place: a mark, an open value, or neither
 module _ (values : List ℕ) (seen : List Bool) (i : ℕ) (h : i < length values) where
   pub marked-settled : getD seen i false ≡ true → settled values seen i ≡ true
   marked-settled e = or-left (getD seen i false) _ e

@@ -21,7 +21,7 @@ pub record Marked (values : List ℕ) (literals : List ℤ) (seen : List Bool) :
   pub agree : contradicts values literals ≡ false
   pub marks : (i : ℕ) → getD seen i false ≡ onTrail literals i
 
--- by the answer
+-- what `mark` leaves behind, by its answer
 unfoldable pub MarkedIf : Bool → List ℕ → List ℤ → List Bool → Type 0
 MarkedIf true values literals seen = Marked values literals seen
 MarkedIf false values literals seen = faulty values literals ≡ true
