@@ -1,4 +1,7 @@
 pub mod Theorems
 pub mod Cases
 pub mod Outcomes
+pub mod Resumptions
+pub mod ResumedCalls
+pub mod Resuming
 mod Settled

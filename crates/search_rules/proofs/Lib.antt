@@ -6,6 +6,7 @@ pub mod Invariant
 pub mod Found
 pub mod Reached
 pub mod Theorems
+pub mod Again
 pub mod Trails
 mod Conditions
 mod Decoding
