@@ -4,4 +4,5 @@ pub mod Outcomes
 pub mod Resumptions
 pub mod ResumedCalls
 pub mod Resuming
+pub mod ResumedTheorems
 mod Settled

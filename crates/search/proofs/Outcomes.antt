@@ -7,12 +7,14 @@ use native.Mathlib.Omega.{arith}
 use native.Mathlib.Nat.{zero-add}
 use lib.Dec.{leb}
 use lib.IntN.{ℤ}
-use lib.ListN.{length, drop}
+use lib.ListN.{length, take, drop, length-map}
+use lib.Seq.{take-at}
 use borrow.Author.Tests.{le-leb, lt-leb}
 use Rattle.prelude.proofs.Laws.{and-both, and-not-left, and-not-right}
 use Rattle.clause_list.specs.ClauseList.{isList}
-use Rattle.search_rules.specs.Rules.{State, settle}
+use Rattle.search_rules.specs.Rules.{State, valuesOf, settle}
 use Rattle.search_rules.specs.Run.{Tally, total, End, wasNone, wasFound, wasSpent, run}
+use Rattle.search_rules.proofs.Invariant.{length-values}
 use Rattle.search_rules.proofs.StepView.{Ends, run-ends}
 use Rattle.search_core.specs.declared.run.End.the-variants as core
 use Rattle.search_core.specs.declared.run.Ran.{Ran}
@@ -22,7 +24,7 @@ use Rattle.search.specs.Answers.{searchRun, outcome}
 use Rattle.search.specs.declared.answer.Search.{Search}
 use Rattle.search.specs.declared.answer.Search.the-variants.{None, Found, Spent}
 use Rattle.search.specs.declared.answer.Resumed.{Resumed}
-use Rattle.search.specs.Resumed.{after}
+use Rattle.search.specs.Resumed.{addSteps}
 use Rattle.search.specs.Inner.{Finished}
 
 module _ (list : List ℤ) (v : ℕ) (values : List ℕ) (trail : List ℤ) (budget : ℕ) where
@@ -123,8 +125,41 @@ finish-spent v done (wasSpent t s) r values trail h e = record {
 }
 
 -- no steps before
-pub after-zero : (end : End) → after 0 (answerAt end) ≡ answerAt end
+pub adds-zero : (end : End) → addSteps 0 (answerAt end) ≡ answerAt end
 unfolding answerAt
-after-zero (wasNone t) = ap none (zero-add (total t))
-after-zero (wasFound t state) = ap found (zero-add (total t))
-after-zero (wasSpent t state) = ap spent (zero-add (total t))
+adds-zero (wasNone t) = ap none (zero-add (total t))
+adds-zero (wasFound t state) = ap found (zero-add (total t))
+adds-zero (wasSpent t state) = ap spent (zero-add (total t))
+
+-- the end of a run, told by the answer after so many steps
+module _ (done : ℕ) where
+  pub was-none : (end : End) (steps : ℕ) → addSteps done (answerAt end) ≡ none steps → (t : Tally) × (end ≡ wasNone t)
+  unfolding answerAt
+  was-none (wasNone t) steps e = (t, refl)
+  was-none (wasFound t s) steps e = absurd (let z : _≡_ {A = ℕ} 0 1 = cc in omega arith)
+  was-none (wasSpent t s) steps e = absurd (let z : _≡_ {A = ℕ} 0 1 = cc in omega arith)
+
+  pub was-found : (end : End) (steps : ℕ) → addSteps done (answerAt end) ≡ found steps → (t : Tally) × (s : State) × (end ≡ wasFound t s)
+  unfolding answerAt
+  was-found (wasNone t) steps e = absurd (let z : _≡_ {A = ℕ} 0 1 = cc in omega arith)
+  was-found (wasFound t s) steps e = (t, s, refl)
+  was-found (wasSpent t s) steps e = absurd (let z : _≡_ {A = ℕ} 0 1 = cc in omega arith)
+
+  pub was-spent : (end : End) (steps : ℕ) → addSteps done (answerAt end) ≡ spent steps
+      → (t : Tally) × (s : State) × (end ≡ wasSpent t s) × (done + total t ≡ steps)
+  unfolding answerAt
+  was-spent (wasNone t) steps e = absurd (let z : _≡_ {A = ℕ} 0 1 = cc in omega arith)
+  was-spent (wasFound t s) steps e = absurd (let z : _≡_ {A = ℕ} 0 1 = cc in omega arith)
+  was-spent (wasSpent t s) steps e = (t, s, refl, cc)
+
+  -- it is no refusal
+  pub was-taken : (end : End) (number : ℕ) → addSteps done (answerAt end) ≡ refused number → ⊥
+  unfolding answerAt
+  was-taken (wasNone t) number e = let z : _≡_ {A = ℕ} 0 1 = cc in omega arith
+  was-taken (wasFound t s) number e = let z : _≡_ {A = ℕ} 0 1 = cc in omega arith
+  was-taken (wasSpent t s) number e = let z : _≡_ {A = ℕ} 0 1 = cc in omega arith
+
+-- what "found" leaves in the first v values
+pub found-values : (v : ℕ) (state : State) (values : List ℕ) → take v (map settle (valuesOf v state) ++ drop v values) ≡ map settle (valuesOf v state)
+found-values v state values =
+    take-at (map settle (valuesOf v state)) (drop v values) v (length-map (valuesOf v state) settle ∙ length-values v state)

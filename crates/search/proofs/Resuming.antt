@@ -23,10 +23,10 @@ use Rattle.search_rules.proofs.Theorems.{spent-state}
 use Rattle.search_rules.proofs.Again.{plus, later, total-plus, spent-open, run-again}
 use Rattle.search.specs.declared.answer.Position.{Position}
 use Rattle.search.specs.Answers.{found, none, spent, refused, answerAt, valuesAt, trailAt, outcome, finish, searchRun}
-use Rattle.search.specs.Resumed.{Resumption, after, positionAt, finishAfter, resumedRun, resumption}
+use Rattle.search.specs.Resumed.{Resumption, finishAfter, resumedRun, resumption}
 use Rattle.search.specs.Resuming.{start, FreshStart, Chain, last, spends, SameAsOne}
 use Rattle.search.proofs.Outcomes as searched
-use Rattle.search.proofs.Outcomes.{after-zero}
+use Rattle.search.proofs.Outcomes.{adds-zero, was-spent}
 use Rattle.search.proofs.Resumptions as resumed
 use Rattle.search.proofs.ResumedCalls.{Runs, begin, called, held}
 
@@ -46,7 +46,7 @@ module _ (list : List ℤ) (v : ℕ) (values : List ℕ) (trail : List ℤ) (bud
   ends-alike : finishAfter 0 v values trail (resumedRun list v (begin list v values trail start budget) budget) .outcome
       ≡ finish v values trail (searchRun list v budget)
   unfolding stateIn
-  ends-alike = rw (after-zero (searchRun list v budget)) refl
+  ends-alike = rw (adds-zero (searchRun list v budget)) refl
 
   by-tests : (a b c : Bool) → isList v list ≡ a → leb v (length values) ≡ b → leb v (length trail) ≡ c
       → resumption list v values trail start budget .outcome ≡ outcome list v values trail budget
@@ -88,15 +88,9 @@ module _ (list : List ℤ) (v : ℕ) (values : List ℕ) (trail : List ℤ) (p :
     state : State
     was : resumedRun list v from m ≡ wasSpent tally state
 
-  spent-end : (end : End) → after (p .steps) (answerAt end) ≡ spent steps → (t : Tally) × (s : State) × (end ≡ wasSpent t s)
-  unfolding answerAt
-  spent-end (wasNone t) e = absurd (let z : _≡_ {A = ℕ} 0 1 = cc in omega arith)
-  spent-end (wasFound t s) e = absurd (let z : _≡_ {A = ℕ} 0 1 = cc in omega arith)
-  spent-end (wasSpent t s) e = (t, s, refl)
-
   spending : Left
   spending =
-      let e = spent-end (resumedRun list v from m) (sym (ap (λ o. o .outcome .answer) (ran .ends)) ∙ answers) in
+      let e = was-spent (p .steps) (resumedRun list v from m) steps (sym (ap (λ o. o .outcome .answer) (ran .ends)) ∙ answers) in
       record { tally = e .0; state = e .1; was = e .2 }
 
   abbrev t : Tally

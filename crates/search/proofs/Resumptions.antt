@@ -67,8 +67,11 @@ module _ (list : List ℤ) (v : ℕ) (values : List ℕ) (trail : List ℤ) (p :
       pub too-many : 18446744073709551615 < p .steps + budget → call ≡ decline 14 values trail p
       too-many h = by-tests true true true is room (or-right (noState v (take v values) (take v trail) (p .length)) _ (lt-ltb _ _ h))
 
+      pub takes : stopped ≡ false → call ≡ ended
+      takes h = by-tests true true false is room h
+
       pub runs : noState v (take v values) (take v trail) (p .length) ≡ false → p .steps + budget ≤ 18446744073709551615 → call ≡ ended
-      runs h k = by-tests true true false is room (or-rest _ _ h ∙ le-ltb _ _ k)
+      runs h k = takes (or-rest _ _ h ∙ le-ltb _ _ k)
 
 pub denied : (b : Bool) → not b ≡ false → b ≡ true
 denied true e = refl

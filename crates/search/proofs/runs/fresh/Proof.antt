@@ -8,7 +8,7 @@ use lib.ListN.{length, replicate, length-replicate}
 use borrow.Author.Needs.{needs}
 use Rattle.search_rules.specs.Held.{Stored}
 use Rattle.search_core.proofs.Slices as slices
-use Rattle.search.proofs.Outcomes.{after-zero}
+use Rattle.search.proofs.Outcomes.{adds-zero}
 use Rattle.search.proofs.runs.fresh.Statement.{statement}
 use Rattle.search.proofs.runs.fresh.Tie as tie
 
@@ -56,7 +56,7 @@ returns : tie.Need-returns
 returns c =
     let p = c .before .before .before .before in
     let f = (rw (wide p) at (c .before .before .before .go-on .ensures)) [] (held p) in
-    (f .answer-is ∙ after-zero _, (f .values-are, f .trail-is))
+    (f .answer-is ∙ adds-zero _, (f .values-are, f .trail-is))
 
 pub fresh-spec : {M : Type 1} → statement M
 fresh-spec =
