@@ -6,3 +6,5 @@ pub mod ResumedCalls
 pub mod Resuming
 pub mod ResumedTheorems
 mod Settled
+pub mod Lent
+pub mod LentWalk
