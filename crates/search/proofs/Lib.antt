@@ -1,5 +1,6 @@
 pub mod Theorems
 pub mod Cases
+pub mod ResumedCases
 pub mod Outcomes
 pub mod Resumptions
 pub mod ResumedCalls
