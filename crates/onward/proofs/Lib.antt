@@ -1,0 +1,2 @@
+mod MoreSteps
+mod CallByCall

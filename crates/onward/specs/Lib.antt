@@ -1,0 +1,2 @@
+-- How far a search is taken up again.
+pub mod Limits
