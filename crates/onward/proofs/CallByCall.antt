@@ -42,11 +42,11 @@ module _ (list : List ℤ) (v : ℕ) (values₀ : List ℕ) (trail₀ : List ℤ
   one-call n r few c = same-as-one list v values₀ trail₀ start n r c (omega arith)
 
   module _ (values : List ℕ) (trail : List ℤ) (p : Position) (calls : ℕ) (l : Loop list v values₀ trail₀ values trail p calls) where
-    -- no call is left
-    pub at-end : calls ≤ 0 → resumption list v values trail p 0 ≡ resumption list v values₀ trail₀ start mostSteps
-    at-end h =
+    -- no call is left: a call with no steps says where the search stands
+    pub at-end : calls ≤ 0 → (r : Resumption) → r ≡ resumption list v values trail p 0 → r ≡ resumption list v values₀ trail₀ start mostSteps
+    at-end h r call =
         let e : sofar calls + 0 ≡ mostSteps = omega arith in
-        one-call mostSteps _ (omega arith) (subst (From _) e (l .chain 0 _ (last 0)))
+        call ∙ one-call mostSteps _ (omega arith) (subst (From _) e (l .chain 0 _ (last 0)))
 
     -- one call more
     module _ (some : 0 < calls) (a : Answer) (vs : List ℕ) (ts : List ℤ) (q : Position)

@@ -15,8 +15,11 @@ pub(crate) fn show(steps: u64) {
     }
 }
 
-// Ends the line of steps that a terminal shows.
-pub(crate) fn end_line() {
+// Ends the line of steps, where one is shown on a terminal.
+pub(crate) fn end_line(shown: bool) {
+    if !shown {
+        return;
+    }
     if libc::isatty(STDERR_FILENO) == 1 {
         io::write_all(STDERR_FILENO, b"\n");
     }

@@ -1,15 +1,8 @@
 -- `go_on` meets its contract. The invariant: the calls made so far, with any that take up what they left, are a chain from the start.
-use mathlib.Core.Path.{_≡_, _∙_, ap}
-use mathlib.Core.Logic.{_⊎_, ⊎-elim}
-use Prim.Native.Nat.{ℕ}
-use native.Mathlib.Omega.{arith}
+use mathlib.Core.Path.{_∙_, ap}
 use borrow.Author.Needs.{needs}
-use denote.Enum.Declared.{tagOf}
-use Rattle.search.proofs.answer.Search.{the-type}
-use Rattle.search.specs.declared.answer.Search.{Search}
-use Rattle.search.specs.declared.answer.Search.the-variants.{Found, None, Spent, Refused}
 use Rattle.search.specs.Answers.{answerOf}
-use Rattle.onward.proofs.MoreSteps.{Unspent}
+use Rattle.onward.proofs.AnswerTests.{not-spent}
 use Rattle.onward.proofs.CallByCall.{Loop, begins, ended, goes-on, at-end}
 use Rattle.onward.proofs.calls.go_on.Statement.{statement}
 use Rattle.onward.proofs.calls.go_on.Tie as tie
@@ -19,13 +12,6 @@ Inv-loop list v values₀ trail₀ position₀ left₀ values trail position lef
 
 abbrev μ-loop : tie.MeasureT-loop
 μ-loop list v values₀ trail₀ position₀ left₀ values trail position left = left
-
--- the test of the answer
-unspent : (r : Search) → (tagOf the-type r ≡ 0) ⊎ ((tagOf the-type r ≡ 1) ⊎ (tagOf the-type r ≡ 3)) → Unspent (answerOf r)
-unspent (Found n) e steps f = let z : _≡_ {A = ℕ} 0 1 = cc in omega arith
-unspent (None n) e steps f = let z : _≡_ {A = ℕ} 0 1 = cc in omega arith
-unspent (Spent n) e steps f = ⊎-elim (λ x. omega arith) (⊎-elim (λ x. omega arith) (λ x. omega arith)) e
-unspent (Refused n) e steps f = let z : _≡_ {A = ℕ} 0 1 = cc in omega arith
 
 loop-holds : tie.Need-loop-holds Inv-loop μ-loop
 loop-holds c = let a = c .before .args in begins (a .list .now) (a .v) (a .values .now) (a .trail .now)
@@ -54,7 +40,7 @@ returns c =
     let k = c .before .before .before .before in
     let l = k .before .before .before .before .loop in
     ended _ _ _ _ _ _ _ _ (l .inv) (k .before .before .before .loop-test .taken) _ _ _ _ (k .resumed .ensures)
-    (unspent (k .resumed .result .answer) (c .match .keys2))
+    (not-spent (k .resumed .result .answer) (c .match .keys2))
 
 sub-left : tie.Need-sub-left Inv-loop μ-loop
 sub-left c = search needs
@@ -84,7 +70,7 @@ returns-2 : tie.Need-returns-2 Inv-loop μ-loop
 returns-2 c =
     let k = c .before .before .before in
     let l = k .before .before .before .before .loop in
-    k .resumed2 .ensures ∙ at-end _ _ _ _ _ _ _ _ (l .inv) (k .before .before .before .loop-test .left)
+    at-end _ _ _ _ _ _ _ _ (l .inv) (k .before .before .before .loop-test .left) _ (k .resumed2 .ensures)
 
 pub go-on-spec : {M : Type 1} → statement M
 go-on-spec =
