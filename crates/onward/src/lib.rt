@@ -1,76 +1,23 @@
 // From a sheet to an answer, with a search that is taken up again until it ends.
 ghost use mathlib.Core.Path.{_≡_};
-ghost use Rattle.clauses.specs.Answers.{fits, countAnswer};
+ghost use Prim.Native.Nat.{_≤_};
+ghost use lib.ListN.{length, take};
+ghost use Rattle.text.specs.Texts.{Prints};
 ghost use Rattle.search.specs.Answers.{answerOf};
-ghost use Rattle.solve_rules.specs.Finding.{Slices, slices, finding};
+ghost use Rattle.solve_rules.specs.Finding.{slices, finding};
 ghost use Rattle.solve_rules.specs.Finds.{Finds};
-ghost use Rattle.solve.specs.Private.{Left};
+ghost use Rattle.report.specs.Printed.{findingText, slicesAfter};
+ghost use Rattle.report.specs.Tells.{Tells};
 ghost use Rattle.onward.specs.Limits.{mostSteps};
-ghost use Rattle.onward.specs.Private.{Begun, SomeBegun};
-use calls::STEPS;
-use calls::go_on;
-use clauses::answer::Count;
-use clauses::answer::Size;
-use clauses::count;
+use begun::take_up;
+use report::finder::put_report;
 use search::answer::Search;
-use shown::end_line;
 use solve::find;
-use solve::read_back;
+use text::put_end;
 
+mod begun; // begun.rt: a search that was begun with no steps, and is taken up
 mod calls; // calls.rt: the search, call by call
 mod shown; // shown.rt: the steps done, on standard error
-
-// The search over the clauses that were written, from open values on, and read-back after `found`.
-fn run_on(
-    sheet: &[u8],
-    size: Size,
-    list: &[i32],
-    values: &mut [u8],
-    trail: &mut [i32],
-    instance: &mut [u8],
-) -> Search
-    requires { ⌜ countAnswer (now sheet) ≡ fits (size .variables) (size .clauses) (size .words) ⌝ }
-    requires { ⌜ SomeBegun (now sheet) (slices (now list) (now values) (now trail) (now instance)) ⌝ }
-    ensures { λ r. ⌜ ((lent : Slices)
-        → Begun (now (sheet .entry)) lent
-        (slices (now (list .entry)) (now (values .entry)) (now (trail .entry)) (now (instance .entry)))
-        → Left (now (sheet .entry)) lent mostSteps (answerOf r)
-        (slices (now (list .entry)) (now (values .exit)) (now (trail .exit)) (now (instance .exit)))) ⌝ }
-{
-    let v = size.variables;
-    let w = size.words;
-    let ended = go_on(&list[..w], v as u32, values, trail);
-    let position = ended.position;
-    end_line(position.steps > STEPS);
-    let answer = ended.answer;
-    if let Search::Found(_) = answer {
-        read_back(sheet, &values[..v], instance);
-        return answer;
-    }
-    answer
-}
-
-// Counting, and the search of a sheet of which a call with no steps was spent.
-fn take_up(
-    sheet: &[u8],
-    list: &[i32],
-    values: &mut [u8],
-    trail: &mut [i32],
-    instance: &mut [u8],
-) -> Search
-    requires { ⌜ SomeBegun (now sheet) (slices (now list) (now values) (now trail) (now instance)) ⌝ }
-    ensures { λ r. ⌜ ((lent : Slices)
-        → Begun (now (sheet .entry)) lent
-        (slices (now (list .entry)) (now (values .entry)) (now (trail .entry)) (now (instance .entry)))
-        → Left (now (sheet .entry)) lent mostSteps (answerOf r)
-        (slices (now (list .entry)) (now (values .exit)) (now (trail .exit)) (now (instance .exit)))) ⌝ }
-{
-    let counted = count(sheet);
-    match counted {
-        Count::Refused(r) => Search::Refused(r),
-        Count::Fits(size) => run_on(sheet, size, list, values, trail, instance),
-    }
-}
 
 // From a sheet to an answer, as `solve::find`, and the search is taken up by 1,000,000 steps at a time until it ends. The answer and what
 // it leaves are those of the definition `finding` with a budget of all those steps; `Finds` says in the paper's words what the answer means.
@@ -96,4 +43,31 @@ pub fn find_on(
         return take_up(sheet, list, values, trail, instance);
     }
     begun
+}
+
+// Reads the input as a sheet, and writes to the front of the text what the finder prints, of a search that is taken up until it ends. What
+// the bytes are is said as of `report::finder::find_text`, with a budget of all the steps.
+pub fn find_on_text(
+    input: &[u8],
+    list: &mut [i32; 16384],
+    values: &mut [u8; 16000],
+    trail: &mut [i32; 16000],
+    instance: &mut [u8; 1024],
+    text: &mut [u8; 2048],
+) -> usize
+    ensures { λ r. ⌜ (r ≤ length (now (text .exit))) × (r ≡ length (take r (now (text .exit)))) ⌝ }
+    ensures { λ r. ⌜ Prints
+        (findingText mostSteps (now (input .entry))
+        (slices (now (list .entry)) (now (values .entry)) (now (trail .entry)) (now (instance .entry))))
+        (now (text .entry)) (now (text .exit)) r ⌝ }
+    ensures { λ r. ⌜ slices (now (list .exit)) (now (values .exit)) (now (trail .exit)) (now (instance .exit))
+        ≡ slicesAfter mostSteps (now (input .entry))
+        (slices (now (list .entry)) (now (values .entry)) (now (trail .entry)) (now (instance .entry))) ⌝ }
+    ensures { λ r. ⌜ Tells (now (input .entry)) (take r (now (text .exit))) ⌝ }
+{
+    if input.len() > 4096 {
+        return put_end(text, b"refused ", 2);
+    }
+    let ended = find_on(input, list, values, trail, instance);
+    put_report(text, input, ended, instance)
 }

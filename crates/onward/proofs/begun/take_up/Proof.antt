@@ -2,8 +2,8 @@
 use borrow.Author.Needs.{needs}
 use Rattle.solve.proofs.ReadBacks.{count-refused, count-sized}
 use Rattle.onward.proofs.TakenUp.{not-refused}
-use Rattle.onward.proofs.take_up.Statement.{statement}
-use Rattle.onward.proofs.take_up.Tie as tie
+use Rattle.onward.proofs.begun.take_up.Statement.{statement}
+use Rattle.onward.proofs.begun.take_up.Tie as tie
 
 count-requires : tie.Need-count-requires
 count-requires c κs = search needs

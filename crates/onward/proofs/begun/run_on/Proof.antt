@@ -9,8 +9,8 @@ use Rattle.clauses.proofs.Answered.{count-fits}
 use Rattle.solve_rules.specs.Finding.{slices}
 use Rattle.onward.proofs.AnswerTests.{was-found, not-found}
 use Rattle.onward.proofs.TakenUp.{Fit, fit, leaves-found, leaves-kept}
-use Rattle.onward.proofs.run_on.Statement.{statement}
-use Rattle.onward.proofs.run_on.Tie as tie
+use Rattle.onward.proofs.begun.run_on.Statement.{statement}
+use Rattle.onward.proofs.begun.run_on.Tie as tie
 
 -- the sheet's numbers fit
 fitting : (s : tie.Start) → Fit (s .args .size) (slices (s .args .list .now) (s .args .values .now) (s .args .trail .now) (s .args .instance .now))
