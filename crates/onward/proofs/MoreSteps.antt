@@ -14,7 +14,7 @@ use Rattle.search_rules.specs.Held.{noState}
 use Rattle.search_rules.proofs.Theorems.{again, resume}
 use Rattle.search.specs.declared.answer.Position.{Position}
 use Rattle.search.specs.Answers.{Answer, spent, answerAt, Outcome, finish, searchRun, outcome}
-use Rattle.search.specs.Resumed.{Resumption, after, finishAfter, startOf, resumedRun, resumption}
+use Rattle.search.specs.Resumed.{Resumption, addSteps, finishAfter, startOf, resumedRun, resumption}
 use Rattle.search.proofs.Outcomes as search
 use Rattle.search.proofs.Resumptions.{no-list, short-values, short-trail, no-state, runs}
 
@@ -30,8 +30,8 @@ stays list v n (wasFound t s) h = refl
 stays list v n (wasSpent t s) h = absurd (h _ refl)
 
 -- the steps done before do not make it so
-still-unspent : (done : ℕ) (a : Answer) → Unspent (after done a) → Unspent a
-still-unspent done a h steps e = h (done + steps) (ap (after done) e)
+still-unspent : (done : ℕ) (a : Answer) → Unspent (addSteps done a) → Unspent a
+still-unspent done a h steps e = h (done + steps) (ap (addSteps done) e)
 
 -- a resumed call
 module _ (list : List ℤ) (v : ℕ) (values : List ℕ) (trail : List ℤ) (p : Position) (m n : ℕ) (few : p .steps + (m + n) ≤ 18446744073709551615)
