@@ -13,23 +13,30 @@ use Rattle.search.proofs.Resuming.{same-as-one}
 use Rattle.onward.specs.Limits.{mostSteps}
 use Rattle.onward.proofs.MoreSteps.{Unspent, more-steps}
 
+-- the calls that are made at most, and the steps of each
+abbrev most-calls : ℕ
+most-calls = 18446744073709
+
+abbrev per-call : ℕ
+per-call = 1000000
+
 -- the steps allowed so far, where so many calls are left
-abbrev sofar : ℕ → ℕ
-sofar calls = (18446744073709 - calls) * 1000000
+abbrev so-far : ℕ → ℕ
+so-far calls = (most-calls - calls) * per-call
 
 -- where the calls stand
 pub record Loop (list : List ℤ) (v : ℕ) (values₀ : List ℕ) (trail₀ : List ℤ) (values : List ℕ) (trail : List ℤ) (p : Position) (calls : ℕ)
     : Type 0 where
   pub wide : length values ≡ length values₀
   pub deep : length trail ≡ length trail₀
-  pub few : calls ≤ 18446744073709
-  pub chain : (n : ℕ) (r : Resumption) → Chain list v values trail p n r → Chain list v values₀ trail₀ start (sofar calls + n) r
+  pub few : calls ≤ most-calls
+  pub chain : (n : ℕ) (r : Resumption) → Chain list v values trail p n r → Chain list v values₀ trail₀ start (so-far calls + n) r
 
 module _ (list : List ℤ) (v : ℕ) (values₀ : List ℕ) (trail₀ : List ℤ) where
   abbrev From : Resumption → ℕ → Type 0
   From r n = Chain list v values₀ trail₀ start n r
 
-  pub begins : Loop list v values₀ trail₀ values₀ trail₀ start 18446744073709
+  pub begins : Loop list v values₀ trail₀ values₀ trail₀ start most-calls
   begins = record {
     wide = refl;
     deep = refl;
@@ -45,19 +52,19 @@ module _ (list : List ℤ) (v : ℕ) (values₀ : List ℕ) (trail₀ : List ℤ
     -- no call is left: a call with no steps says where the search stands
     pub at-end : calls ≤ 0 → (r : Resumption) → r ≡ resumption list v values trail p 0 → r ≡ resumption list v values₀ trail₀ start mostSteps
     at-end h r call =
-        let e : sofar calls + 0 ≡ mostSteps = omega arith in
+        let e : so-far calls + 0 ≡ mostSteps = omega arith in
         call ∙ one-call mostSteps _ (omega arith) (subst (From _) e (l .chain 0 _ (last 0)))
 
     -- one call more
     module _ (some : 0 < calls) (a : Answer) (vs : List ℕ) (ts : List ℤ) (q : Position)
-        (call : left a vs ts q ≡ resumption list v values trail p 1000000) where
+        (call : left a vs ts q ≡ resumption list v values trail p per-call) where
       -- it is not spent
       pub ended : Unspent a → left a vs ts q ≡ resumption list v values₀ trail₀ start mostSteps
       ended h =
-          let m = sofar calls + 1000000 in
-          let n = (calls - 1) * 1000000 in
+          let m = so-far calls + per-call in
+          let n = (calls - 1) * per-call in
           let e : m + n ≡ mostSteps = omega (arith, l .few) in
-          let d = call ∙ one-call m _ (omega (arith, l .few)) (l .chain 1000000 _ (last 1000000)) in
+          let d = call ∙ one-call m _ (omega (arith, l .few)) (l .chain per-call _ (last per-call)) in
           d
           ∙ sym (more-steps list v values₀ trail₀ start m n (omega (arith, e)) λ steps f. h steps (ap (λ r. r .outcome .answer) d ∙ f))
           ∙ ap (resumption list v values₀ trail₀ start) e
@@ -70,8 +77,8 @@ module _ (list : List ℤ) (v : ℕ) (values₀ : List ℕ) (trail₀ : List ℤ
         deep = deep ∙ l .deep;
         few = omega (arith, l .few);
         chain = λ n r c.
-            let d : sofar calls + (1000000 + n) ≡ sofar (calls - 1) + n = omega (arith, l .few) in
+            let d : so-far calls + (per-call + n) ≡ so-far (calls - 1) + n = omega (arith, l .few) in
             let f = sym (ap (λ x. x .outcome .answer) call) ∙ e in
             let g = subst (λ (x : Resumption). Chain list v (x .outcome .values) (x .outcome .trail) (x .position) n r) call c in
-            subst (From r) d (l .chain (1000000 + n) r (spends 1000000 f g));
+            subst (From r) d (l .chain (per-call + n) r (spends per-call f g));
       }

@@ -36,6 +36,7 @@ fn run_on(
     let w = size.words;
     let ended = go_on(&list[..w], v as u32, values, trail);
     let position = ended.position;
+    // more steps than those of one call: the first was spent, and shown
     end_line(position.steps > STEPS);
     let answer = ended.answer;
     if let Search::Found(_) = answer {
