@@ -1,4 +1,4 @@
-// The stored inputs of data/, through the finder and through `cnf`.
+// The stored inputs of data/, through the finder, through the finder that goes on, and through `cnf`.
 fn open(name: &[u8]) -> i32 {
     let fd = os::open_read(name);
     if fd < 0 {
@@ -13,6 +13,15 @@ fn find(name: &[u8]) {
     io::write_all(1, b"\n");
     let fd = open(name);
     console_finder::find(fd);
+    libc::close(fd);
+}
+
+fn find_on(name: &[u8]) {
+    io::write_all(1, b"finder_on ");
+    io::write_all(1, name);
+    io::write_all(1, b"\n");
+    let fd = open(name);
+    console_finder_on::find_on(fd);
     libc::close(fd);
 }
 
@@ -48,6 +57,9 @@ fn main() {
     both(b"bytes_4097");
     find(b"cycle");
     find(b"spent");
+    find_on(b"spent");
+    find_on(b"rows");
+    find_on(b"closure_8");
     find(b"closure_8");
     both(b"some_4096");
     both(b"closures_12");
