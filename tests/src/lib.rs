@@ -8,6 +8,7 @@ pub mod deep;
 pub mod dimacs;
 pub mod every_kind;
 pub mod finder;
+pub mod long_search;
 pub mod meaning;
 pub mod random;
 pub mod random_damage;

@@ -5,7 +5,7 @@ use crate::random::Source;
 use crate::resume::Position;
 use crate::search::{search, Answer, CHOSEN, FALSE, OPEN, TRUE};
 
-#[derive(Clone, Debug, PartialEq, Eq)]
+#[derive(Clone, Debug)]
 pub struct Call {
     pub list: Vec<i32>,
     pub v: u32,

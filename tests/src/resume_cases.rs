@@ -1,5 +1,7 @@
 //! Change 1 of document 02 by hand: K1 in slices, the conditions of 14 one by one, and a "none" that is none of the list's.
 
+use crate::finder::finder_on;
+use crate::long_search::{long, of_15_625};
 use crate::resume::{faults, resume, Fault, Position};
 use crate::search::{Answer, End};
 use crate::sheet::{LIST, SHORT, STATE};
@@ -91,4 +93,21 @@ fn a_none_from_a_state_not_reached() {
     let (mut values, mut trail, mut position) = ([0, 0], [-1, -2], at(2, 0));
     let answer = resume(&[2, 1, 2], 2, &mut values, &mut trail, &mut position, 9);
     assert_eq!(answer, Ok(Answer { end: End::None, steps: 0 }));
+}
+
+#[test]
+fn long_searches() {
+    let steps = |ahead: &[(u8, u8)], forced| finder_on(&long(ahead, forced, false).bytes());
+    let none = |steps: u64| format!("none {steps}\n");
+    let t = 20;
+    for n in 1..=8 {
+        let wide = u64::from(n);
+        let pairs = wide * (wide - 1) / 2;
+        assert_eq!(steps(&[(n, 0), (1, 0)], 0), none(t << n));
+        assert_eq!(steps(&[(n, 1), (1, 0)], 0), none((wide + 1) * t + pairs));
+        assert_eq!(steps(&[(n, 2), (1, 0)], 0), none(wide * t + pairs + 1));
+        assert_eq!(steps(&[(1, 0)], n), none(t + wide));
+    }
+    assert_eq!(finder_on(&of_15_625(1, 1).bytes()), none(31_251));
+    assert_eq!(finder_on(&long(&[(8, 0)], 0, true).bytes()), "found 2576\nr0 1\nr1 00000000\nr2 01\n");
 }
