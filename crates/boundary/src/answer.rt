@@ -31,6 +31,12 @@ pub struct SearchAnswer {
     pub steps: u64,
 }
 
+// The numbers of a resumed search, and the position that it leaves.
+pub struct ResumedAnswer {
+    pub answer: SearchAnswer,
+    pub position: search::answer::Position,
+}
+
 // The cells that read-back copied.
 #[repr(C)]
 pub struct ReadBackAnswer {

@@ -1,13 +1,16 @@
-// Search, read-back, and the whole run over lent slices.
+// Search, a search taken up again, read-back, and the whole run over lent slices.
 ghost use mathlib.Core.Path.{_≡_};
 ghost use Rattle.search.specs.Answers as searched;
 ghost use Rattle.search.specs.Answers.{outcome};
+ghost use Rattle.search.specs.Resumed.{resumption};
 ghost use Rattle.solve_rules.specs.Answers as back;
 ghost use Rattle.solve.specs.Answers.{answerOf};
 ghost use Rattle.solve_rules.specs.Finding.{slices, finding};
 ghost use Rattle.boundary.specs.Numbers.{searchNumbers, copyNumbers};
 use super::answer::ReadBackAnswer;
+use super::answer::ResumedAnswer;
 use super::answer::SearchAnswer;
+use search::answer::Position;
 use search::answer::Search;
 use solve::answer::ReadBack;
 
@@ -51,6 +54,56 @@ pub extern "C" fn fawnloom_search(
     ensures { λ r. ⌜ now (trail .exit) ≡ outcome (now (list .entry)) v (now (values .entry)) (now (trail .entry)) budget .trail ⌝ }
 {
     search_numbers(search::search(list, v, values, trail, budget))
+}
+
+// The search taken up again, by value.
+fn resumed_answer(
+    list: &[i32],
+    v: u32,
+    values: &mut [u8],
+    trail: &mut [i32],
+    position: Position,
+    budget: u64,
+) -> ResumedAnswer
+    ensures { λ r. ⌜ r .answer
+        ≡ searchNumbers (resumption (now (list .entry)) v (now (values .entry)) (now (trail .entry)) position budget .outcome .answer) ⌝ }
+    ensures { λ r. ⌜ now (values .exit)
+        ≡ resumption (now (list .entry)) v (now (values .entry)) (now (trail .entry)) position budget .outcome .values ⌝ }
+    ensures { λ r. ⌜ now (trail .exit)
+        ≡ resumption (now (list .entry)) v (now (values .entry)) (now (trail .entry)) position budget .outcome .trail ⌝ }
+    ensures { λ r. ⌜ r .position
+        ≡ resumption (now (list .entry)) v (now (values .entry)) (now (trail .entry)) position budget .position ⌝ }
+{
+    let ended = search::resumed(list, v, values, trail, position, budget);
+    let end = ended.answer;
+    let answer = search_numbers(end);
+    let position = ended.position;
+    ResumedAnswer { answer, position }
+}
+
+// The search taken up again at the position that is lent by its address.
+#[no_mangle]
+pub extern "C" fn fawnloom_resume(
+    list: &[i32],
+    v: u32,
+    values: &mut [u8],
+    trail: &mut [i32],
+    position: &mut Position,
+    budget: u64,
+) -> SearchAnswer
+    ensures { λ r. ⌜ r
+        ≡ searchNumbers (resumption (now (list .entry)) v (now (values .entry)) (now (trail .entry)) (now (position .entry)) budget .outcome .answer) ⌝ }
+    ensures { λ r. ⌜ now (values .exit)
+        ≡ resumption (now (list .entry)) v (now (values .entry)) (now (trail .entry)) (now (position .entry)) budget .outcome .values ⌝ }
+    ensures { λ r. ⌜ now (trail .exit)
+        ≡ resumption (now (list .entry)) v (now (values .entry)) (now (trail .entry)) (now (position .entry)) budget .outcome .trail ⌝ }
+    ensures { λ r. ⌜ now (position .exit)
+        ≡ resumption (now (list .entry)) v (now (values .entry)) (now (trail .entry)) (now (position .entry)) budget .position ⌝ }
+{
+    let p = *position;
+    let ended = resumed_answer(list, v, values, trail, p, budget);
+    *position = ended.position;
+    ended.answer
 }
 
 fn copy_numbers(answer: ReadBack) -> ReadBackAnswer

@@ -1,4 +1,11 @@
 pub mod Theorems
 pub mod Cases
+pub mod ResumedCases
 pub mod Outcomes
+pub mod Resumptions
+pub mod ResumedCalls
+pub mod Resuming
+pub mod ResumedTheorems
 mod Settled
+pub mod Lent
+pub mod LentWalk

@@ -21,7 +21,8 @@ use Rattle.search_rules.proofs.Ranges.{fine-list, ranged}
 use Rattle.search_rules.proofs.Theorems as rules
 use Rattle.search.specs.Answers.{Answer, found, none, spent, refused, answerAt, valuesAt, trailAt, Outcome, refuse, finish}
 use Rattle.search.specs.Answers.{searchRun, outcome}
-use Rattle.search.proofs.Outcomes.{no-list, short-values, short-trail, runs}
+use Rattle.search.specs.Resumed.{addSteps}
+use Rattle.search.proofs.Outcomes.{no-list, short-values, short-trail, runs, adds-zero, was-none, was-found, was-spent, found-values}
 
 module _ (list : List ℤ) (v : ℕ) (values : List ℕ) (trail : List ℤ) (budget : ℕ) where
   abbrev call : Outcome
@@ -45,32 +46,16 @@ module _ (list : List ℤ) (v : ℕ) (values : List ℕ) (trail : List ℤ) (bud
       by true true true d e f = inr (record { is-list = d; ends = runs list v values trail budget d (leb-true _ _ e) (leb-true _ _ f) })
 
   -- an answer that is no refusal is that of the run
-  answered : (a : Answer) → ((n : ℕ) → refused n ≡ a → ⊥) → call .answer ≡ a → Runs × (answerAt (searchRun list v budget) ≡ a)
-  answered a h e = ⊎-elim (λ c. absurd (h (c .0) (sym (ap (λ o. o .answer) (c .1)) ∙ e))) (λ r. (r, sym (ap (λ o. o .answer) (r .ends)) ∙ e)) called
-
-  was-none : (end : End) (steps : ℕ) → answerAt end ≡ none steps → (t : Tally) × (end ≡ wasNone t)
-  unfolding answerAt
-  was-none (wasNone t) steps e = (t, refl)
-  was-none (wasFound t s) steps e = absurd (let z : _≡_ {A = ℕ} 0 1 = cc in omega arith)
-  was-none (wasSpent t s) steps e = absurd (let z : _≡_ {A = ℕ} 0 1 = cc in omega arith)
-
-  was-found : (end : End) (steps : ℕ) → answerAt end ≡ found steps → (t : Tally) × (s : State) × (end ≡ wasFound t s)
-  unfolding answerAt
-  was-found (wasNone t) steps e = absurd (let z : _≡_ {A = ℕ} 0 1 = cc in omega arith)
-  was-found (wasFound t s) steps e = (t, s, refl)
-  was-found (wasSpent t s) steps e = absurd (let z : _≡_ {A = ℕ} 0 1 = cc in omega arith)
-
-  was-spent : (end : End) (steps : ℕ) → answerAt end ≡ spent steps → (t : Tally) × (s : State) × (end ≡ wasSpent t s) × (total t ≡ steps)
-  unfolding answerAt
-  was-spent (wasNone t) steps e = absurd (let z : _≡_ {A = ℕ} 0 1 = cc in omega arith)
-  was-spent (wasFound t s) steps e = absurd (let z : _≡_ {A = ℕ} 0 1 = cc in omega arith)
-  was-spent (wasSpent t s) steps e = (t, s, refl, cc)
+  answered : (a : Answer) → ((n : ℕ) → refused n ≡ a → ⊥) → call .answer ≡ a → Runs × (addSteps 0 (answerAt (searchRun list v budget)) ≡ a)
+  answered a h e =
+      ⊎-elim (λ c. absurd (h (c .0) (sym (ap (λ o. o .answer) (c .1)) ∙ e)))
+      (λ r. (r, adds-zero (searchRun list v budget) ∙ sym (ap (λ o. o .answer) (r .ends)) ∙ e)) called
 
   -- "none" only if no assignment satisfies all clauses
   pub none-unsatisfiable : (steps : ℕ) → call .answer ≡ none steps → (a : List ℕ) → Satisfying v (clausesOf list) a → ⊥
   none-unsatisfiable steps e =
       let r = answered (none steps) (λ n d. let z : _≡_ {A = ℕ} 0 1 = cc in omega arith) e in
-      let w = was-none (searchRun list v budget) steps (r .1) in
+      let w = was-none 0 (searchRun list v budget) steps (r .1) in
       rules.none-unsatisfiable (clausesOf list) v budget (w .0) (w .1)
 
   -- "found" only with values, each 0 or 1, that satisfy every clause
@@ -78,12 +63,11 @@ module _ (list : List ℤ) (v : ℕ) (values : List ℕ) (trail : List ℤ) (bud
   unfolding valuesAt
   found-satisfies steps e =
       let r = answered (found steps) (λ n d. let z : _≡_ {A = ℕ} 0 1 = cc in omega arith) e in
-      let w = was-found (searchRun list v budget) steps (r .1) in
+      let w = was-found 0 (searchRun list v budget) steps (r .1) in
       let s = rules.found-satisfies (clausesOf list) v (ranged v list (fine-list v list (r .0 .is-list))) budget zeros (w .0) [] (w .1) (w .2) in
-      let m : length (map settle (valuesOf v (w .1))) ≡ v = length-map (valuesOf v (w .1)) settle ∙ length-values v (w .1) in
       let q : call .values ≡ map settle (valuesOf v (w .1)) ++ drop v values =
       ap (λ o. o .values) (r .0 .ends) ∙ ap (λ x. valuesAt v x ++ drop v values) (w .2) in
-      rw (q, take-at (map settle (valuesOf v (w .1))) (drop v values) v m) s
+      rw (q, found-values v (w .1) values) s
 
   -- "spent", of a call that is not refused, exactly when no end is reached after at most the budget's steps
   pub spent-exactly : isList v list ≡ true → v ≤ length values → v ≤ length trail
@@ -92,7 +76,7 @@ module _ (list : List ℤ) (v : ℕ) (values : List ℕ) (trail : List ℤ) (bud
   spent-exactly p h k =
       let x = rules.spent-exactly (clausesOf list) v budget zeros [] in
       let r = ap (λ o. o .answer) (runs list v values trail budget p h k) in (
-        λ y. let w = was-spent (searchRun list v budget) (y .0) (sym r ∙ y .1) in x .0 (w .0, w .1, w .2),
+        λ y. let w = was-spent 0 (searchRun list v budget) (y .0) (adds-zero (searchRun list v budget) ∙ sym r ∙ y .1) in x .0 (w .0, w .1, w .2),
         λ n. let w = x .1 n in (total (w .0), r ∙ ap answerAt (w .2)),
       )
 
@@ -108,10 +92,10 @@ module _ (list : List ℤ) (v : ℕ) (values : List ℕ) (trail : List ℤ) (bud
   unfolding valuesAt trailAt total
   spent-state steps e =
       let r = answered (spent steps) (λ n d. let z : _≡_ {A = ℕ} 0 1 = cc in omega arith) e in
-      let w = was-spent (searchRun list v budget) steps (r .1) in
+      let w = was-spent 0 (searchRun list v budget) steps (r .1) in
       let s = rules.spent-state (clausesOf list) v budget zeros (w .0) [] (w .1) (w .2) in
       record {
-        all-done = sym (w .3) ∙ s .1 ∙ zero-add budget;
+        all-done = sym (w .3) ∙ zero-add (total (w .0)) ∙ s .1 ∙ zero-add budget;
         state = w .1;
         is-after = s .0;
         values-are = ap (λ o. o .values) (r .0 .ends) ∙ ap (λ x. valuesAt v x ++ drop v values) (w .2);

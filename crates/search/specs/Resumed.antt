@@ -25,11 +25,11 @@ abbrev pub decline : ℕ → List ℕ → List ℤ → Position → Resumption
 decline number values trail p = record { outcome = refuse number values trail; position = p }
 
 -- "steps done .. so far", with those of a call
-abbrev pub after : ℕ → Answer → Answer
-after done (found n) = found (done + n)
-after done (none n) = none (done + n)
-after done (spent n) = spent (done + n)
-after done (refused number) = refused number
+abbrev pub addSteps : ℕ → Answer → Answer
+addSteps done (found n) = found (done + n)
+addSteps done (none n) = none (done + n)
+addSteps done (spent n) = spent (done + n)
+addSteps done (refused number) = refused number
 
 -- "writes the new length and the total of steps to the record (length 0 after "none")"
 abbrev pub positionAt : ℕ → End → Position
@@ -40,7 +40,7 @@ positionAt done (wasSpent t state) = record { length = length state; steps = don
 -- the end of a run, after so many steps; only the first v bytes and words are touched
 abbrev pub finishAfter : ℕ → ℕ → List ℕ → List ℤ → End → Resumption
 finishAfter done v values trail end =
-    left (after done (answerAt end)) (valuesAt v end ++ drop v values) (trailAt v end ++ drop v trail) (positionAt done end)
+    left (addSteps done (answerAt end)) (valuesAt v end ++ drop v values) (trailAt v end ++ drop v trail) (positionAt done end)
 
 -- the state that the first v bytes and words hold with the record
 abbrev pub startOf : ℕ → List ℕ → List ℤ → Position → State

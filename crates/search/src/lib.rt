@@ -1,5 +1,6 @@
 // The search (document 01, "Search"; document 02, Change 1): the rules' run over lent slices, from a fresh start or taken up again.
 ghost use mathlib.Core.Path.{_≡_};
+ghost use Rattle.search.specs.declared.answer.Search.the-variants.{Refused};
 ghost use Rattle.search.specs.Answers.{answerOf, outcome};
 ghost use Rattle.search.specs.Resumed.{left, resumption};
 use answer::Position;
@@ -39,7 +40,7 @@ pub fn search(list: &[i32], v: u32, values: &mut [u8], trail: &mut [i32], budget
 
 // A refusal of a resumed call: the position stays.
 fn refused(refusal: Refusal, position: Position) -> Resumed
-    ensures { λ r. ⌜ (answerOf (r .answer) ≡ answerOf (Refused refusal)) × (r .position ≡ position) ⌝ }
+    ensures { λ r. ⌜ (r .answer ≡ Refused refusal) × (r .position ≡ position) ⌝ }
 {
     let answer = Search::Refused(refusal);
     Resumed { answer, position }

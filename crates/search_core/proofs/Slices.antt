@@ -5,8 +5,8 @@ use Prim.Native.Nat.{ℕ, zero, suc, _+_, _-_, _<_, _≤_}
 use native.Mathlib.Omega.{arith}
 use native.Mathlib.Numerals.{add-one}
 use lib.IntN.{ℤ, pos, negsuc, negℤ}
-use lib.ListN.{length, getD, take, set, replicate, length-set, length-replicate, getD-replicate}
-use lib.Seq.{getD-set-same, getD-set-other, set-set, set-getD, take-suc-set, take-all}
+use lib.ListN.{length, getD, take, set, replicate}
+use lib.Seq.{getD-set-same, set-set, set-getD, take-suc-set, take-all}
 use Rattle.literal.specs.Literals.{lastVariable, oppositeWord, positiveWord}
 use Rattle.literal.proofs.Words.{opposite-is, positive-is}
 use Rattle.search_rules.specs.Held.{InRange, WasOpen, Stored}
@@ -15,74 +15,7 @@ use Rattle.search_rules.specs.Rules.{Entry, propagated, decided, State, wordOf,
 use Rattle.search_rules.specs.Rules.{step, backtrack, turn}
 use Rattle.search_rules.proofs.Found.{place-below}
 use Rattle.search_rules.proofs.Invariant.{length-values}
-
--- open variables, counted
-one : ℕ → ℕ
-one zero = 0
-one (suc zero) = 0
-one (suc (suc zero)) = 1
-one (suc (suc (suc n))) = 0
-
-opens : List ℕ → ℕ
-opens [] = 0
-opens (b ∷ values) = one b + opens values
-
-one-open : (b : ℕ) → b ≡ 2 → one b ≡ 1
-unfolding one
-one-open b e = rw e refl
-
-opens-set : (values : List ℕ) (i b : ℕ) → i < length values → getD values i 2 ≡ 2 → one b ≡ 0 → opens (set values i b) + 1 ≡ opens values
-unfolding opens
-opens-set [] i b h e t = absurd (omega arith)
-opens-set (x ∷ values) zero b h e t = omega (arith, one-open x e)
-opens-set (x ∷ values) (suc i) b h e t = omega (arith, opens-set values i b (omega arith) e t)
-
-opens-fill : (v : ℕ) → opens (replicate v 2) ≡ v
-unfolding opens one
-opens-fill zero = refl
-opens-fill (suc v) = omega (arith, opens-fill v)
-
-one-byte : (e : Entry) → one (byteOf e) ≡ 0
-unfolding one byteOf
-one-byte (propagated (pos n)) = refl
-one-byte (propagated (negsuc n)) = refl
-one-byte (decided i) = refl
-
-entry-within : (v : ℕ) (state : State) (e : Entry) → InRange v (wordOf e) → placeOf (wordOf e) < length (valuesOf v state)
-entry-within v state e r = rw (length-values v state) (place-below v (wordOf e) r)
-
--- every variable is open or on the trail
-counted : (v : ℕ) (state : State) → WasOpen v state → opens (valuesOf v state) + length state ≡ v
-unfolding valuesOf WasOpen
-counted v [] h = omega (arith, opens-fill v)
-counted v (e ∷ state) h =
-    omega (
-      arith,
-      counted v state (h .2),
-      opens-set (valuesOf v state) (placeOf (wordOf e)) (byteOf e) (entry-within v state e (h .0)) (h .1) (one-byte e),
-    )
-
-some-open : (values : List ℕ) (i : ℕ) → i < length values → getD values i 2 ≡ 2 → 1 ≤ opens values
-unfolding opens
-some-open [] i h e = absurd (omega arith)
-some-open (b ∷ values) zero h e = omega (arith, one-open b e)
-some-open (b ∷ values) (suc i) h e = omega (arith, some-open values i (omega arith) e)
-
--- an open variable leaves room on the trail
-pub room : (v : ℕ) (state : State) (i : ℕ) → WasOpen v state → i < v → getD (valuesOf v state) i 2 ≡ 2 → length state < v
-room v state i h l e = omega (arith, counted v state h, some-open (valuesOf v state) i (rw (length-values v state) l) e)
-
-pub length-trail : (v : ℕ) (state : State) → length (trailOf v state) ≡ v
-unfolding trailOf
-length-trail v [] = length-replicate v (pos 0)
-length-trail v (e ∷ state) = simp length-set (length-trail v state)
-
--- words past the trail are 0
-past : (v : ℕ) (state : State) (i : ℕ) → length state ≤ i → i < v → getD (trailOf v state) i (pos 0) ≡ pos 0
-unfolding trailOf
-past v [] i h k = getD-replicate v i (pos 0) (pos 0) k
-past v (e ∷ state) i h k =
-    getD-set-other (trailOf v state) (length state) i (wordOf e) (pos 0) (λ d. omega arith) ∙ past v state i (omega arith) k
+use Rattle.search_rules.proofs.Trails.{room, length-trail, past}
 
 -- the lengths of slices that hold a state
 module _ (v : ℕ) (state : State) (values : List ℕ) (trail : List ℤ) (n : ℕ) (s : Stored v state values trail n) where

@@ -21,8 +21,9 @@ use Rattle.search_rules.specs.Rules.{conflict, firstUnit, lowestOpen, propagate
 use Rattle.search_rules.specs.Rules.{trailOf, Kind, propagation, backtrack, Next, endNone, endFound, step, turn, decide, next}
 use Rattle.search_rules.proofs.Found.{place-below}
 use Rattle.search_rules.proofs.Invariant.{OpenIn}
-use Rattle.search_core.proofs.Slices.{room, put-top, size-values, size-trail}
 use Rattle.search_rules.proofs.StepView.{Lowest, low-cases, turns-of}
+use Rattle.search_rules.proofs.Trails.{room}
+use Rattle.search_core.proofs.Slices.{put-top, size-values, size-trail}
 
 -- what a look shows, rule by rule
 module _ (values : List ℕ) (clauses : List (List ℤ)) where

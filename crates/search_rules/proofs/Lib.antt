@@ -6,4 +6,11 @@ pub mod Invariant
 pub mod Found
 pub mod Reached
 pub mod Theorems
+pub mod Again
+pub mod Trails
+mod Conditions
+mod Decoding
+mod Storing
+pub mod StateHeld
 pub mod Cases
+pub mod StateCases

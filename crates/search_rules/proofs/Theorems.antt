@@ -3,8 +3,9 @@
 use mathlib.Core.Path.{_≡_, refl}
 use mathlib.Core.Logic.{⊎-elim, _↔_}
 use mathlib.Core.List.{List, [], map}
-use mathlib.Core.Option.{some}
+use mathlib.Core.Option.{Option, none, some}
 use Prim.Native.Nat.{ℕ, zero, suc, _+_}
+use native.Mathlib.Omega.{arith}
 use native.Mathlib.Nat.{zero-add, suc-add}
 use lib.IntN.{ℤ}
 use Rattle.clause_list.specs.ClauseList.{Satisfying}
@@ -19,14 +20,36 @@ use Rattle.search_rules.proofs.Found.{found-satisfying}
 use Rattle.search_rules.proofs.Reached.{spending, spent-not-ended, ended-or-spent}
 
 module _ (clauses : List (List ℤ)) (v : ℕ) where
-  -- "none" from a fresh start only if no assignment satisfies all clauses
-  pub none-unsatisfiable : (budget : ℕ) (t : Tally) → run clauses v budget zeros [] ≡ wasNone t → (a : List ℕ) → Satisfying v clauses a → ⊥
+  -- the rules' steps keep what every satisfying assignment has
+  follows-after : (a : List ℕ) → Satisfying v clauses a → (n : ℕ) (start state : State) → Follows (assignment a) start
+      → after clauses v n start ≡ some state → Follows (assignment a) state
+  unfolding after
+  follows-after a s zero start state f e = let q : start ≡ state = cc in rw q at f
+  follows-after a s (suc n) start state f e = by (next clauses v start) refl (λ s' g. follows-after a s n s' state g) e
+    where
+      by : (x : Next) → next clauses v start ≡ x
+          → ((s' : State) → Follows (assignment a) s' → after clauses v n s' ≡ some state → Follows (assignment a) state)
+          → elim x as (λ _. Option State) [ endNone ↦ none | endFound ↦ none | step kind s' ↦ after clauses v n s' ] ≡ some state
+          → Follows (assignment a) state
+      by endNone d on e = absurd (let z : _≡_ {A = ℕ} 0 1 = cc in omega arith)
+      by endFound d on e = absurd (let z : _≡_ {A = ℕ} 0 1 = cc in omega arith)
+      by (step kind s') d on e = on s' (follows-keeps clauses v (assignment a) (model-of a clauses (s .holds)) start kind s' f d) e
+
+  -- "none" from a state that the rules reach from a fresh start only if no assignment satisfies all clauses
+  pub none-reached : (k budget : ℕ) (t t' : Tally) (state : State) → after clauses v k [] ≡ some state
+      → run clauses v budget t state ≡ wasNone t' → (a : List ℕ) → Satisfying v clauses a → ⊥
   unfolding Ends Follows
-  none-unsatisfiable budget t e a s =
+  none-reached k budget t t' state r e a s =
       let m = model-of a clauses (s .holds) in
       let p = run-ends clauses v (λ t state. Follows (assignment a) state)
-      (λ t state kind s f d. follows-keeps clauses v (assignment a) m state kind s f d) budget zeros [] (wasNone t) tt e in
+      (λ t state kind s f d. follows-keeps clauses v (assignment a) m state kind s f d) budget t state (wasNone t')
+      (follows-after a s k [] state tt r) e in
       follows-not-none clauses v (assignment a) m (p .0) (p .1) (p .2)
+
+  -- and so from a fresh start
+  pub none-unsatisfiable : (budget : ℕ) (t : Tally) → run clauses v budget zeros [] ≡ wasNone t → (a : List ℕ) → Satisfying v clauses a → ⊥
+  unfolding after
+  none-unsatisfiable budget t e = none-reached 0 budget zeros t [] refl e
 
   -- "found", from any state, only with values, each 0 or 1, that satisfy every clause
   pub found-satisfies : Ranged v clauses → (budget : ℕ) (t t' : Tally) (state s : State) → run clauses v budget t state ≡ wasFound t' s

@@ -1,9 +1,94 @@
 // Number 14 but for the steps (document 02, Change 1): whether values, trail and a length hold a state of the rules.
 ghost use mathlib.Core.Path.{_≡_};
-ghost use mathlib.Core.Bool.{not};
+ghost use mathlib.Core.Bool.{not, false, _&&_};
 ghost use Prim.Native.Nat.{_≤_};
-ghost use lib.ListN.{length};
-ghost use Rattle.search_rules.specs.Held.{noState};
+ghost use lib.IntN.{pos, natAbs};
+ghost use lib.ListN.{length, getD, replicate};
+ghost use Rattle.prelude.specs.Tests.{each, any};
+ghost use Rattle.literal.specs.Literals.{isLiteral};
+ghost use Rattle.search_rules.specs.Rules.{sameLiteral, placeOf};
+ghost use Rattle.search_rules.specs.Held.{goesWith, noState};
+ghost use Rattle.search_state.specs.Inner.{MarkedIf, settled};
+
+// Whether a literal goes with the byte of its variable.
+fn goes_with(l: i32, b: u8) -> bool
+    requires { ⌜ 1 ≤ natAbs l ⌝ }
+    ensures { λ r. ⌜ r ≡ goesWith l b ⌝ }
+{
+    if literal::is_positive(l) {
+        return b == 1;
+    }
+    if b == 0 {
+        return true;
+    }
+    b == 3
+}
+
+// Whether a word is a literal of the variables and goes with its value.
+fn agrees(values: &[u8], l: i32) -> bool
+    requires { ⌜ length (now values) ≤ 16000 ⌝ }
+    ensures { λ r. ⌜ r ≡ (isLiteral (length (now (values .entry))) l && goesWith l (getD (now (values .entry)) (placeOf l) 2)) ⌝ }
+{
+    let v = values.len() as u32;
+    if !literal::is_literal(l, v) {
+        return false;
+    }
+    let at = literal::place(l);
+    goes_with(l, values[at])
+}
+
+// Marks the variables of the literals in an empty table, up to the first literal that strays, repeats or contradicts its value.
+fn mark(values: &[u8], literals: &[i32], seen: &mut [bool]) -> bool
+    requires { ⌜ length (now values) ≤ 16000 ⌝ }
+    requires { ⌜ now seen ≡ replicate 16000 false ⌝ }
+    ensures { λ r. ⌜ MarkedIf r (now (values .entry)) (now (literals .entry)) (now (seen .exit)) ⌝ }
+{
+    let mut k = 0;
+    while k < literals.len() {
+        let l = literals[k];
+        if !agrees(values, l) {
+            return false;
+        }
+        let at = literal::place(l);
+        if seen[at] {
+            return false;
+        }
+        seen[at] = true;
+        k += 1;
+    }
+    true
+}
+
+// Whether each value without a mark is open.
+fn open_outside(values: &[u8], seen: &[bool]) -> bool
+    requires { ⌜ length (now values) ≤ length (now seen) ⌝ }
+    ensures { λ r. ⌜ r ≡ each (length (now (values .entry))) (settled (now (values .entry)) (now (seen .entry))) ⌝ }
+{
+    let mut i = 0;
+    while i < values.len() {
+        if !seen[i] {
+            if values[i] != 2 {
+                return false;
+            }
+        }
+        i += 1;
+    }
+    true
+}
+
+// Whether each word is 0.
+fn all_zero(words: &[i32]) -> bool
+    ensures { λ r. ⌜ r ≡ not (any (λ w. not (sameLiteral w (pos 0))) (now (words .entry))) ⌝ }
+{
+    let mut i = 0;
+    while i < words.len() {
+        if words[i] != 0 {
+            return false;
+        }
+        i += 1;
+    }
+    true
+}
 
 // Whether slices of one byte and one word for each variable hold a state, with so many words of the trail in use.
 pub fn is_state(values: &[u8], trail: &[i32], used: usize) -> bool
@@ -11,5 +96,15 @@ pub fn is_state(values: &[u8], trail: &[i32], used: usize) -> bool
     requires { ⌜ length (now trail) ≡ length (now values) ⌝ }
     ensures { λ r. ⌜ r ≡ not (noState (length (now (values .entry))) (now (values .entry)) (now (trail .entry)) used) ⌝ }
 {
-    false
+    if values.len() < used {
+        return false;
+    }
+    let mut seen = [false; 16000];
+    if !mark(values, &trail[..used], &mut seen) {
+        return false;
+    }
+    if !open_outside(values, &seen) {
+        return false;
+    }
+    all_zero(&trail[used..])
 }

@@ -3,7 +3,6 @@ use mathlib.Core.Path.{_≡_, sym, ap, _∙_, subst}
 use mathlib.Core.Bool.{true}
 use mathlib.Core.List.{List, _++_}
 use Prim.Native.Nat.{ℕ}
-use native.Mathlib.Omega.{arith}
 use lib.IntN.{ℤ}
 use lib.ListN.{take, drop}
 use Rattle.clause_list.specs.ClauseList.{clausesOf, isList, Satisfying}
@@ -12,22 +11,17 @@ use Rattle.relational.specs.Cells.{cellCount}
 use Rattle.clauses_rules.specs.Whole.{words, variableTotal, clauseTotal, wordTotal, readBack}
 use Rattle.clauses_rules.specs.Matching.{Solution}
 use Rattle.clauses_rules.proofs.Theorems.{match, none, listed}
-use Rattle.search_rules.specs.Run.{End, wasNone, wasFound, wasSpent}
-use Rattle.search.specs.Answers.{found, refused, answerAt, searchRun}
-use Rattle.search.proofs.Outcomes.{runs}
+use Rattle.search.specs.Answers.{found, searchRun}
+use Rattle.search.proofs.Outcomes.{runs, adds-zero, was-taken}
+use Rattle.search.specs.declared.answer.Position.{Position}
 use Rattle.search.proofs.Theorems.{none-unsatisfiable, found-satisfies, spent-exactly}
+use Rattle.search.proofs.ResumedTheorems as again
 use Rattle.solve_rules.specs.Answers.{instanceAfter}
 use Rattle.solve_rules.specs.Finding.{Slices}
 use Rattle.solve_rules.specs.Demand3 as d
-use Rattle.solve_rules.specs.Demand3.{FitsLimits, FitSlices, ReadsBack, ReadsSolution, ReadBackOnce, Answered, Demanded, Demand3}
+use Rattle.solve_rules.specs.Demand3.{FitsLimits, FitSlices, ReadsBack, ReadsSolution, ReadBackOnce, Answered}
+use Rattle.solve_rules.specs.Demand3.{ResumedAnswered, Demanded, Demand3}
 use Rattle.solve_rules.proofs.Calls.{counts, writes, writes-words, reads-back, instance-after, same-instance}
-
--- the end of a run is no refusal
-no-refusal : (end : End) (number : ℕ) → answerAt end ≡ refused number → ⊥
-unfolding answerAt
-no-refusal (wasNone t) number e = let z : _≡_ {A = ℕ} 0 1 = cc in omega arith
-no-refusal (wasFound t state) number e = let z : _≡_ {A = ℕ} 0 1 = cc in omega arith
-no-refusal (wasSpent t state) number e = let z : _≡_ {A = ℕ} 0 1 = cc in omega arith
 
 module _ (s : List ℕ) (lent : Slices) (h : FitsLimits s) (k : FitSlices s lent) where
   abbrev v : ℕ
@@ -76,12 +70,22 @@ module _ (s : List ℕ) (lent : Slices) (h : FitsLimits s) (k : FitSlices s lent
   pub answered : (n : ℕ) → Answered s lent v w n
   answered n =
       record {
-        taken = λ number e. no-refusal (searchRun written v n) number
-            (sym (ap (λ o. o .answer) (runs written v (lent .values) (lent .trail) n is-list (k .values) (k .trail))) ∙ e);
+        taken = λ number e. was-taken 0 (searchRun written v n) number
+            (adds-zero (searchRun written v n) ∙ sym (ap (λ o. o .answer) (runs written v (lent .values) (lent .trail) n is-list (k .values) (k .trail))) ∙ e);
         none-only = λ steps e. none s (h .layout) (h .accepted) .0
             λ a p. none-unsatisfiable written v (lent .values) (lent .trail) n steps e a (as-written p);
         found-only = λ steps e. reads _ (found-satisfies written v (lent .values) (lent .trail) n steps e);
         spent-exactly = spent-exactly written v (lent .values) (lent .trail) n is-list (k .values) (k .trail);
+      }
+
+  resumes : (p : Position) (n : ℕ) → ResumedAnswered s lent v w p n
+  resumes p n =
+      record {
+        none-only = λ g steps e. none s (h .layout) (h .accepted) .0
+            λ a q. again.none-unsatisfiable written v (lent .values) (lent .trail) p n (g .steps) steps (g .reached) e a (as-written q);
+        found-only = λ steps e. reads _ (again.found-satisfies written v (lent .values) (lent .trail) p n steps e);
+        taken = again.not-refused written v (lent .values) (lent .trail) p n is-list (k .values) (k .trail);
+        spent-exactly = again.spent-exactly written v (lent .values) (lent .trail) p n is-list (k .values) (k .trail);
       }
 
   -- what read-back of the values that "found" left leaves
@@ -105,6 +109,7 @@ module _ (s : List ℕ) (lent : Slices) (h : FitsLimits s) (k : FitSlices s lent
         once = once;
         reads = reads;
         answers = answered;
+        resumes = resumes;
       }
 
 pub demand3 : Demand3

@@ -1,17 +1,20 @@
 -- Demand 3, undivided: what the answers of counting, writing, search and read-back of a sheet say of its instances
--- (document 01, "The words of demand 3"). proofs/Demand3.antt shows it for every sheet that fits the limits, in slices that fit.
+-- (document 01, "The words of demand 3"; for resumed calls document 02, Change 1). proofs/Demand3.antt shows it for every sheet that fits the limits, in slices that fit.
 --
 -- The statement speaks of definitions. The contract that ties each one to the code, for every input and with no `requires`:
 --   `reading`                          `sheet::read`: its answer equals it
 --   `countAnswer`                      `clauses::count`: its answer equals it
 --   `writeAnswer`, `listAfter`         `clauses::write`: its answer, and the lent list afterwards, equal them
 --   `outcome`                          `search::search`: its answer, and the lent values and trail afterwards, equal its fields
+--   `resumption`                       `search::resume`: its answer, and the lent values, trail and record afterwards, equal its fields
 --   `readBackAnswer`, `instanceAfter`  `solve::read_back`: its answer, and the lent instance afterwards, equal them
 -- `Solution` (an instance within the scopes that satisfies marks and formula), `Satisfying` and `EndedWithin` are no code's answer:
 -- they are the paper's words, in clauses_rules/specs/Matching, clause_list/specs/ClauseList and search_rules/specs/Run.
 use mathlib.Core.Path.{_≡_}
+use mathlib.Core.Bool.{false}
 use mathlib.Core.Logic.{_↔_}
 use mathlib.Core.List.{List, [], _++_}
+use mathlib.Core.Option.{some}
 use Prim.Native.Nat.{ℕ, _≤_}
 use lib.IntN.{ℤ}
 use lib.ListN.{length, take, drop}
@@ -24,8 +27,11 @@ use Rattle.relational.specs.Cells.{cellCount}
 use Rattle.clauses_rules.specs.Whole.{words, variableTotal, wordTotal}
 use Rattle.clauses_rules.specs.Matching.{Solution}
 use Rattle.clauses.specs.Answers.{fits, countAnswer, writeAnswer, listAfter}
-use Rattle.search_rules.specs.Run.{EndedWithin}
+use Rattle.search_rules.specs.Rules.{State}
+use Rattle.search_rules.specs.Run.{after, EndedWithin}
+use Rattle.search.specs.declared.answer.Position.{Position}
 use Rattle.search.specs.Answers.{Outcome, found, none, spent, refused, outcome}
+use Rattle.search.specs.Resumed.{startOf, declinesState, resumption}
 use Rattle.solve_rules.specs.Answers.{copied, readBackAnswer, instanceAfter}
 use Rattle.solve_rules.specs.Finding.{Slices}
 
@@ -86,6 +92,31 @@ module _ (s : List ℕ) (lent : Slices) (v w : ℕ) where
     -- "spent" exactly when the step rules have not ended within n steps from the call's start, all open
     pub spent-exactly : ((steps : ℕ) × (searched n .answer ≡ spent steps)) ↔ (EndedWithin (clausesOf written) v n [] → ⊥)
 
+  -- the same list and v, the lent values and trail, and a record: the search is taken up again
+  abbrev pub resumed : Position → ℕ → Outcome
+  resumed p n = resumption written v (lent .values) (lent .trail) p n .outcome
+
+  -- the state that the call starts in
+  abbrev pub begin : Position → State
+  begin p = startOf v (lent .values) (lent .trail) p
+
+  -- "where the run goes back to a fresh start over the same list": the rules reach the state from all open
+  pub record GoesBack (p : Position) : Type 0 where
+    pub steps : ℕ
+    pub reached : after (clausesOf written) v steps [] ≡ some (begin p)
+
+  -- what the answer of a resumed call within n steps says; "of a call that 14 declines it says nothing"
+  pub record ResumedAnswered (p : Position) (n : ℕ) : Type 0 where
+    -- "none" only if no such instance exists, where the run goes back to a fresh start
+    pub none-only : GoesBack p → (steps : ℕ) → resumed p n .answer ≡ none steps → (instance : List ℕ) → Solution (sheetOf s) instance → ⊥
+    -- "found" only with values that read back to one, from any state
+    pub found-only : (steps : ℕ) → resumed p n .answer ≡ found steps → ReadsSolution s (take v (resumed p n .values)) (lent .instance)
+    -- where 14 does not decline it is no refusal, and
+    pub taken : declinesState v (lent .values) (lent .trail) p n ≡ false → (number : ℕ) → resumed p n .answer ≡ refused number → ⊥
+    -- "spent" exactly when the step rules have not ended within n steps from the state the call starts in
+    pub spent-exactly : declinesState v (lent .values) (lent .trail) p n ≡ false
+        → ((steps : ℕ) × (resumed p n .answer ≡ spent steps)) ↔ (EndedWithin (clausesOf written) v n (begin p) → ⊥)
+
 -- what is demanded of a sheet and of the slices that are lent
 pub record Demanded (s : List ℕ) (lent : Slices) : Type 0 where
   -- what counting answers, and writing too
@@ -101,6 +132,8 @@ pub record Demanded (s : List ℕ) (lent : Slices) : Type 0 where
   pub reads : (a : List ℕ) → Assignment s lent v w a → ReadsSolution s a (lent .instance)
   -- (c) for every number of steps, what the search answers
   pub answers : (n : ℕ) → Answered s lent v w n
+  -- and for every record, what a resumed call answers
+  pub resumes : (p : Position) (n : ℕ) → ResumedAnswered s lent v w p n
 
 -- for every accepted sheet whose clauses fit the limits, and all lent slices that fit
 abbrev pub Demand3 : Type 0

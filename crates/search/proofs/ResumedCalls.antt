@@ -1,0 +1,58 @@
+-- A resumed call is refused, or takes the rules' steps from the state that is held.
+use mathlib.Core.Path.{_≡_, refl}
+use mathlib.Core.Bool.{Bool, true, false}
+use mathlib.Core.Logic.{_⊎_, inl, inr}
+use mathlib.Core.List.{List}
+use Prim.Native.Nat.{ℕ, _+_, _≤_}
+use lib.Dec.{leb}
+use lib.IntN.{ℤ}
+use lib.ListN.{length, take}
+use lib.Seq.{length-take-le}
+use borrow.Author.Tests.{leb-true, leb-false, ltb-true, ltb-false}
+use Rattle.clause_list.specs.ClauseList.{isList}
+use Rattle.search_rules.specs.Rules.{State}
+use Rattle.search_rules.specs.Held.{noState, tooMany, Stored}
+use Rattle.search_rules.proofs.StateHeld.{holds-state}
+use Rattle.search.specs.declared.answer.Position.{Position}
+use Rattle.search.specs.Resumed.{decline, finishAfter, startOf, resumedRun, resumption}
+use Rattle.search.proofs.Resumptions.{no-list, short-values, short-trail, no-state, too-many, runs}
+
+module _ (list : List ℤ) (v : ℕ) (values : List ℕ) (trail : List ℤ) (p : Position) (budget : ℕ) where
+  abbrev pub begin : State
+  begin = startOf v values trail p
+
+  pub record Runs : Type 0 where
+    pub is-list : isList v list ≡ true
+    pub wide : v ≤ length values
+    pub deep : v ≤ length trail
+    pub holds : noState v (take v values) (take v trail) (p .length) ≡ false
+    pub few : p .steps + budget ≤ 18446744073709551615
+    pub ends : resumption list v values trail p budget ≡ finishAfter (p .steps) v values trail (resumedRun list v begin budget)
+
+  abbrev Called : Type 0
+  Called = ((n : ℕ) × (resumption list v values trail p budget ≡ decline n values trail p)) ⊎ Runs
+
+  pub called : Called
+  called =
+      by (isList v list) (leb v (length values)) (leb v (length trail)) (noState v (take v values) (take v trail) (p .length))
+      (tooMany (p .steps) budget) refl refl refl refl refl
+    where
+      by : (a b c d e : Bool) → isList v list ≡ a → leb v (length values) ≡ b → leb v (length trail) ≡ c
+          → noState v (take v values) (take v trail) (p .length) ≡ d → tooMany (p .steps) budget ≡ e → Called
+      by false b c d e f g h i j = inl (12, no-list list v values trail p budget f)
+      by true false c d e f g h i j = inl (13, short-values list v values trail p budget f (leb-false _ _ g))
+      by true true false d e f g h i j = inl (13, short-trail list v values trail p budget f (leb-false _ _ h))
+      by true true true true e f g h i j = inl (14, no-state list v values trail p budget f (leb-true _ _ g) (leb-true _ _ h) i)
+      by true true true false true f g h i j = inl (14, too-many list v values trail p budget f (leb-true _ _ g) (leb-true _ _ h) (ltb-true _ _ j))
+      by true true true false false f g h i j = inr (record {
+        is-list = f;
+        wide = leb-true _ _ g;
+        deep = leb-true _ _ h;
+        holds = i;
+        few = ltb-false _ _ j;
+        ends = runs list v values trail p budget f (leb-true _ _ g) (leb-true _ _ h) i (ltb-false _ _ j);
+      })
+
+  -- the state that is held
+  pub held : (r : Runs) → Stored v begin (take v values) (take v trail) (p .length)
+  held r = holds-state v _ _ _ (r .holds) (length-take-le _ _ (r .wide)) (length-take-le _ _ (r .deep))

@@ -1,0 +1,191 @@
+-- A record of zeros over open slices is a fresh start; a chain of resumed calls comes to one.
+use mathlib.Core.Path.{_≡_, refl, sym, _∙_, ap}
+use mathlib.Core.Bool.{Bool, true, false}
+use mathlib.Core.Logic.{⊎-elim}
+use mathlib.Core.List.{List, [], _++_}
+use Prim.Native.Nat.{ℕ, _+_, _≤_}
+use native.Mathlib.Omega.{arith}
+use native.Mathlib.Nat.{zero-add}
+use lib.Dec.{leb}
+use lib.IntN.{ℤ}
+use lib.ListN.{length, take, drop, length-append}
+use lib.Seq.{take-at, drop-at}
+use borrow.Author.Tests.{leb-true, leb-false}
+use Rattle.clause_list.specs.ClauseList.{clausesOf, isList}
+use Rattle.search_rules.specs.Rules.{State, valuesOf, trailOf}
+use Rattle.search_rules.specs.Run.{Tally, zeros, total, End, wasNone, wasFound, wasSpent, run}
+use Rattle.search_rules.specs.Held.{stateIn, WasOpen, Stored}
+use Rattle.search_rules.proofs.Invariant.{length-values}
+use Rattle.search_rules.proofs.Trails.{length-trail}
+use Rattle.search_rules.proofs.Ranges.{fine-list, ranged}
+use Rattle.search_rules.proofs.StateHeld.{read-stored, stored-passes}
+use Rattle.search_rules.proofs.Theorems.{spent-state}
+use Rattle.search_rules.proofs.Again.{plus, later, total-plus, spent-open, run-again}
+use Rattle.search.specs.declared.answer.Position.{Position}
+use Rattle.search.specs.Answers.{found, none, spent, refused, answerAt, valuesAt, trailAt, outcome, finish, searchRun}
+use Rattle.search.specs.Resumed.{Resumption, finishAfter, resumedRun, resumption}
+use Rattle.search.specs.Resuming.{start, FreshStart, Chain, last, spends, SameAsOne}
+use Rattle.search.proofs.Outcomes as searched
+use Rattle.search.proofs.Outcomes.{adds-zero, was-spent}
+use Rattle.search.proofs.Resumptions as resumed
+use Rattle.search.proofs.ResumedCalls.{Runs, begin, called, held}
+
+-- slices whose first v bytes and words hold a state
+module _ (v : ℕ) (state : State) (opened : WasOpen v state) (values : List ℕ) (trail : List ℤ)
+    (vs : take v values ≡ valuesOf v state) (ts : take v trail ≡ trailOf v state) where
+  pub stored : Stored v state (take v values) (take v trail) (length state)
+  stored = record { values-are = vs; trail-is = ts; used-is = refl; was-open = opened }
+
+-- a fresh start
+module _ (list : List ℤ) (v : ℕ) (values : List ℕ) (trail : List ℤ) (budget : ℕ) (vs : take v values ≡ valuesOf v [])
+    (ts : take v trail ≡ trailOf v []) (few : budget ≤ 18446744073709551615) where
+  empty : Stored v [] (take v values) (take v trail) 0
+  unfolding WasOpen
+  empty = stored v [] tt values trail vs ts
+
+  ends-alike : finishAfter 0 v values trail (resumedRun list v (begin list v values trail start budget) budget) .outcome
+      ≡ finish v values trail (searchRun list v budget)
+  unfolding stateIn
+  ends-alike = rw (adds-zero (searchRun list v budget)) refl
+
+  by-tests : (a b c : Bool) → isList v list ≡ a → leb v (length values) ≡ b → leb v (length trail) ≡ c
+      → resumption list v values trail start budget .outcome ≡ outcome list v values trail budget
+  by-tests false b c d e f =
+      ap (λ o. o .outcome) (resumed.no-list list v values trail start budget d) ∙ sym (searched.no-list list v values trail budget d)
+  by-tests true false c d e f =
+      ap (λ o. o .outcome) (resumed.short-values list v values trail start budget d (leb-false _ _ e))
+      ∙ sym (searched.short-values list v values trail budget d (leb-false _ _ e))
+  by-tests true true false d e f =
+      ap (λ o. o .outcome) (resumed.short-trail list v values trail start budget d (leb-false _ _ f))
+      ∙ sym (searched.short-trail list v values trail budget d (leb-false _ _ f))
+  by-tests true true true d e f =
+      ap (λ o. o .outcome) (resumed.runs list v values trail start budget d (leb-true _ _ e) (leb-true _ _ f)
+      (stored-passes v [] _ _ 0 empty) (omega arith))
+      ∙ ends-alike
+      ∙ sym (searched.runs list v values trail budget d (leb-true _ _ e) (leb-true _ _ f))
+
+pub fresh-start : FreshStart
+fresh-start list v values trail budget vs ts few =
+    by-tests list v values trail budget vs ts few (isList v list) (leb v (length values)) (leb v (length trail)) refl refl refl
+
+-- one call is spent, and another takes up what it left
+module _ (list : List ℤ) (v : ℕ) (values : List ℕ) (trail : List ℤ) (p : Position) (m steps : ℕ)
+    (answers : resumption list v values trail p m .outcome .answer ≡ spent steps) where
+  abbrev first : Resumption
+  first = resumption list v values trail p m
+
+  ran : Runs list v values trail p m
+  ran =
+      ⊎-elim
+      (λ d. absurd (let e : refused (d .0) ≡ spent steps = sym (ap (λ o. o .outcome .answer) (d .1)) ∙ answers in let z : _≡_ {A = ℕ} 0 1 = cc in omega arith))
+      (λ r. r) (called list v values trail p m)
+
+  abbrev from : State
+  from = begin list v values trail p m
+
+  record Left : Type 0 where
+    tally : Tally
+    state : State
+    was : resumedRun list v from m ≡ wasSpent tally state
+
+  spending : Left
+  spending =
+      let e = was-spent (p .steps) (resumedRun list v from m) steps (sym (ap (λ o. o .outcome .answer) (ran .ends)) ∙ answers) in
+      record { tally = e .0; state = e .1; was = e .2 }
+
+  abbrev t : Tally
+  t = spending .tally
+
+  abbrev s : State
+  s = spending .state
+
+  left-is : first ≡ finishAfter (p .steps) v values trail (wasSpent t s)
+  left-is = ran .ends ∙ ap (finishAfter (p .steps) v values trail) (spending .was)
+
+  values-left : first .outcome .values ≡ valuesOf v s ++ drop v values
+  unfolding valuesAt
+  values-left = ap (λ o. o .outcome .values) left-is
+
+  trail-left : first .outcome .trail ≡ trailOf v s ++ drop v trail
+  unfolding trailAt
+  trail-left = ap (λ o. o .outcome .trail) left-is
+
+  position-left : first .position ≡ record { length = length s; steps = p .steps + total t }
+  position-left = ap (λ o. o .position) left-is
+
+  steps-left : first .position .steps ≡ p .steps + m
+  unfolding total
+  steps-left =
+      let e = spent-state (clausesOf list) v m zeros t from s (spending .was) .1 in
+      ap (λ q. q .steps) position-left ∙ ap (λ x. p .steps + x) (e ∙ zero-add m)
+
+  -- what was left, and the state that it holds
+  abbrev values′ : List ℕ
+  values′ = valuesOf v s ++ drop v values
+
+  abbrev trail′ : List ℤ
+  trail′ = trailOf v s ++ drop v trail
+
+  abbrev position′ : Position
+  position′ = record { length = length s; steps = p .steps + total t }
+
+  holds-left : Stored v s (take v values′) (take v trail′) (length s)
+  holds-left =
+      stored v s
+      (spent-open v (clausesOf list) (ranged v list (fine-list v list (ran .is-list))) m zeros t from s (held list v values trail p m ran .was-open)
+      (spending .was))
+      values′ trail′
+      (take-at (valuesOf v s) (drop v values) v (length-values v s))
+      (take-at (trailOf v s) (drop v trail) v (length-trail v s))
+
+  values-behind : drop v values′ ≡ drop v values
+  values-behind = drop-at (valuesOf v s) (drop v values) v (length-values v s)
+
+  trail-behind : drop v trail′ ≡ drop v trail
+  trail-behind = drop-at (trailOf v s) (drop v trail) v (length-trail v s)
+
+  figure : (u : Tally) → p .steps + total t + total u ≡ p .steps + total (plus t u)
+  figure u = omega (arith, total-plus t u)
+
+  -- the end of a later call, over what was left, is that of one call from the start
+  finish-later : (end : End) → finishAfter (p .steps + total t) v values′ trail′ end ≡ finishAfter (p .steps) v values trail (later t end)
+  unfolding answerAt valuesAt trailAt
+  finish-later (wasNone u) = rw (values-behind, trail-behind, figure u) refl
+  finish-later (wasFound u state) = rw (values-behind, trail-behind, figure u) refl
+  finish-later (wasSpent u state) = rw (values-behind, trail-behind, figure u) refl
+
+  module _ (n : ℕ) (few : p .steps + (m + n) ≤ 18446744073709551615) where
+    few-left : p .steps + total t + n ≤ 18446744073709551615
+    few-left = let e : p .steps + total t ≡ p .steps + m = sym (ap (λ q. q .steps) position-left) ∙ steps-left in omega arith
+
+    goes-on : resumption list v values′ trail′ position′ n
+        ≡ finishAfter (p .steps + total t) v values′ trail′ (resumedRun list v (begin list v values′ trail′ position′ n) n)
+    goes-on =
+        resumed.runs list v values′ trail′ position′ n (ran .is-list)
+        (omega (arith, length-append (valuesOf v s) (drop v values), length-values v s))
+        (omega (arith, length-append (trailOf v s) (drop v trail), length-trail v s))
+        (stored-passes v s _ _ _ holds-left) few-left
+
+    at-once : resumption list v values trail p (m + n) ≡ finishAfter (p .steps) v values trail (resumedRun list v from (m + n))
+    at-once = resumed.runs list v values trail p (m + n) (ran .is-list) (ran .wide) (ran .deep) (ran .holds) few
+
+    same-left : resumption list v values′ trail′ position′ n ≡ resumption list v values trail p (m + n)
+    same-left =
+        goes-on
+        ∙ ap (λ x. finishAfter (p .steps + total t) v values′ trail′ (resumedRun list v x n)) (read-stored v s _ _ _ holds-left)
+        ∙ finish-later (resumedRun list v s n)
+        ∙ sym (at-once ∙ ap (finishAfter (p .steps) v values trail) (run-again (clausesOf list) v m n t from s (spending .was)))
+
+    -- m steps that are spent and n more are m + n steps
+    pub taken-up : resumption list v (first .outcome .values) (first .outcome .trail) (first .position) n ≡ resumption list v values trail p (m + n)
+    taken-up =
+        ap (λ x. resumption list v x (first .outcome .trail) (first .position) n) values-left
+        ∙ ap (λ x. resumption list v values′ x (first .position) n) trail-left
+        ∙ ap (λ x. resumption list v values′ trail′ x n) position-left
+        ∙ same-left
+
+pub same-as-one : SameAsOne
+same-as-one list v values trail p n r (last k) few = refl
+same-as-one list v values trail p n r (spends {n = k} {steps} m e rest) few =
+    same-as-one list v _ _ _ k r rest (omega (arith, steps-left list v values trail p m steps e))
+    ∙ taken-up list v values trail p m steps e k few
