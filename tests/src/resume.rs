@@ -23,7 +23,7 @@ pub enum Fault {
     Steps,
 }
 
-pub const FAULTS: [Fault; 7] =
+const FAULTS: [Fault; 7] =
     [Fault::Length, Fault::Range, Fault::Repeated, Fault::Contradicts, Fault::Byte, Fault::Word, Fault::Steps];
 
 /// "v goes with 1, -v with 0 or 3"

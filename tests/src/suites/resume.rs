@@ -8,10 +8,11 @@ use crate::{Outcome, Run};
 use reference::random::Source;
 use reference::random_list::{budget, damage};
 use reference::random_state::{damages, Call};
-use reference::resume::{faults, resume, Position, FAULTS};
+use reference::resume::{faults, resume, Position};
 use reference::search::{Answer, End};
+use reference::sheet::{LIST, STATE};
 
-/// Times that something was met.
+/// How often each end and each number was met; 14 by each of its conditions alone, in the order of `Fault`.
 type Tally = [(&'static str, usize); 14];
 
 const TALLY: Tally = [
@@ -55,12 +56,13 @@ pub fn run(run: &Run) -> Outcome {
     covered(&[("found by a chain", chained[0]), ("none", chained[1]), ("spent", chained[2]), ("an end", ended)], 100)?;
     let callers = callers::run(run)?;
     let [found, none, spent] = chained;
+    let chains = format!("{found} found, {none} none, {spent} spent");
+    let others: usize = tally.iter().map(|(_, times)| times).sum();
     let times: Vec<String> = tally.iter().map(|(what, times)| format!("{times} {what}")).collect();
+    let times = times.join(", ");
     Ok(format!(
-        "{} chains of {calls} calls come to one run: {found} found, {none} none, {spent} spent; {ended} taken up after an end; \
-         other states: {}; {callers}",
-        found + none + spent,
-        times.join(", ")
+        "{} chains of {calls} calls come to one run: {chains}; {ended} taken up after an end; {others} other states: {times}; {callers}",
+        found + none + spent
     ))
 }
 
@@ -101,23 +103,16 @@ fn compare(call: &Call, what: impl Fn() -> String) -> Result<usize, String> {
     Ok(met(call, want))
 }
 
+/// The place in the tally of what a call met.
 fn met(call: &Call, answer: Result<Answer, u32>) -> usize {
     let least = (call.v as usize).min(call.values.len()).min(call.trail.len());
-    match answer {
-        Ok(answer) => answer.end as usize,
-        Err(14) => {
-            let faults = faults(&call.values[..least], &call.trail[..least], &call.position, call.budget);
-            let alone = FAULTS.iter().position(|fault| faults == [*fault]);
-            alone.map_or(12, |at| 5 + at)
-        }
-        Err(number) => {
-            let faults = faults(&call.values[..least], &call.trail[..least], &call.position, call.budget);
-            if faults.is_empty() {
-                number as usize - 9
-            } else {
-                13
-            }
-        }
+    let faults = faults(&call.values[..least], &call.trail[..least], &call.position, call.budget);
+    match (answer, faults.as_slice()) {
+        (Ok(answer), _) => answer.end as usize,
+        (Err(STATE), [fault]) => 5 + *fault as usize,
+        (Err(STATE), _) => 12,
+        (Err(_), [_, ..]) => 13,
+        (Err(number), []) => 3 + usize::from(number != LIST),
     }
 }
 
