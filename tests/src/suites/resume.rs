@@ -116,47 +116,61 @@ fn met(call: &Call, answer: Result<Answer, u32>) -> usize {
     }
 }
 
-/// Calls with random cuts up to an end or to the last cut, against one run of both sides with the steps allowed in all;
-/// from a fresh start against `search` too. The end, and the number of calls.
+/// What calls with random cuts come to: the last answer, what is left, and the cuts.
+struct Chain {
+    last: Result<Answer, u32>,
+    left: Call,
+    cuts: Vec<u64>,
+}
+
+/// Calls from a start on, up to an end or to the last cut. The first may be `search` itself, which starts from all open over
+/// slices with anything in them.
+fn calls(source: &mut Source, start: &Call, search_first: bool) -> Chain {
+    let (list, v) = (&start.list, start.v as usize);
+    let (mut left, mut cuts) = (start.clone(), Vec::new());
+    let mut last = Ok(Answer { end: End::Spent, steps: 0 });
+    if search_first {
+        left.values[..v].fill(7);
+        left.trail[..v].fill(-7);
+        let budget = cut(source, list, start.v);
+        cuts.push(budget);
+        last = library::search(list, start.v, &mut left.values, &mut left.trail, budget);
+        let length = left.trail[..v].iter().take_while(|&&word| word != 0).count();
+        left.position = Position { length, steps: last.map_or(0, |answer| answer.steps) };
+    }
+    for _ in 0..source.between(1, 12) {
+        if last.is_ok_and(|answer| answer.end != End::Spent) {
+            break;
+        }
+        left.budget = cut(source, list, start.v);
+        cuts.push(left.budget);
+        last = left.make(library::resume);
+    }
+    Chain { last, left, cuts }
+}
+
+/// A chain of calls against one run of both sides with the steps allowed in all; from a fresh start against `search` too.
+/// The end, and the number of calls.
 fn chain(source: &mut Source, list: &[i32], v: u32, number: u64) -> Result<(End, usize), String> {
     let from_start = source.chance(3, 4);
     let start = match from_start {
         true => Call::fresh(source, list, v),
         false => Call::unreached(source, list, v),
     };
-    let (mut taken_up, mut allowed, mut cuts) = (start.clone(), 0, Vec::new());
-    let mut last = Ok(Answer { end: End::Spent, steps: 0 });
-    let asked =
-        |cuts: &[u64]| format!("case {number}, v {v}, cuts {cuts:?}, {:?}, list {}", start.position, shown(list));
-    if from_start && source.chance(1, 3) {
-        // the first call is the search itself, over slices with anything in them
-        taken_up.values[..v as usize].fill(7);
-        taken_up.trail[..v as usize].fill(-7);
-        allowed = cut(source, list, v);
-        cuts.push(allowed);
-        last = library::search(list, v, &mut taken_up.values, &mut taken_up.trail, allowed);
-        let length = taken_up.trail[..v as usize].iter().take_while(|&&word| word != 0).count();
-        taken_up.position = Position { length, steps: last.map_or(0, |answer| answer.steps) };
-    }
-    for _ in 0..source.between(1, 12) {
-        if last.is_ok_and(|answer| answer.end != End::Spent) {
-            break;
-        }
-        taken_up.budget = cut(source, list, v);
-        allowed += taken_up.budget;
-        cuts.push(taken_up.budget);
-        last = taken_up.make(library::resume);
-    }
-    let answer = last.map_err(|number| format!("refused {number}: {}", asked(&cuts)))?;
+    let search_first = from_start && source.chance(1, 3);
+    let Chain { last, left, cuts } = calls(source, &start, search_first);
+    let allowed = cuts.iter().sum();
+    let asked = || format!("case {number}, v {v}, cuts {cuts:?}, {:?}, list {}", start.position, shown(list));
+    let answer = last.map_err(|number| format!("refused {number}: {}", asked()))?;
     for side in [resume, library::resume] {
         let mut one = Call { budget: allowed, ..start.clone() };
-        agree(last, one.make(side), || asked(&cuts))?;
-        same(&taken_up, &one, || asked(&cuts))?;
+        agree(last, one.make(side), asked)?;
+        same(&left, &one, asked)?;
     }
     if from_start {
         let mut one = start.clone();
-        agree(last, library::search(list, v, &mut one.values, &mut one.trail, allowed), || asked(&cuts))?;
-        agree((&taken_up.values, &taken_up.trail), (&one.values, &one.trail), || asked(&cuts))?;
+        agree(last, library::search(list, v, &mut one.values, &mut one.trail, allowed), asked)?;
+        agree((&left.values, &left.trail), (&one.values, &one.trail), asked)?;
     }
     Ok((answer.end, cuts.len()))
 }
