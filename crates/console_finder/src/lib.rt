@@ -1,9 +1,31 @@
-// The finder program: a sheet is read from a descriptor, and what `report` makes of it is printed on standard output.
+// The finder program: a sheet is read from a descriptor, and what `report` makes of it is printed on standard output. Crate
+// `console_finder_on` reads and prints with the same functions.
 ghost use Prim.Native.Nat.{_≤_};
+ghost use Rattle.io.specs.Counts.{Counts};
+use console::Input;
 use report::finder::find_text;
 
 // The clause words of the finder.
 const WORDS: usize = 16384;
+
+// Reads an input. One byte more than the longest input is read, so that a longer one is seen.
+pub fn read_sheet(fd: i32, input: &mut [u8; 4097]) -> Input
+    ensures { λ r. ⌜ Counts (r .bytes) (now (input .exit)) ⌝ }
+{
+    console::read_input(fd, input, b"finder: reading standard input")
+}
+
+// Prints an answer to an input, says of a refused one whether its list is too long, and answers whether the answer was written.
+pub fn print_answer(input: &[u8], answer: &[u8]) -> bool {
+    if !console::print(answer, b"finder: writing standard output") {
+        return false;
+    }
+    // `refused` is the only answer that starts with an r
+    if answer.len() > 0 && answer[0] == b'r' {
+        console::say_short(b"finder", input, WORDS);
+    }
+    true
+}
 
 // Prints the answer to an input, with room for all variables and cells that there can be.
 fn answer(input: &[u8]) -> bool {
@@ -20,21 +42,13 @@ fn answer(input: &[u8]) -> bool {
         &mut instance,
         &mut text,
     );
-    if !console::print(&text[..k], b"finder: writing standard output") {
-        return false;
-    }
-    // `refused` is the only answer that starts with an r
-    if text[0] == b'r' {
-        console::say_short(b"finder", input, WORDS);
-    }
-    true
+    print_answer(input, &text[..k])
 }
 
-// Reads an input, prints the answer, and answers whether both went well. One byte more than the longest input is read, so that a
-// longer one is seen.
+// Reads an input, prints the answer, and answers whether both went well.
 pub fn find(fd: i32) -> bool {
     let mut input = [0u8; 4097];
-    let read = console::read_input(fd, &mut input, b"finder: reading standard input");
+    let read = read_sheet(fd, &mut input);
     if read.failed {
         return false;
     }

@@ -17,7 +17,7 @@ use Rattle.search.specs.Answers.{Outcome, outcome}
 use Rattle.solve_rules.specs.Answers as back
 use Rattle.solve_rules.specs.Answers.{readBackAnswer, instanceAfter}
 use Rattle.solve_rules.specs.Finding.{Slices, slices, Finding, finding, decline}
-use Rattle.report.specs.Printed.{findingText, slicesAfter}
+use Rattle.report.specs.Printed.{finderBudget, findingText, slicesAfter}
 use Rattle.cnf_text.specs.Printed.{clauseText, listLeft}
 use Rattle.marked.specs.Table as table
 use Rattle.marked.specs.Table.{Stated, Row}
@@ -73,7 +73,7 @@ calls row values =
       instance = instanceAfter s values (lent .instance);
       find = finding s lent (row .budget);
       cnf = clauseText s (lent .list);
-      finder = findingText s finderLent;
+      finder = findingText finderBudget s finderLent;
     }
 
 -- search and clause text get exactly the words written and the v that counting answers, read-back the values that the search left
@@ -83,7 +83,8 @@ shownAfter (count.fits v c w) row =
     let searched = outcome ws v (lent .values) (lent .trail) (row .budget) in
     fitting (calls row (take v (searched .values)))
     record { search = searched; sizing = sizeAnswer v ws; texting = text.writeAnswer v ws lentText; text = textAfter v ws lentText }
-shownAfter (count.refused n) row = declining (calls row []) (listLeft (row .sheet) (lent .list)) (slicesAfter (row .sheet) finderLent)
+shownAfter (count.refused n) row =
+    declining (calls row []) (listLeft (row .sheet) (lent .list)) (slicesAfter finderBudget (row .sheet) finderLent)
 
 abbrev pub shown : Row → Shown
 shown row = shownAfter (countAnswer (row .sheet)) row

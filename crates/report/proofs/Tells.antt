@@ -17,10 +17,10 @@ use Rattle.relational.specs.Cells.{rowCount, rowLength, cellCount, cell, within
 use Rattle.clauses_rules.specs.Matching.{Solution}
 use Rattle.clauses_rules.proofs.Series.{same-series}
 use Rattle.search.specs.Answers.{Answer, found, none, spent, refused}
-use Rattle.solve_rules.specs.Finding.{Slices}
+use Rattle.solve_rules.specs.Finding.{Slices, finding}
 use Rattle.solve_rules.specs.Finds.{Holds, Finds}
 use Rattle.solve_rules.proofs.Finds.{finds}
-use Rattle.report.specs.Printed.{cellDigit, rowDigits, relationLine, relationLines, report, findingOf, findingText}
+use Rattle.report.specs.Printed.{cellDigit, rowDigits, relationLine, relationLines, report, findingText}
 use Rattle.report.specs.Tells.{ShowsSolution, Tells}
 use Rattle.report.proofs.Texts.{long-text, short-text}
 
@@ -67,31 +67,32 @@ shows sheet lent left n h =
 abbrev first : List ℕ → ℕ
 first text = getD text 0 0
 
-module _ (input : List ℕ) (lent : Slices) where
-  -- a text whose first letter is neither n, byte 110, nor f, byte 102
-  silent : (text : List ℕ) → (110 ≡ first text → ⊥) → (102 ≡ first text → ⊥) → Tells input text
-  silent text n f = record { none-only = λ s. absurd (n (ap first (s .parts))); found-only = λ s. absurd (f (ap first (s .parts))) }
+-- a text whose first letter is neither n, byte 110, nor f, byte 102
+silent : {input text : List ℕ} → (110 ≡ first text → ⊥) → (102 ≡ first text → ⊥) → Tells input text
+silent n f = record { none-only = λ s. absurd (n (ap first (s .parts))); found-only = λ s. absurd (f (ap first (s .parts))) }
 
-  told : (a : Answer) (left : Slices) → Finds input lent 1000000 a left → Tells input (report a (sheetOf input) (left .instance))
+module _ (budget : ℕ) (input : List ℕ) (lent : Slices) where
+  told : (a : Answer) (left : Slices) → Finds input lent budget a left → Tells input (report a (sheetOf input) (left .instance))
   told (found n) left f = record {
     none-only = λ s. absurd (omega (arith, ap first (s .parts)));
     found-only = λ s. shows (sheetOf input) (lent .instance) (left .instance) n (f .found-only n refl);
   }
   told (none n) left f = record { none-only = λ s. f .none-only n refl; found-only = λ s. absurd (omega (arith, ap first (s .parts))) }
-  told (spent n) left f = silent _ (λ e. omega arith) (λ e. omega arith)
-  told (refused n) left f = silent _ (λ e. omega arith) (λ e. omega arith)
+  told (spent n) left f = silent (λ e. omega arith) (λ e. omega arith)
+  told (refused n) left f = silent (λ e. omega arith) (λ e. omega arith)
 
-  tells : Tells input (findingText input lent)
+  tells : Tells input (findingText budget input lent)
   tells =
       ⊎-elim
-      (λ h. subst (Tells input) (sym (short-text input lent (leb-true (length input) 4096 h)))
-      (told (findingOf input lent .answer) (findingOf input lent .left) (finds input lent 1000000)))
-      (λ h. subst (Tells input) (sym (long-text input lent (leb-false (length input) 4096 h)))
-      (silent _ (λ e. omega arith) (λ e. omega arith)))
+      (λ h. subst (Tells input) (sym (short-text budget input lent (leb-true (length input) 4096 h)))
+      (told (finding input lent budget .answer) (finding input lent budget .left) (finds input lent budget)))
+      (λ h. subst (Tells input) (sym (long-text budget input lent (leb-false (length input) 4096 h)))
+      (silent (λ e. omega arith) (λ e. omega arith)))
       (decided (leb (length input) 4096))
 
   -- exactly the bytes printed
-  pub printed-tells : {before after : List ℕ} {end : ℕ} → Prints (findingText input lent) before after end → Tells input (take end after)
+  pub printed-tells : {before after : List ℕ} {end : ℕ} → Prints (findingText budget input lent) before after end
+      → Tells input (take end after)
   printed-tells {before} {after} {end} p =
-      let text = findingText input lent in
+      let text = findingText budget input lent in
       subst (Tells input) (sym (ap (take end) (p .stands) ∙ take-at text (drop (length text) before) end (sym (p .ends)))) tells

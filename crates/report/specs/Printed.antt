@@ -9,7 +9,7 @@ use Rattle.sheet_rules.specs.Blocks.{Sheet, sheetOf, byte, relationCount}
 use Rattle.relational.specs.Cells.{rowCount, rowLength, cell}
 use Rattle.clauses_rules.specs.Whole.{series}
 use Rattle.search.specs.Answers.{Answer, found, none, spent, refused}
-use Rattle.solve_rules.specs.Finding.{Slices, Finding, finding}
+use Rattle.solve_rules.specs.Finding.{Slices, finding}
 
 -- a cell is 0 or 1
 abbrev pub cellDigit : ℕ → ℕ
@@ -35,17 +35,16 @@ report (none n) sheet instance = endLine (bytesOf "none ") n
 report (spent n) sheet instance = endLine (bytesOf "spent ") n
 report (refused n) sheet instance = endLine (bytesOf "refused ") n
 
--- "a budget of 1,000,000": what the finder has found in the slices it lends
-abbrev pub findingOf : List ℕ → Slices → Finding
-findingOf input lent = finding input lent 1000000
+-- "a budget of 1,000,000"
+abbrev pub finderBudget : ℕ
+finderBudget = 1000000
 
--- "An input over 4,096 bytes is printed as `refused 2` unparsed."
-unfoldable pub findingText : List ℕ → Slices → List ℕ
-findingText input lent =
-    cond (leb (length input) 4096)
-    (report (findingOf input lent .answer) (sheetOf input) (findingOf input lent .left .instance))
-    (endLine (bytesOf "refused ") 2)
+-- what is printed of a finding within a budget: "An input over 4,096 bytes is printed as `refused 2` unparsed."
+unfoldable pub findingText : ℕ → List ℕ → Slices → List ℕ
+findingText budget input lent =
+    let f = finding input lent budget in
+    cond (leb (length input) 4096) (report (f .answer) (sheetOf input) (f .left .instance)) (endLine (bytesOf "refused ") 2)
 
--- the slices that the finder leaves
-unfoldable pub slicesAfter : List ℕ → Slices → Slices
-slicesAfter input lent = cond (leb (length input) 4096) (findingOf input lent .left) lent
+-- the slices that are left
+unfoldable pub slicesAfter : ℕ → List ℕ → Slices → Slices
+slicesAfter budget input lent = cond (leb (length input) 4096) (finding input lent budget .left) lent

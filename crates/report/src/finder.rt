@@ -8,7 +8,7 @@ ghost use Rattle.sheet_rules.specs.Blocks.{sheetOf};
 ghost use Rattle.search.specs.Answers.{found, answerOf};
 ghost use Rattle.solve_rules.specs.Finding.{slices};
 ghost use Rattle.solve_rules.specs.Demand3.{FitsLimits};
-ghost use Rattle.report.specs.Printed.{report, findingText, slicesAfter};
+ghost use Rattle.report.specs.Printed.{report, finderBudget, findingText, slicesAfter};
 ghost use Rattle.report.specs.Tells.{Tells};
 use super::lines::put_lines;
 use search::answer::Search;
@@ -31,8 +31,9 @@ fn put_found(text: &mut [u8], input: &[u8], steps: u64, instance: &[u8]) -> usiz
     }
 }
 
-// Puts the line of an end, and after `found` the lines of the relations.
-fn put_report(text: &mut [u8], input: &[u8], ended: Search, instance: &[u8]) -> usize
+// Puts the line of an end, and after `found` the lines of the relations. It is for a crate that prints what its own search found, and
+// asks of it room for 2,048 bytes, and that a sheet fits the limits if something was found.
+pub fn put_report(text: &mut [u8], input: &[u8], ended: Search, instance: &[u8]) -> usize
     requires { ⌜ 2048 ≤ length (now text) ⌝ }
     requires { ⌜ ((n : ℕ) → answerOf ended ≡ found n → FitsLimits (now input)) ⌝ }
     ensures { λ r. ⌜ Put (now (text .entry)) 0 (report (answerOf ended) (sheetOf (now (input .entry))) (now (instance .entry)))
@@ -59,10 +60,12 @@ pub fn find_text(
 ) -> usize
     ensures { λ r. ⌜ (r ≤ length (now (text .exit))) × (r ≡ length (take r (now (text .exit)))) ⌝ }
     ensures { λ r. ⌜ Prints
-        (findingText (now (input .entry)) (slices (now (list .entry)) (now (values .entry)) (now (trail .entry)) (now (instance .entry))))
+        (findingText finderBudget (now (input .entry))
+        (slices (now (list .entry)) (now (values .entry)) (now (trail .entry)) (now (instance .entry))))
         (now (text .entry)) (now (text .exit)) r ⌝ }
     ensures { λ r. ⌜ slices (now (list .exit)) (now (values .exit)) (now (trail .exit)) (now (instance .exit))
-        ≡ slicesAfter (now (input .entry)) (slices (now (list .entry)) (now (values .entry)) (now (trail .entry)) (now (instance .entry))) ⌝ }
+        ≡ slicesAfter finderBudget (now (input .entry))
+        (slices (now (list .entry)) (now (values .entry)) (now (trail .entry)) (now (instance .entry))) ⌝ }
     ensures { λ r. ⌜ Tells (now (input .entry)) (take r (now (text .exit))) ⌝ }
 {
     if input.len() > 4096 {

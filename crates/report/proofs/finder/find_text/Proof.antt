@@ -1,16 +1,11 @@
 -- `find_text` meets its contract: what `find` ensures, as text.
 use mathlib.Core.Path.{sym, _∙_}
-use Prim.Native.Nat.{_≤_}
 use native.Mathlib.Omega.{arith}
-use lib.ListN.{length}
 use borrow.Author.Needs.{needs}
-use Rattle.text.proofs.Puts.{put-as, prints, counts}
-use Rattle.sheet_rules.specs.Blocks.{sheetOf}
 use Rattle.solve_rules.specs.Finding.{Slices, slices}
 use Rattle.solve_rules.proofs.Findings.{found-fits}
-use Rattle.report.specs.Printed.{report}
-use Rattle.report.proofs.Tells.{printed-tells}
-use Rattle.report.proofs.Texts.{long-text, long-slices, short-text, short-slices}
+use Rattle.report.specs.Printed.{finderBudget}
+use Rattle.report.proofs.Printing.{long-input, short-input}
 use Rattle.report.proofs.finder.find_text.Statement.{statement}
 use Rattle.report.proofs.finder.find_text.Tie as tie
 
@@ -27,11 +22,8 @@ put-end-requires c κs = search needs
 returns : tie.Need-returns
 returns c =
     let s = c .before .before .before .before .before in
-    let h = c .before .before .before .if1 .taken in
-    let p = put-as (sym (long-text (s .args .input .now) (lent s) h)) (c .put-end .ensures .0) in
-    let l : c .put-end .result ≤ length (s .args .text .now) = omega (arith, c .put-end .ensures .1) in
-    let shown = prints p l in
-    (counts p l, (shown, (sym (long-slices (s .args .input .now) (lent s) h), printed-tells (s .args .input .now) (lent s) shown)))
+    let e = c .put-end .ensures in
+    long-input finderBudget (s .args .input .now) (lent s) (c .before .before .before .if1 .taken) (e .0) (omega (arith, e .1))
 
 find-requires : tie.Need-find-requires
 find-requires c κs = search needs
@@ -40,20 +32,16 @@ put-report-requires : tie.Need-put-report-requires
 put-report-requires c κs =
     let k = c .before .before .before in
     let s = k .before .before .before .before .before .before .before in
-    (omega arith, λ n e. found-fits (s .args .input .now) (lent s) 1000000 n (sym (k .find .ensures .0) ∙ e))
+    (omega arith, λ n e. found-fits (s .args .input .now) (lent s) finderBudget n (sym (k .find .ensures .0) ∙ e))
 
 returns-2 : tie.Need-returns-2
 returns-2 c =
     let k = c .before .before .before .before in
     let s = k .before .before .before .before .before .before .before in
-    let input = s .args .input .now in
+    let f = k .find .ensures in
+    let e = c .put-report .ensures in
     let h = k .before .before .before .before .before .if1 .left in
-    let e = k .find .ensures in
-    let same = (λ i. report (e .0 i) (sheetOf input) (e .1 .0 i .instance)) ∙ sym (short-text input (lent s) h) in
-    let p = put-as same (c .put-report .ensures .0) in
-    let l : c .put-report .result ≤ length (s .args .text .now) = omega (arith, c .put-report .ensures .1) in
-    let shown = prints p l in
-    (counts p l, (shown, (e .1 .0 ∙ sym (short-slices input (lent s) h), printed-tells input (lent s) shown)))
+    short-input finderBudget (s .args .input .now) (lent s) h (f .0) (f .1 .0) (e .0) (omega (arith, e .1))
 
 pub find-text-spec : {M : Type 1} → statement M
 find-text-spec =

@@ -1,0 +1,6 @@
+mod MoreSteps
+mod AnswerTests
+mod CallByCall
+mod OpenSlices
+mod TakenUp
+mod AtOnce
