@@ -1,6 +1,8 @@
-//! Measures of the library beside Rust, both in this one program, in turns; the best of some rounds counts.
+//! Measures of the library beside Rust, or of two of its calls, both in this one program, in turns; the best of some rounds
+//! counts.
 //! Before anything is timed, both sides are held to the same answers.
 
+mod resuming;
 mod search;
 mod translation;
 
@@ -15,26 +17,25 @@ const SEED: u64 = 1;
 const ROUNDS: usize = 5;
 
 /// The best time of both sides, taken in turns.
-fn best(mut library: impl FnMut(), mut rust: impl FnMut()) -> (Duration, Duration) {
+fn best(mut one: impl FnMut(), mut other: impl FnMut()) -> (Duration, Duration) {
     let mut least = (Duration::MAX, Duration::MAX);
     for _ in 0..ROUNDS {
         let start = Instant::now();
-        library();
+        one();
         let middle = Instant::now();
-        rust();
+        other();
         least = (least.0.min(middle - start), least.1.min(middle.elapsed()));
     }
     least
 }
 
-fn line(what: &str, units: u64, unit: &str, (library, rust): (Duration, Duration)) {
+const SIDES: [&str; 2] = ["library", "Rust"];
+
+fn line(what: &str, units: u64, unit: &str, sides: [&str; 2], (one, other): (Duration, Duration)) {
     let each = |time: Duration| time.as_secs_f64() * 1e9 / units as f64;
-    let ratio = library.as_secs_f64() / rust.as_secs_f64();
-    println!(
-        "{what}: {units} {unit}, library {:.0} ns each, Rust {:.0} ns each, ratio {ratio:.2}",
-        each(library),
-        each(rust)
-    );
+    let (one, other) = (each(one), each(other));
+    let [name, beside] = sides;
+    println!("{what}: {units} {unit}, {name} {one:.0} ns each, {beside} {other:.0} ns each, ratio {:.2}", one / other);
 }
 
 /// Sheets whose lists fit, from the seed.
@@ -84,7 +85,7 @@ fn searches(what: &str, lists: &[Clauses], budget: u64) {
             })
         },
     );
-    line(what, steps, "steps", times);
+    line(what, steps, "steps", SIDES, times);
 }
 
 /// Counting and writing of all sheets, for each gate. Both sides are held to the reference's list first. The Rust side gets
@@ -136,8 +137,8 @@ fn translations(sheets: &[(Vec<u8>, Clauses)]) {
     );
     println!("reading: {} sheets, library {} ns each", sheets.len(), reading.as_nanos() / sheets.len() as u128);
     let less = |(library, rust): (Duration, Duration)| (library.saturating_sub(reading), rust);
-    line("counting", gates, "gates", less(counting));
-    line("counting and writing", gates, "gates", less(writing));
+    line("counting", gates, "gates", SIDES, less(counting));
+    line("counting and writing", gates, "gates", SIDES, less(writing));
 }
 
 /// A sheet that would make over 10^9 gates is refused about as fast as one of 16,001 variables.
@@ -161,7 +162,14 @@ fn main() {
     searches("search of 300 random sheets", &lists, 300);
     let large = translate(&gates_of(1_600)).expect("a list");
     let words = large.size().words;
-    searches(&format!("search of a list of {words} words"), &[large], 5_000);
+    let large = [large];
+    searches(&format!("search of a list of {words} words"), &large, 5_000);
+    resuming::slices("search of 300 random sheets", &lists, 300);
+    resuming::slices(&format!("search of a list of {words} words"), &large, 5_000);
+    resuming::number_14("states of 300 random sheets", &lists, 300, 20);
+    resuming::number_14(&format!("a state of a list of {words} words"), &large, 5_000, 400);
+    let k1 = read(&[1, 0, 1, 2, 0, 0, 0, 4, 1, 0, 0, 0, 0, 6, 1, 0, 0, 22, 0, 0]).and_then(|sheet| translate(&sheet));
+    resuming::number_14("a state of K1", &[k1.expect("a list")], 5_000, 20_000);
     translations(&sheets);
     giving_up();
 }

@@ -72,20 +72,22 @@ pub fn lines(sheet: &Sheet, instance: &[u8]) -> String {
 
 /// What the finder program prints.
 pub fn finder(input: &[u8]) -> String {
-    match run(input) {
-        Ok(text) => text,
-        Err(number) => format!("refused {number}\n"),
-    }
+    run(input, BUDGET).unwrap_or_else(|number| format!("refused {number}\n"))
 }
 
-fn run(input: &[u8]) -> Result<String, u32> {
+/// What the program prints that goes on where the finder is spent: the same, up to an end.
+pub fn finder_on(input: &[u8]) -> String {
+    run(input, u64::MAX).unwrap_or_else(|number| format!("refused {number}\n"))
+}
+
+fn run(input: &[u8], budget: u64) -> Result<String, u32> {
     if input.len() > BYTES {
         return Err(LENGTH);
     }
     let size = clauses::count(input)?;
     let v = size.variables as usize;
     let (mut list, mut values, mut trail, mut instance) = (vec![0; WORDS], vec![0; v], vec![0; v], vec![0; v]);
-    let answer = find(input, &mut list, &mut values, &mut trail, &mut instance, BUDGET)?;
+    let answer = find(input, &mut list, &mut values, &mut trail, &mut instance, budget)?;
     let steps = answer.steps;
     Ok(match answer.end {
         End::Found => format!("found {steps}\n") + &lines(&sheet::read(input)?, &instance),

@@ -1,4 +1,4 @@
-//! Document 01 a second time: a plain implementation in Rust, written from the papers alone.
+//! Document 01 a second time, with the requests of document 02 that have landed: a plain implementation in Rust, written from the papers alone.
 //! The suites of `main.rs` compare the Rattle library with it. It is made to be read, not to be fast,
 //! and takes another way than the library wherever there is one.
 
@@ -8,11 +8,14 @@ pub mod deep;
 pub mod dimacs;
 pub mod every_kind;
 pub mod finder;
+pub mod long_search;
 pub mod meaning;
 pub mod random;
 pub mod random_damage;
 pub mod random_list;
 pub mod random_sheet;
+pub mod random_state;
+pub mod resume;
 pub mod search;
 pub mod shadows;
 pub mod sheet;
@@ -21,3 +24,5 @@ pub mod sheet;
 mod cases;
 #[cfg(test)]
 mod counts;
+#[cfg(test)]
+mod resume_cases;

@@ -3,6 +3,7 @@
 //! The first field of an answer is a refusal's number, 0 where nothing is refused.
 
 use reference::clauses::Size;
+use reference::resume;
 use reference::search::{Answer, End};
 
 /// The answer behind a refusal's number.
@@ -102,6 +103,44 @@ pub fn search(list: &[i32], v: u32, values: &mut [u8], trail: &mut [i32], budget
     let (values, values_length) = (values.as_mut_ptr(), values.len());
     let (trail, trail_length) = (trail.as_mut_ptr(), trail.len());
     unsafe { fawnloom_search(list, words, v, values, values_length, trail, trail_length, budget) }.answer()
+}
+
+/// The record of a stopped search, which is lent by its address.
+#[repr(C)]
+struct Position {
+    length: usize,
+    steps: u64,
+}
+
+pub fn resume(
+    list: &[i32],
+    v: u32,
+    values: &mut [u8],
+    trail: &mut [i32],
+    position: &mut resume::Position,
+    budget: u64,
+) -> Result<Answer, u32> {
+    extern "C" {
+        fn fawnloom_resume(
+            list: *const i32,
+            words: usize,
+            v: u32,
+            values: *mut u8,
+            values_length: usize,
+            trail: *mut i32,
+            trail_length: usize,
+            position: *mut Position,
+            budget: u64,
+        ) -> SearchAnswer;
+    }
+    let (list, words) = (list.as_ptr(), list.len());
+    let (values, values_length) = (values.as_mut_ptr(), values.len());
+    let (trail, trail_length) = (trail.as_mut_ptr(), trail.len());
+    let mut lent = Position { length: position.length, steps: position.steps };
+    let answer =
+        unsafe { fawnloom_resume(list, words, v, values, values_length, trail, trail_length, &mut lent, budget) };
+    *position = resume::Position { length: lent.length, steps: lent.steps };
+    answer.answer()
 }
 
 #[repr(C)]

@@ -1,13 +1,14 @@
-//! The search by its step rules, as they are written (document 01, "Search", numbers 12 and 13).
+//! The search by its step rules, as they are written (document 01, "Search", numbers 12 and 13). What takes a stopped one up
+//! again is in `resume.rs`.
 
 use crate::clauses::VARIABLES;
 use crate::sheet::{LIST, SHORT};
 
 /// The bytes of the values.
-const FALSE: u8 = 0;
-const TRUE: u8 = 1;
-const OPEN: u8 = 2;
-const CHOSEN: u8 = 3;
+pub const FALSE: u8 = 0;
+pub const TRUE: u8 = 1;
+pub const OPEN: u8 = 2;
+pub const CHOSEN: u8 = 3;
 
 #[derive(Clone, Copy, Debug, PartialEq, Eq)]
 pub enum End {
@@ -44,12 +45,17 @@ pub fn cut(list: &[i32], v: u32) -> Result<Vec<Vec<i32>>, u32> {
 }
 
 /// The values of the variables and the literals in the order set.
-struct State {
-    values: Vec<u8>,
-    trail: Vec<i32>,
+pub struct State {
+    pub values: Vec<u8>,
+    pub trail: Vec<i32>,
 }
 
 impl State {
+    /// Nothing set, of v variables.
+    fn all_open(v: usize) -> State {
+        State { values: vec![OPEN; v], trail: Vec::new() }
+    }
+
     fn value(&self, literal: i32) -> u8 {
         self.values[literal.unsigned_abs() as usize - 1]
     }
@@ -127,6 +133,33 @@ impl State {
             self.set(-variable, CHOSEN);
         }
     }
+
+    /// Steps up to an end or to the budget, and what the end does to the state; the end, and the steps done.
+    pub fn run(&mut self, clauses: &[Vec<i32>], budget: u64) -> (End, u64) {
+        let mut steps = 0;
+        let end = loop {
+            match self.end(clauses) {
+                Some(end) => break end,
+                None if steps == budget => break End::Spent,
+                None => self.step(clauses),
+            }
+            steps += 1;
+        };
+        match end {
+            End::Found => self.values.iter_mut().filter(|value| **value == CHOSEN).for_each(|value| *value = FALSE),
+            End::None => *self = State::all_open(self.values.len()),
+            End::Spent => {}
+        }
+        (end, steps)
+    }
+
+    /// Writes the state to the front of lent slices: the trail is filled up with 0s.
+    pub fn store(&self, values: &mut [u8], trail: &mut [i32]) {
+        let v = self.values.len();
+        values[..v].copy_from_slice(&self.values);
+        trail[..v].fill(0);
+        trail[..self.trail.len()].copy_from_slice(&self.trail);
+    }
 }
 
 /// The search from all open: numbers 12 and 13, else the end and the steps done.
@@ -137,23 +170,8 @@ pub fn search(list: &[i32], v: u32, values: &mut [u8], trail: &mut [i32], budget
     if values.len() < v || trail.len() < v {
         return Err(SHORT);
     }
-    let mut state = State { values: vec![OPEN; v], trail: Vec::new() };
-    let mut steps = 0;
-    let end = loop {
-        match state.end(&clauses) {
-            Some(end) => break end,
-            None if steps == budget => break End::Spent,
-            None => state.step(&clauses),
-        }
-        steps += 1;
-    };
-    match end {
-        End::Found => state.values.iter_mut().filter(|value| **value == CHOSEN).for_each(|value| *value = FALSE),
-        End::None => state = State { values: vec![OPEN; v], trail: Vec::new() },
-        End::Spent => {}
-    }
-    state.trail.resize(v, 0);
-    values[..v].copy_from_slice(&state.values);
-    trail[..v].copy_from_slice(&state.trail);
+    let mut state = State::all_open(v);
+    let (end, steps) = state.run(&clauses, budget);
+    state.store(values, trail);
     Ok(Answer { end, steps })
 }

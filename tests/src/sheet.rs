@@ -16,6 +16,7 @@ pub const SIZE: u32 = 10;
 pub const CELLS: u32 = 11;
 pub const LIST: u32 = 12;
 pub const SHORT: u32 = 13;
+pub const STATE: u32 = 14;
 
 /// The most node visits that a root's walk may take.
 pub const VISITS: u128 = 1_000_000;

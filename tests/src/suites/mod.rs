@@ -3,6 +3,7 @@
 use crate::{Outcome, Run};
 use std::fmt::Debug;
 
+mod callers;
 mod check;
 mod commands;
 mod count;
@@ -10,6 +11,7 @@ mod dimacs;
 mod failures;
 mod programs;
 mod read;
+mod resume;
 mod search;
 mod solve;
 mod solvers;
@@ -25,6 +27,7 @@ pub fn all() -> Vec<(&'static str, Suite)> {
         ("check", check::run),
         ("count", count::run),
         ("search", search::run),
+        ("resume", resume::run),
         ("dimacs", dimacs::run),
         ("solve", solve::run),
         ("programs", programs::run),

@@ -86,8 +86,9 @@ pub fn run(run: &Run) -> Outcome {
     Ok(format!("{all} runs of {steps} steps agree: {}; {solved} verdicts of minisat too", times.join(", ")))
 }
 
-fn some_case(source: &mut Source, number: u64) -> Case {
-    let (mut list, mut v) = match source.below(8) {
+/// A random list, or that of a random sheet, with its variables.
+pub fn some_list(source: &mut Source, number: u64) -> (Vec<i32>, u32) {
+    match source.below(8) {
         0 if number % 400 == 0 => of_sheet(&gates_of(15_000)),
         0..=1 => {
             let style = style(source);
@@ -98,7 +99,11 @@ fn some_case(source: &mut Source, number: u64) -> Case {
             of_sheet(&pigeonhole(source.below(2) as u8, n, n - source.below(2) as u8))
         }
         _ => list(source),
-    };
+    }
+}
+
+fn some_case(source: &mut Source, number: u64) -> Case {
+    let (mut list, mut v) = some_list(source, number);
     let mut budget = budget(source);
     if list.len() > 400 {
         budget = budget.min(400_000 / list.len() as u64);

@@ -7,12 +7,14 @@ use crate::painted::depth_of;
 use crate::{Outcome, Run};
 use reference::deep::sheets;
 use reference::finder::finder;
+use reference::random::Source;
+use reference::random_state::{Call, Resume};
 use reference::sheet::Sheet;
 use std::io::Write;
 use std::process::{Command, Stdio};
 
 /// The stated stacks in KB (docs/ARCHITECTURE.md, "Stack").
-const CALLS: [(&str, usize); 9] = [
+const CALLS: [(&str, usize); 10] = [
     ("read", 64),
     ("check", 512),
     ("count", 1_024),
@@ -22,6 +24,7 @@ const CALLS: [(&str, usize); 9] = [
     ("search", 64),
     ("text_size", 64),
     ("text", 64),
+    ("resume", 64),
 ];
 const PROGRAMS: [(&str, usize); 2] = [("finder", 1_024), ("cnf", 1_024)];
 
@@ -95,6 +98,12 @@ fn list_calls(depths: &mut Depths, list: &[i32], v: u32, asked: &str) -> Result<
         (answer.map(|answer| (answer.end, answer.steps)), values, trail)
     };
     call(depths, 6, || searched(library::search), searched(reference::search::search), asked)?;
+    let resumed = |resume: Resume| {
+        let mut call = Call { budget: BUDGET, ..Call::fresh(&mut Source::new(0, "", 0), list, v) };
+        let answers = [call.make(resume), call.make(resume)];
+        (answers, call.values, call.trail, call.position)
+    };
+    call(depths, 9, || resumed(library::resume), resumed(reference::resume::resume), asked)?;
     call(depths, 7, || library::text_size(list, v), reference::dimacs::size(list, v), asked)?;
     let printed = |text: fn(&[i32], u32, &mut [u8]) -> Result<u64, u32>| {
         let mut bytes = vec![0; 7 * list.len() + 32];

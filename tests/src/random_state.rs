@@ -1,0 +1,192 @@
+//! Resumed calls as a caller lends them: states that a search left, the same with one thing changed, and states that no
+//! search leaves.
+
+use crate::random::Source;
+use crate::resume::Position;
+use crate::search::{search, Answer, CHOSEN, FALSE, OPEN, TRUE};
+
+#[derive(Clone, Debug)]
+pub struct Call {
+    pub list: Vec<i32>,
+    pub v: u32,
+    pub values: Vec<u8>,
+    pub trail: Vec<i32>,
+    pub position: Position,
+    pub budget: u64,
+}
+
+/// A resumed call of either side.
+pub type Resume = fn(&[i32], u32, &mut [u8], &mut [i32], &mut Position, u64) -> Result<Answer, u32>;
+
+impl Call {
+    /// A record of zeros over open slices, of v bytes and words or longer; what is behind them is anything.
+    pub fn fresh(source: &mut Source, list: &[i32], v: u32) -> Call {
+        let (mut values, mut trail) = (vec![OPEN; v as usize], vec![0; v as usize]);
+        values.extend((0..source.below(4)).map(|_| source.pick(&[0, 1, 2, 3, 7, 255])));
+        trail.extend((0..source.below(4)).map(|_| source.pick(&[0, 1, -1, -7, v as i32, i32::MIN])));
+        Call { list: list.to_vec(), v, values, trail, position: Position::default(), budget: 0 }
+    }
+
+    /// What a search from the start leaves after so many steps.
+    pub fn stopped(source: &mut Source, list: &[i32], v: u32, steps: u64) -> Call {
+        let mut call = Call::fresh(source, list, v);
+        let answer = search(list, v, &mut call.values, &mut call.trail, steps).expect("a good list");
+        let length = call.trail[..v as usize].iter().take_while(|&&word| word != 0).count();
+        call.position = Position { length, steps: answer.steps };
+        call
+    }
+
+    /// Any variables set, in any order, with any steps: 14 lets it pass, and most such states are reached by no search.
+    pub fn unreached(source: &mut Source, list: &[i32], v: u32) -> Call {
+        let mut call = Call::fresh(source, list, v);
+        let mut variables: Vec<i32> = (1..=v as i32).collect();
+        let some = source.below(v as usize + 1);
+        for length in 0..source.pick(&[v as usize, some, some, some / 2, some.min(2)]) {
+            let variable = variables.swap_remove(source.below(variables.len()));
+            call.trail[length] = source.pick(&[variable, -variable]);
+            let value = if call.trail[length] > 0 { TRUE } else { source.pick(&[FALSE, CHOSEN]) };
+            call.values[variable as usize - 1] = value;
+            call.position.length = length + 1;
+        }
+        call.position.steps = source.pick(&[0, 1, 1_000_000, u64::MAX / 2]);
+        call
+    }
+
+    /// The call made by one side.
+    pub fn make(&mut self, resume: Resume) -> Result<Answer, u32> {
+        resume(&self.list, self.v, &mut self.values, &mut self.trail, &mut self.position, self.budget)
+    }
+
+    fn changed(&self, change: impl FnOnce(&mut Call)) -> Call {
+        let mut call = self.clone();
+        change(&mut call);
+        call
+    }
+
+    /// Opens the variable of a word, if it has one.
+    fn open(&mut self, word: i32) {
+        let at = (word.unsigned_abs() as usize).wrapping_sub(1);
+        self.values[..self.v as usize].iter_mut().skip(at).take(1).for_each(|value| *value = OPEN);
+    }
+
+    fn literals(&self) -> &[i32] {
+        &self.trail[..self.position.length]
+    }
+}
+
+/// What was changed, and the call with it.
+pub type Damaged = (String, Call);
+
+/// A call with one thing changed, in every way that there is at the edges of 14; some of it passes. Its length is within v.
+pub fn damages(source: &mut Source, call: &Call) -> Vec<Damaged> {
+    let mut all = lengths(call);
+    all.extend(words_on_trail(source, call));
+    all.extend(bytes(source, call));
+    all.extend(words_behind(source, call));
+    all.extend(steps(call));
+    all
+}
+
+fn lengths(call: &Call) -> Vec<Damaged> {
+    let (length, v) = (call.position.length, call.v as usize);
+    let lengths = [0, length.wrapping_sub(1), length + 1, v, v + 1, length + (1 << 32), length | 1 << 63, usize::MAX];
+    let damaged = |to: usize| (format!("length {to}"), call.changed(|call| call.position.length = to));
+    lengths.into_iter().map(damaged).collect()
+}
+
+/// A word in the place of a literal, whose variable is opened or not, and a word after the last literal.
+fn words_on_trail(source: &mut Source, call: &Call) -> Vec<Damaged> {
+    let (length, v) = (call.position.length, call.v as i32);
+    let mut all = Vec::new();
+    let mut words = vec![0, v, -v, v + 1, -v - 1, i32::MIN, i32::MIN + 1, i32::MAX];
+    if length > 0 {
+        // one of the trail once more, its opposite, and two that change places
+        let (at, other) = (source.below(length), source.below(length));
+        words.extend([call.trail[other], call.trail[other].wrapping_neg()]);
+        all.push((format!("places {at} and {other} exchanged"), call.changed(|call| call.trail.swap(at, other))));
+        for place in [0, at, length - 1] {
+            let old = call.trail[place];
+            for word in words.iter().copied().chain([old.wrapping_neg()]) {
+                let replaced = call.changed(|call| call.trail[place] = word);
+                let opened = replaced.changed(|call| call.open(old));
+                all.push((format!("{word} at place {place}"), replaced));
+                all.push((format!("{word} at place {place}, the variable of {old} opened"), opened));
+            }
+        }
+    }
+    if length < v as usize {
+        for word in words {
+            let longer = call.changed(|call| {
+                call.trail[length] = word;
+                call.position.length += 1;
+            });
+            // with each byte that could go with it
+            let at = word.unsigned_abs() as usize;
+            if (1..=v as usize).contains(&at) && !call.literals().iter().any(|l| l.unsigned_abs() as usize == at) {
+                for value in [FALSE, TRUE, CHOSEN] {
+                    let set = longer.changed(|call| call.values[at - 1] = value);
+                    all.push((format!("{word} with byte {value} after the trail"), set));
+                }
+            }
+            all.push((format!("{word} after the trail"), longer));
+        }
+    }
+    all
+}
+
+/// Each byte for a variable that is true, one that is false and one that is open, for the first and the last.
+fn bytes(source: &mut Source, call: &Call) -> Vec<Damaged> {
+    let v = call.v as usize;
+    let mut places = vec![0, v - 1];
+    for wanted in [&[TRUE][..], &[FALSE, CHOSEN], &[OPEN]] {
+        let some: Vec<usize> = (0..v).filter(|&at| wanted.contains(&call.values[at])).collect();
+        if !some.is_empty() {
+            places.push(source.pick(&some));
+        }
+    }
+    let mut all = Vec::new();
+    for at in places {
+        for byte in [0, 1, 2, 3, 4, 255] {
+            let changed = call.changed(|call| call.values[at] = byte);
+            all.push((format!("byte {byte} for variable {}", at + 1), changed));
+        }
+    }
+    all
+}
+
+/// A word behind the length: right behind it, at the end of the first v, anywhere between.
+fn words_behind(source: &mut Source, call: &Call) -> Vec<Damaged> {
+    let (length, v) = (call.position.length, call.v as usize);
+    let mut all = Vec::new();
+    if length < v {
+        for at in [length, v - 1, source.between(length, v - 1)] {
+            for word in [1, -1, v as i32, v as i32 + 1, i32::MIN] {
+                all.push((
+                    format!("{word} at place {at}, behind the length"),
+                    call.changed(|call| call.trail[at] = word),
+                ));
+            }
+        }
+    }
+    all
+}
+
+/// Steps done and allowed up to 2^64 - 1 and one more.
+fn steps(call: &Call) -> Vec<Damaged> {
+    const MOST: u64 = u64::MAX;
+    const HALF: u64 = 1 << 63;
+    let budget = call.budget;
+    let mut pairs = vec![(MOST - budget, budget), (MOST, 0), (MOST, 1), (MOST - 1, 1), (MOST, MOST), (HALF, HALF)];
+    if budget > 0 {
+        pairs.push((MOST - budget + 1, budget));
+    }
+    if call.v <= 12 {
+        // the run is short whatever is allowed
+        pairs.extend([(0, MOST), (1, MOST), (2, MOST - 1), (HALF - 1, HALF), (HALF, HALF - 1)]);
+    }
+    let damaged = |(steps, budget): (u64, u64)| {
+        let changed = call.changed(|call| (call.position.steps, call.budget) = (steps, budget));
+        (format!("{steps} steps and {budget} more"), changed)
+    };
+    pairs.into_iter().map(damaged).collect()
+}
