@@ -8,7 +8,7 @@ use Rattle.search.proofs.answer.Search.{the-type}
 use Rattle.search.specs.declared.answer.Search.{Search}
 use Rattle.search.specs.declared.answer.Search.the-variants.{Found, None, Spent, Refused}
 use Rattle.search.specs.Answers.{found, spent, answerOf}
-use Rattle.onward.proofs.MoreSteps.{Unspent}
+use Rattle.search.proofs.MoreSteps.{Unspent}
 
 pub was-found : (r : Search) → tagOf the-type r ≡ 0 → (steps : ℕ) × (answerOf r ≡ found steps)
 was-found (Found n) e = (n, refl)

@@ -11,7 +11,7 @@ use Rattle.search.specs.Resumed.{Resumption, left, resumption}
 use Rattle.search.specs.Resuming.{start, Chain, last, spends}
 use Rattle.search.proofs.Resuming.{same-as-one}
 use Rattle.onward.specs.Limits.{mostSteps}
-use Rattle.onward.proofs.MoreSteps.{Unspent, more-steps}
+use Rattle.search.proofs.MoreSteps.{Unspent, more-steps}
 
 -- the calls that are made at most, and the steps of each
 abbrev most-calls : ℕ

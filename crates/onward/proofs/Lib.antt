@@ -1,6 +1,4 @@
-mod MoreSteps
 mod AnswerTests
 mod CallByCall
-mod OpenSlices
 mod TakenUp
 mod AtOnce

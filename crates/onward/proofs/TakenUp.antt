@@ -27,7 +27,7 @@ use Rattle.solve_rules.proofs.Findings.{Declined, Ran, called}
 use Rattle.solve.specs.Private.{Left}
 use Rattle.onward.specs.Limits.{mostSteps}
 use Rattle.onward.specs.Private.{Begun, SomeBegun}
-use Rattle.onward.proofs.OpenSlices.{from-open}
+use Rattle.search.proofs.OpenSlices.{from-open}
 
 -- the sheet's numbers and the slices fit
 pub record Fit (size : Size) (opened : Slices) : Type 0 where

@@ -6,6 +6,8 @@ pub mod Resumptions
 pub mod ResumedCalls
 pub mod Resuming
 pub mod ResumedTheorems
+pub mod MoreSteps
+pub mod OpenSlices
 mod Settled
 pub mod Lent
 pub mod LentWalk

@@ -13,7 +13,7 @@ use lib.Seq.{take-at, drop-at}
 use borrow.Author.Tests.{leb-true, leb-false}
 use Rattle.clause_list.specs.ClauseList.{clausesOf, isList}
 use Rattle.search_rules.specs.Rules.{State, valuesOf, trailOf}
-use Rattle.search_rules.specs.Run.{Tally, zeros, total, End, wasNone, wasFound, wasSpent, run}
+use Rattle.search_rules.specs.Run.{Tally, zeros, total, End, wasNone, wasFound, wasSpent}
 use Rattle.search_rules.specs.Held.{stateIn, WasOpen, Stored}
 use Rattle.search_rules.proofs.Invariant.{length-values}
 use Rattle.search_rules.proofs.Trails.{length-trail}
@@ -22,9 +22,9 @@ use Rattle.search_rules.proofs.StateHeld.{read-stored, stored-passes}
 use Rattle.search_rules.proofs.Theorems.{spent-state}
 use Rattle.search_rules.proofs.Again.{plus, later, total-plus, spent-open, run-again}
 use Rattle.search.specs.declared.answer.Position.{Position}
-use Rattle.search.specs.Answers.{found, none, spent, refused, answerAt, valuesAt, trailAt, outcome, finish, searchRun}
+use Rattle.search.specs.Answers.{spent, refused, answerAt, valuesAt, trailAt, outcome, finish, searchRun}
 use Rattle.search.specs.Resumed.{Resumption, finishAfter, resumedRun, resumption}
-use Rattle.search.specs.Resuming.{start, FreshStart, Chain, last, spends, SameAsOne}
+use Rattle.search.specs.Resuming.{start, FreshStart, last, spends, SameAsOne}
 use Rattle.search.proofs.Outcomes as searched
 use Rattle.search.proofs.Outcomes.{adds-zero, was-spent}
 use Rattle.search.proofs.Resumptions as resumed

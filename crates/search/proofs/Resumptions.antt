@@ -1,6 +1,6 @@
 -- The resumption of a call, case by case, and its end as the code has it.
 use mathlib.Core.Path.{_≡_, refl, sym, _∙_, ap}
-use mathlib.Core.Bool.{Bool, true, false, not, cond, _&&_, _||_}
+use mathlib.Core.Bool.{Bool, true, false, not, cond, _&&_}
 use mathlib.Core.List.{List, _++_}
 use Prim.Native.Nat.{ℕ, _+_, _<_, _≤_}
 use lib.Dec.{leb}
@@ -11,7 +11,7 @@ use Rattle.prelude.proofs.Laws.{and-both, and-not-left, and-not-right, or-left,
 use Rattle.refusal.specs.declared.Refusal.{Refusal}
 use Rattle.refusal.specs.Refusals.{numberOf}
 use Rattle.clause_list.specs.ClauseList.{isList}
-use Rattle.search_rules.specs.Held.{noState, tooMany}
+use Rattle.search_rules.specs.Held.{noState}
 use Rattle.search_rules.specs.Run.{End}
 use Rattle.search.specs.declared.answer.Search.the-variants.{Refused}
 use Rattle.search.specs.declared.answer.Position.{Position}

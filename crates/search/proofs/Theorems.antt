@@ -10,13 +10,11 @@ use native.Mathlib.Omega.{arith}
 use native.Mathlib.Nat.{zero-add}
 use lib.Dec.{leb}
 use lib.IntN.{ℤ}
-use lib.ListN.{length, take, drop, length-map}
-use lib.Seq.{take-at}
+use lib.ListN.{length, take, drop}
 use borrow.Author.Tests.{leb-true, leb-false}
 use Rattle.clause_list.specs.ClauseList.{clausesOf, isList, Satisfying}
 use Rattle.search_rules.specs.Rules.{State, valuesOf, trailOf, settle}
-use Rattle.search_rules.specs.Run.{Tally, zeros, total, End, wasNone, wasFound, wasSpent, after, EndedWithin}
-use Rattle.search_rules.proofs.Invariant.{length-values}
+use Rattle.search_rules.specs.Run.{zeros, total, after, EndedWithin}
 use Rattle.search_rules.proofs.Ranges.{fine-list, ranged}
 use Rattle.search_rules.proofs.Theorems as rules
 use Rattle.search.specs.Answers.{Answer, found, none, spent, refused, answerAt, valuesAt, trailAt, Outcome, refuse, finish}

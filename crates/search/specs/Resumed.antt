@@ -1,6 +1,6 @@
 -- What a resumed call answers, and what it leaves in the lent slices and in the lent record (document 02, Change 1).
 use mathlib.Core.Bool.{Bool, cond, _&&_, _||_}
-use mathlib.Core.List.{List, [], _++_}
+use mathlib.Core.List.{List, _++_}
 use Prim.Native.Nat.{ℕ, _+_}
 use lib.Dec.{leb}
 use lib.IntN.{ℤ}
