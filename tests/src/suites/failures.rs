@@ -14,7 +14,8 @@ use std::time::{Duration, Instant};
 /// Case K1, to which the finder says `found 4`.
 const K1: [u8; 20] = [1, 0, 1, 2, 0, 0, 0, 4, 1, 0, 0, 0, 0, 6, 1, 0, 0, 22, 0, 0];
 
-const PROGRAMS: [&str; 2] = ["finder", "cnf"];
+/// The programs, each with the name that it says.
+const PROGRAMS: [(&str, &str); 3] = [("finder", "finder"), ("cnf", "cnf"), ("finder_on", "finder")];
 
 extern "C" {
     fn fcntl(fd: i32, command: i32, word: i32) -> i32;
@@ -60,8 +61,8 @@ fn start(mut command: Command) -> Result<Child, String> {
 const AGAIN: &str = "Resource temporarily unavailable";
 
 /// Inputs that fail: half of K1 and then "try again", all of it and then "try again", none, a directory.
-fn inputs(name: &str) -> Result<usize, String> {
-    let says = |why: &str| format!("{name}: reading standard input: {why}");
+fn inputs((name, said): (&str, &str)) -> Result<usize, String> {
+    let says = |why: &str| format!("{said}: reading standard input: {why}");
     for (case, bytes) in [("half of K1", &K1[..10]), ("K1 and no end", &K1[..]), ("nothing yet", &[])] {
         let (reader, mut writer) = std::io::pipe().map_err(|error| error.to_string())?;
         without_waiting(&reader);
@@ -95,8 +96,8 @@ fn k1() -> Result<std::io::PipeReader, String> {
 }
 
 /// Outputs that fail: a full device, a full pipe, a pipe that nobody reads, none.
-fn outputs(name: &str) -> Result<usize, String> {
-    let says = |why: &str| format!("{name}: writing standard output: {why}");
+fn outputs((name, said): (&str, &str)) -> Result<usize, String> {
+    let says = |why: &str| format!("{said}: writing standard output: {why}");
     let mut full = program(name);
     full.stdin(k1()?).stdout(File::options().write(true).open("/dev/full").map_err(|error| error.to_string())?);
     failed(&format!("{name}, a full device"), ended(start(full)?)?, &says("No space left on device"))?;
@@ -154,16 +155,16 @@ fn slow_input(name: &str) -> Result<(), String> {
     }
     drop(stdin);
     let output = ended(child)?;
-    let want = if name == "finder" { "found 4\nr0 01\n".to_string() } else { clause_text(&K1) };
+    let want = if name == "cnf" { clause_text(&K1) } else { "found 4\nr0 01\n".to_string() };
     let got = (String::from_utf8_lossy(&output.stdout).to_string(), output.stderr, output.status.code());
     agree(got, (want, vec![], Some(0)), || format!("{name}, K1 in two halves"))
 }
 
 pub fn run(_: &Run) -> Outcome {
     let mut met = 0;
-    for name in PROGRAMS {
-        met += inputs(name)? + outputs(name)?;
-        slow_input(name)?;
+    for program in PROGRAMS {
+        met += inputs(program)? + outputs(program)?;
+        slow_input(program.0)?;
     }
     long_text()?;
     let commands = super::commands::run()?;

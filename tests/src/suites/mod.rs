@@ -9,6 +9,7 @@ mod commands;
 mod count;
 mod dimacs;
 mod failures;
+mod onward;
 mod programs;
 mod read;
 mod resume;
@@ -31,6 +32,7 @@ pub fn all() -> Vec<(&'static str, Suite)> {
         ("dimacs", dimacs::run),
         ("solve", solve::run),
         ("programs", programs::run),
+        ("onward", onward::run),
         ("failures", failures::run),
         ("stack", stack::run),
     ]

@@ -76,7 +76,7 @@ pub fn run(run: &Run) -> Outcome {
     Ok(format!("{all} inputs agree: {found} found, {none} none, {refused} refused; {brute} by brute force, {solved} by solvers"))
 }
 
-fn some_input(source: &mut Source) -> Vec<u8> {
+pub fn some_input(source: &mut Source) -> Vec<u8> {
     let style = style(source);
     match source.below(16) {
         0..=1 => any(source),
@@ -89,7 +89,7 @@ fn some_input(source: &mut Source) -> Vec<u8> {
 }
 
 /// Whether the search takes more steps than are waited for.
-fn is_long(bytes: &[u8]) -> bool {
+pub fn is_long(bytes: &[u8]) -> bool {
     let Ok(clauses) = read(bytes).and_then(|sheet| translate(&sheet)) else { return false };
     let list = clauses.words();
     if list.len() > reference::finder::WORDS {
@@ -115,13 +115,18 @@ pub fn clause_text(bytes: &[u8]) -> String {
     }
 }
 
-/// Runs a program of the library on an input.
-fn program(name: &str, input: &[u8]) -> Result<String, String> {
+/// What a program of the library prints on an input.
+pub fn program(name: &str, input: &[u8]) -> Result<String, String> {
+    Ok(program_says(name, input)?.0)
+}
+
+/// What it prints, and what it says on standard error.
+pub fn program_says(name: &str, input: &[u8]) -> Result<(String, String), String> {
     let mut command = Command::new(format!("target/bin/{name}"));
     let mut child = command
         .stdin(Stdio::piped())
         .stdout(Stdio::piped())
-        .stderr(Stdio::null())
+        .stderr(Stdio::piped())
         .spawn()
         .map_err(|error| format!("{name}: {error}"))?;
     let mut stdin = child.stdin.take().expect("a pipe");
@@ -132,5 +137,6 @@ fn program(name: &str, input: &[u8]) -> Result<String, String> {
     if !output.status.success() {
         return Err(format!("{name}: {}, sheet {}", output.status, hex(input)));
     }
-    String::from_utf8(output.stdout).map_err(|error| error.to_string())
+    let text = |bytes| String::from_utf8(bytes).map_err(|error| error.to_string());
+    Ok((text(output.stdout)?, text(output.stderr)?))
 }

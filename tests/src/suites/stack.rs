@@ -26,7 +26,7 @@ const CALLS: [(&str, usize); 10] = [
     ("text", 64),
     ("resume", 64),
 ];
-const PROGRAMS: [(&str, usize); 2] = [("finder", 1_024), ("cnf", 1_024)];
+const PROGRAMS: [(&str, usize); 3] = [("finder", 1_024), ("cnf", 1_024), ("finder_on", 1_024)];
 
 /// How deep a call went so far: its place in `CALLS`.
 type Depths = [usize; CALLS.len()];
@@ -137,7 +137,7 @@ pub fn run(_: &Run) -> Outcome {
         let asked = format!("{name}, sheet {}", hex(&bytes));
         calls(&mut depths, sheet, &asked)?;
         for (program_name, stated) in PROGRAMS {
-            let want = if program_name == "finder" { finder(&bytes) } else { clause_text(&bytes) };
+            let want = if program_name == "cnf" { clause_text(&bytes) } else { finder(&bytes) };
             agree(program(program_name, stated, &bytes)?, want, || format!("{program_name}, {asked}"))?;
         }
     }
