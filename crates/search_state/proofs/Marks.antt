@@ -8,7 +8,7 @@ use native.Mathlib.Numerals.{add-one}
 use native.Mathlib.Omega.{arith}
 use lib.Dec.{eqb}
 use lib.IntN.{ℤ, pos}
-use lib.ListN.{length, getD, set, take, drop, replicate, length-set, length-replicate}
+use lib.ListN.{length, getD, set, take, drop, replicate, length-set}
 use lib.Seq.{take-suc, split-at, getD-set-same, getD-set-other}
 use borrow.Author.Tests.{eqb-true, eqb-false, not-false}
 use Rattle.prelude.specs.Tests.{any}
@@ -19,7 +19,7 @@ use Rattle.search_rules.specs.Rules.{sameLiteral, placeOf}
 use Rattle.search_rules.specs.Held.{strays, repeats, goesWith, contradicts, onTrail}
 use Rattle.search_rules.proofs.Booleans.{and-true, or-false}
 use Rattle.search_rules.proofs.Found.{place-below}
-use Rattle.search_state.specs.Inner.{faulty, Marked}
+use Rattle.search_state.specs.Inner.{Empty, faulty, Marked}
 use Rattle.search_state.proofs.Tests.{any-take, any-weaker, getD-any}
 use Rattle.search_state.proofs.Literals.{same-place, same-literal}
 
@@ -90,18 +90,15 @@ no-mark zero i = refl
 no-mark (suc n) zero = refl
 no-mark (suc n) (suc i) = no-mark n i
 
-pub empty-long : (seen : List Bool) → seen ≡ replicate 16000 false → length seen ≡ 16000
-empty-long seen e = ap length e ∙ length-replicate 16000 false
-
-pub marked-none : (values : List ℕ) (literals : List ℤ) (seen : List Bool) → seen ≡ replicate 16000 false
+pub marked-none : (values : List ℕ) (literals : List ℤ) (seen : List Bool) → Empty seen → length values ≤ length seen
     → Marked values (take 0 literals) seen
 unfolding repeats any
-marked-none values literals seen e = record {
-  long = empty-long seen e;
+marked-none values literals seen e long = record {
+  long = long;
   within = refl;
   apart = refl;
   agree = refl;
-  marks = λ i. ap (λ (t : List Bool). getD t i false) e ∙ no-mark 16000 i;
+  marks = λ i. ap (λ (t : List Bool). getD t i false) e ∙ no-mark (length seen) i;
 }
 
 -- the literal behind the first k
@@ -135,9 +132,9 @@ module _ (values : List ℕ) (literals : List ℤ) (k : ℕ) (h : k < length lit
         let t = any-weaker (λ x. sameLiteral x l) (λ x. eqb (placeOf x) (placeOf l)) (take k literals) (λ x. same-place x l) o in
         rw (add-one k, take-suc literals k (pos 0) h, is) (repeats-more (take k literals) l (m .apart) t)
 
-    marks-more : length values ≤ 16000 → (i : ℕ) → getD (set seen (placeOf l) true) i false ≡ onTrail (take (k + 1) literals) i
+    marks-more : (i : ℕ) → getD (set seen (placeOf l) true) i false ≡ onTrail (take (k + 1) literals) i
     unfolding any
-    marks-more w i =
+    marks-more i =
         rw (add-one k, take-suc literals k (pos 0) h, is, any-append (λ x. eqb (placeOf x) i) (take k literals) (l ∷ []), ← (m .marks i))
         (by (eqb (placeOf l) i) refl)
       where
@@ -148,14 +145,14 @@ module _ (values : List ℕ) (literals : List ℤ) (k : ℕ) (h : k < length lit
         by true e = rw (← (eqb-true (placeOf l) i e)) (getD-set-same seen (placeOf l) true false at ∙ sym (or-true (getD seen (placeOf l) false)))
         by false e = getD-set-other seen (placeOf l) i true false (λ d. eqb-false (placeOf l) i e (sym d)) ∙ sym (or-nothing (getD seen i false))
 
-    pub marked-more : length values ≤ 16000 → getD seen (placeOf l) false ≡ false
+    pub marked-more : getD seen (placeOf l) false ≡ false
         → Marked values (take (k + 1) literals) (set seen (placeOf l) true)
-    marked-more w e =
+    marked-more e =
         let g = and-true (isLiteral (length values) l) _ a in
         record {
           long = simp length-set (m .long);
           within = any-take (λ l. not (isLiteral (length values) l)) literals k (pos 0) h (m .within) (rw is (ap not (g .0)));
           apart = new e;
           agree = any-take (λ l. not (goesWith l (getD values (placeOf l) 2))) literals k (pos 0) h (m .agree) (rw is (ap not (g .1)));
-          marks = marks-more w;
+          marks = marks-more;
         }

@@ -3,19 +3,19 @@
 use mathlib.Core.Path.{_≡_}
 use mathlib.Core.Bool.{Bool, true, false, _||_}
 use mathlib.Core.List.{List}
-use Prim.Native.Nat.{ℕ}
+use Prim.Native.Nat.{ℕ, _≤_}
 use lib.Dec.{eqb}
 use lib.IntN.{ℤ}
-use lib.ListN.{length, getD}
+use lib.ListN.{length, getD, replicate}
 use Rattle.search_rules.specs.Held.{strays, repeats, contradicts, onTrail}
 
 -- a literal is out of range, repeated or contradicts its value
 abbrev pub faulty : List ℕ → List ℤ → Bool
 faulty values literals = strays (length values) literals || (repeats literals || contradicts values literals)
 
--- none is, and the table marks exactly their variables
+-- none is, and the table, which has a flag for each variable, marks exactly theirs
 pub record Marked (values : List ℕ) (literals : List ℤ) (seen : List Bool) : Type 0 where
-  pub long : length seen ≡ 16000
+  pub long : length values ≤ length seen
   pub within : strays (length values) literals ≡ false
   pub apart : repeats literals ≡ false
   pub agree : contradicts values literals ≡ false
@@ -25,6 +25,10 @@ pub record Marked (values : List ℕ) (literals : List ℤ) (seen : List Bool) :
 unfoldable pub MarkedIf : Bool → List ℕ → List ℤ → List Bool → Type 0
 MarkedIf true values literals seen = Marked values literals seen
 MarkedIf false values literals seen = faulty values literals ≡ true
+
+-- a table of any length, without a mark
+abbrev pub Empty : List Bool → Type 0
+Empty seen = seen ≡ replicate (length seen) false
 
 -- the variable at a place has a mark or an open value
 abbrev pub settled : List ℕ → List Bool → ℕ → Bool

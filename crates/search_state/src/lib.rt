@@ -1,14 +1,14 @@
 // Number 14 but for the steps (document 02, Change 1): whether values, trail and a length hold a state of the rules.
 ghost use mathlib.Core.Path.{_≡_};
-ghost use mathlib.Core.Bool.{not, false, _&&_};
+ghost use mathlib.Core.Bool.{not, _&&_};
 ghost use Prim.Native.Nat.{_≤_};
 ghost use lib.IntN.{pos, natAbs};
-ghost use lib.ListN.{length, getD, replicate};
+ghost use lib.ListN.{length, getD};
 ghost use Rattle.prelude.specs.Tests.{each, any};
 ghost use Rattle.literal.specs.Literals.{isLiteral};
 ghost use Rattle.search_rules.specs.Rules.{sameLiteral, placeOf};
 ghost use Rattle.search_rules.specs.Held.{goesWith, noState};
-ghost use Rattle.search_state.specs.Inner.{MarkedIf, settled};
+ghost use Rattle.search_state.specs.Inner.{MarkedIf, Empty, settled};
 
 // Whether a literal goes with the byte of its variable.
 fn goes_with(l: i32, b: u8) -> bool
@@ -40,7 +40,8 @@ fn agrees(values: &[u8], l: i32) -> bool
 // Marks the variables of the literals in an empty table, up to the first literal that strays, repeats or contradicts its value.
 fn mark(values: &[u8], literals: &[i32], seen: &mut [bool]) -> bool
     requires { ⌜ length (now values) ≤ 16000 ⌝ }
-    requires { ⌜ now seen ≡ replicate 16000 false ⌝ }
+    requires { ⌜ length (now values) ≤ length (now seen) ⌝ }
+    requires { ⌜ Empty (now seen) ⌝ }
     ensures { λ r. ⌜ MarkedIf r (now (values .entry)) (now (literals .entry)) (now (seen .exit)) ⌝ }
 {
     let mut k = 0;
@@ -90,7 +91,26 @@ fn all_zero(words: &[i32]) -> bool
     true
 }
 
-// Whether slices of one byte and one word for each variable hold a state, with so many words of the trail in use.
+// Whether values and trail hold a state, with so many words of the trail in use; over an empty table with a flag for each variable.
+fn holds(values: &[u8], trail: &[i32], used: usize, seen: &mut [bool]) -> bool
+    requires { ⌜ length (now values) ≤ 16000 ⌝ }
+    requires { ⌜ length (now trail) ≡ length (now values) ⌝ }
+    requires { ⌜ used ≤ length (now values) ⌝ }
+    requires { ⌜ length (now values) ≤ length (now seen) ⌝ }
+    requires { ⌜ Empty (now seen) ⌝ }
+    ensures { λ r. ⌜ r ≡ not (noState (length (now (values .entry))) (now (values .entry)) (now (trail .entry)) used) ⌝ }
+{
+    if !mark(values, &trail[..used], seen) {
+        return false;
+    }
+    if !open_outside(values, seen) {
+        return false;
+    }
+    all_zero(&trail[used..])
+}
+
+// Whether slices of one byte and one word for each variable hold a state, with so many words of the trail in use. Few variables take
+// a small table, which is filled in less time than a step takes.
 pub fn is_state(values: &[u8], trail: &[i32], used: usize) -> bool
     requires { ⌜ length (now values) ≤ 16000 ⌝ }
     requires { ⌜ length (now trail) ≡ length (now values) ⌝ }
@@ -99,12 +119,10 @@ pub fn is_state(values: &[u8], trail: &[i32], used: usize) -> bool
     if values.len() < used {
         return false;
     }
+    if values.len() <= 256 {
+        let mut few = [false; 256];
+        return holds(values, trail, used, &mut few);
+    }
     let mut seen = [false; 16000];
-    if !mark(values, &trail[..used], &mut seen) {
-        return false;
-    }
-    if !open_outside(values, &seen) {
-        return false;
-    }
-    all_zero(&trail[used..])
+    holds(values, trail, used, &mut seen)
 }

@@ -4,7 +4,7 @@ use mathlib.Core.Bool.{true}
 use Prim.Native.Nat.{_-_, _≤_, _<_}
 use native.Mathlib.Omega.{arith}
 use lib.IntN.{ℤ, pos}
-use lib.ListN.{length, getD, take}
+use lib.ListN.{length, getD, take, length-set}
 use lib.Seq.{take-all}
 use borrow.Author.Needs.{needs}
 use borrow.Author.Tests.{not-true, not-false}
@@ -15,12 +15,12 @@ use Rattle.literal.proofs.Words.{literal-low, literal-high}
 use Rattle.search_rules.specs.Rules.{placeOf}
 use Rattle.search_state.specs.Inner.{Marked, MarkedIf}
 use Rattle.search_state.proofs.Literals.{place-of}
-use Rattle.search_state.proofs.Marks.{agreesWith, place-within, empty-long, marked-none, disagrees, twice, marked-more}
+use Rattle.search_state.proofs.Marks.{agreesWith, place-within, marked-none, disagrees, twice, marked-more}
 use Rattle.search_state.proofs.mark.Statement.{statement}
 use Rattle.search_state.proofs.mark.Tie as tie
 
 abbrev Inv-loop : tie.InvT-loop
-Inv-loop values literals seen₀ k₀ seen k = (k ≤ length literals) × Marked values (take k literals) seen
+Inv-loop values literals seen₀ k₀ seen k = (k ≤ length literals) × (Marked values (take k literals) seen × (length seen ≡ length seen₀))
 
 abbrev μ-loop : tie.MeasureT-loop
 μ-loop values literals seen₀ k₀ seen k = length literals - k
@@ -28,7 +28,7 @@ abbrev μ-loop : tie.MeasureT-loop
 loop-holds : tie.Need-loop-holds Inv-loop μ-loop
 loop-holds c =
     let s = c .before .before in
-    (omega arith, marked-none (s .args .values .now) (s .args .literals .now) (s .args .seen .now) (s .pre .1))
+    (omega arith, (marked-none (s .args .values .now) (s .args .literals .now) (s .args .seen .now) (s .pre .1 .1) (s .pre .1 .0), refl))
 
 mul-l : tie.Need-mul-l Inv-loop μ-loop
 mul-l c = search needs
@@ -52,9 +52,7 @@ told : (c : tie.After-agrees Inv-loop μ-loop)
 told c = c .agrees .ensures ∙ ap (agreesWith (c .before .before .before .before .before .before .args .values .now)) (was-read c)
 
 same-length : tie.Need-same-length Inv-loop μ-loop
-same-length c =
-    let s = c .before .before .before .before .before .before .before in
-    c .before .before .before .before .loop .inv .1 .long ∙ sym (empty-long (s .args .seen .now) (s .pre .1))
+same-length c = c .before .before .before .before .loop .inv .1 .1
 
 returns : tie.Need-returns Inv-loop μ-loop
 unfolding MarkedIf
@@ -87,16 +85,14 @@ within : (c : tie.After-place Inv-loop μ-loop) → c .place .result < length (c
 within c =
     let s = c .before .before .before .before .before .before .before .before in
     let l = literal (c .before .before) in
-    let inv = c .before .before .before .before .before .loop .inv .1 in
-    rw (at c) (omega (arith, place-within (s .args .values .now) l (is-own (c .before)), s .pre .0, inv .long))
+    let inv = c .before .before .before .before .before .loop .inv .1 .0 in
+    rw (at c) (omega (arith, place-within (s .args .values .now) l (is-own (c .before)), inv .long))
 
 slice-read-if2 : tie.Need-slice-read-if2 Inv-loop μ-loop
 slice-read-if2 c = within (c .before)
 
 same-length-2 : tie.Need-same-length-2 Inv-loop μ-loop
-same-length-2 c =
-    let s = c .before .before .before .before .before .before .before .before .before .before in
-    c .before .before .before .before .before .before .before .loop .inv .1 .long ∙ sym (empty-long (s .args .seen .now) (s .pre .1))
+same-length-2 c = c .before .before .before .before .before .before .before .loop .inv .1 .1
 
 returns-2 : tie.Need-returns-2 Inv-loop μ-loop
 unfolding MarkedIf
@@ -105,7 +101,7 @@ returns-2 c =
     let s = b .before .before .before .before .args in
     let l = literal (c .before .before .before .before) in
     let seen = b .before .loop .seen in
-    twice (s .values .now) (s .literals .now) (b .before .loop .k) (b .loop-test .taken) l refl seen (b .before .loop .inv .1)
+    twice (s .values .now) (s .literals .now) (b .before .loop .k) (b .loop-test .taken) l refl seen (b .before .loop .inv .1 .0)
     (agrees (c .before .before .before)) (rw (at (c .before .before)) at (c .if2 .taken))
 
 slice-write-seen : tie.Need-slice-write-seen Inv-loop μ-loop
@@ -122,24 +118,26 @@ loop-again c =
     let b = c .before .before .before .before .before .before in
     let s = b .before .before .before .before in
     let l = literal (c .before .before .before .before) in
-    let seen = b .before .loop .seen in (
+    let seen = b .before .loop .seen in
+    let inv = b .before .loop .inv .1 in (
       omega (arith, b .loop-test .taken),
-      rw (at (c .before .before))
-          (marked-more (s .args .values .now) (s .args .literals .now) (b .before .loop .k) (b .loop-test .taken) l refl seen
-          (b .before .loop .inv .1) (agrees (c .before .before .before)) (s .pre .0) (rw (at (c .before .before)) at (c .if2 .left))),
+      (
+        rw (at (c .before .before))
+            (marked-more (s .args .values .now) (s .args .literals .now) (b .before .loop .k) (b .loop-test .taken) l refl seen
+            (inv .0) (agrees (c .before .before .before)) (rw (at (c .before .before)) at (c .if2 .left))),
+        simp length-set (inv .1),
+      ),
     )
 
 same-length-3 : tie.Need-same-length-3 Inv-loop μ-loop
-same-length-3 c =
-    let s = c .before .before .before .before in
-    c .before .loop .inv .1 .long ∙ sym (empty-long (s .args .seen .now) (s .pre .1))
+same-length-3 c = c .before .loop .inv .1 .1
 
 returns-3 : tie.Need-returns-3 Inv-loop μ-loop
 unfolding MarkedIf
 returns-3 c =
     let literals = c .before .before .before .before .args .literals .now in
     let all : take (c .before .loop .k) literals ≡ literals = take-all (c .before .loop .k) literals (omega arith) in
-    rw all at (c .before .loop .inv .1)
+    rw all at (c .before .loop .inv .1 .0)
 
 pub mark-spec : {M : Type 1} → statement M
 mark-spec =
