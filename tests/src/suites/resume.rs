@@ -203,10 +203,18 @@ fn after_an_end(source: &mut Source, list: &[i32], v: u32, number: u64) -> Resul
     Ok(true)
 }
 
+/// Two short clauses over many variables: the library takes another table beyond 256, and none has more than 16,000.
+fn wide(v: u32) -> (Vec<i32>, u32) {
+    let last = v as i32;
+    (vec![2, 1, last, 2, -last, 2], v)
+}
+
 /// States that a search left, each with every damage alone, with some two at once, and with a 12 or a 13 beside.
 fn damaged(source: &mut Source, tally: &mut Tally, number: u64) -> Result<(), String> {
     let (list, v) = match number % 100 {
-        45 | 90 => (vec![2, 1, 16_000, 2, -16_000, 2], 16_000),
+        15 => wide(256),
+        30 => wide(257),
+        45 | 90 => wide(16_000),
         _ => some_list(source, number),
     };
     let stop = source.pick(&[0, 1, 5, 10, 20, 50]).min(if v > 400 { 10 } else { 50 });
