@@ -160,6 +160,7 @@ module _ (done : ℕ) where
   was-taken (wasSpent t s) number e = let z : _≡_ {A = ℕ} 0 1 = cc in omega arith
 
 -- what "found" leaves in the first v values
-pub found-values : (v : ℕ) (state : State) (values : List ℕ) → take v (map settle (valuesOf v state) ++ drop v values) ≡ map settle (valuesOf v state)
+pub found-values : (v : ℕ) (state : State) (values : List ℕ)
+    → take v (map settle (valuesOf v state) ++ drop v values) ≡ map settle (valuesOf v state)
 found-values v state values =
     take-at (map settle (valuesOf v state)) (drop v values) v (length-map (valuesOf v state) settle ∙ length-values v state)

@@ -77,7 +77,9 @@ module _ (list : List ℤ) (v : ℕ) (values : List ℕ) (trail : List ℤ) (p :
   ran : Runs list v values trail p m
   ran =
       ⊎-elim
-      (λ d. absurd (let e : refused (d .0) ≡ spent steps = sym (ap (λ o. o .outcome .answer) (d .1)) ∙ answers in let z : _≡_ {A = ℕ} 0 1 = cc in omega arith))
+      (λ d.
+      absurd (let e : refused (d .0) ≡ spent steps = sym (ap (λ o. o .outcome .answer) (d .1)) ∙ answers in
+      let z : _≡_ {A = ℕ} 0 1 = cc in omega arith))
       (λ r. r) (called list v values trail p m)
 
   abbrev from : State

@@ -84,7 +84,8 @@ module _ (clauses : List (List ℤ)) (v : ℕ) where
       by endNone = refl
       by endFound = refl
       by (step kind s) = refl
-  run-plus (suc n) t u state = by (next clauses v state) (λ kind s. ap (λ x. run clauses v n x s) (plus-count kind t u) ∙ run-plus n t (count kind u) s)
+  run-plus (suc n) t u state =
+      by (next clauses v state) (λ kind s. ap (λ x. run clauses v n x s) (plus-count kind t u) ∙ run-plus n t (count kind u) s)
     where
       by : (x : Next) → ((kind : Kind) (s : State) → run clauses v n (count kind (plus t u)) s ≡ later t (run clauses v n (count kind u) s))
           → elim x as (λ _. End)

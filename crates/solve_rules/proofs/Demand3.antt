@@ -71,7 +71,8 @@ module _ (s : List ℕ) (lent : Slices) (h : FitsLimits s) (k : FitSlices s lent
   answered n =
       record {
         taken = λ number e. was-taken 0 (searchRun written v n) number
-            (adds-zero (searchRun written v n) ∙ sym (ap (λ o. o .answer) (runs written v (lent .values) (lent .trail) n is-list (k .values) (k .trail))) ∙ e);
+            (adds-zero (searchRun written v n)
+            ∙ sym (ap (λ o. o .answer) (runs written v (lent .values) (lent .trail) n is-list (k .values) (k .trail))) ∙ e);
         none-only = λ steps e. none s (h .layout) (h .accepted) .0
             λ a p. none-unsatisfiable written v (lent .values) (lent .trail) n steps e a (as-written p);
         found-only = λ steps e. reads _ (found-satisfies written v (lent .values) (lent .trail) n steps e);

@@ -108,7 +108,8 @@ module _ (c : tie.After-is-state) where
   tells : not (noState (from .args .v) vs ts (from .args .position .length)) ≡ c .is-state .result
   tells = sym (rw (wide (c .before .before .before)) at (c .is-state .ensures))
 
-refuses-state : (c : tie.Then4) → noState (from (c .before) .args .v) (vs (c .before)) (ts (c .before)) (from (c .before) .args .position .length) ≡ true
+refuses-state : (c : tie.Then4)
+    → noState (from (c .before) .args .v) (vs (c .before)) (ts (c .before)) (from (c .before) .args .position .length) ≡ true
 refuses-state c = denied _ (tells (c .before) ∙ not-true _ (c .if4 .taken))
 
 module _ (c : tie.Else4) where
