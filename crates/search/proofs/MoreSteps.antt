@@ -10,7 +10,7 @@ use lib.ListN.{length, take}
 use borrow.Author.Tests.{leb-true, leb-false}
 use Rattle.clause_list.specs.ClauseList.{clausesOf, isList}
 use Rattle.search_rules.specs.Run.{zeros, End, wasNone, wasFound, wasSpent}
-use Rattle.search_rules.specs.Held.{noState}
+use Rattle.search_rules.specs.Held.{noState, stepLimit}
 use Rattle.search_rules.proofs.Theorems.{again, resume}
 use Rattle.search.specs.declared.answer.Position.{Position}
 use Rattle.search.specs.Answers.{Answer, spent, answerAt, Outcome, finish, searchRun, outcome}
@@ -34,7 +34,7 @@ still-unspent : (done : ℕ) (a : Answer) → Unspent (addSteps done a) → Unsp
 still-unspent done a h steps e = h (done + steps) (ap (addSteps done) e)
 
 -- a resumed call
-module _ (list : List ℤ) (v : ℕ) (values : List ℕ) (trail : List ℤ) (p : Position) (m n : ℕ) (few : p .steps + (m + n) ≤ 18446744073709551615)
+module _ (list : List ℤ) (v : ℕ) (values : List ℕ) (trail : List ℤ) (p : Position) (m n : ℕ) (few : p .steps + (m + n) ≤ stepLimit)
     (unspent : Unspent (resumption list v values trail p m .outcome .answer)) where
   abbrev call : ℕ → Resumption
   call = resumption list v values trail p

@@ -10,6 +10,7 @@ use lib.Seq.{take-at, drop-at}
 use Rattle.clause_list.specs.ClauseList.{clausesOf, isList}
 use Rattle.search_rules.specs.Rules.{valuesOf, trailOf, Next, endNone, endFound, step, next}
 use Rattle.search_rules.specs.Run.{zeros, End, wasNone, wasFound, wasSpent, run}
+use Rattle.search_rules.specs.Held.{stepLimit}
 use Rattle.search_rules.proofs.Invariant.{length-values}
 use Rattle.search_rules.proofs.Trails.{length-trail}
 use Rattle.search.specs.Answers.{spent, answerAt, valuesAt, trailAt, Outcome, outcome, finish, searchRun}
@@ -72,6 +73,6 @@ module _ (list : List ℤ) (v : ℕ) (values : List ℕ) (trail : List ℤ) (is 
       ∙ (λ i. record { answer = answerAt end; values = valuesAt v end ++ values-behind i; trail = trailAt v end ++ trail-behind i })
       ∙ sym (runs list v values trail n is wide deep)
 
-  pub from-open : (n : ℕ) → n ≤ 18446744073709551615
+  pub from-open : (n : ℕ) → n ≤ stepLimit
       → resumption list v (first .values) (first .trail) start n .outcome ≡ outcome list v values trail n
   from-open n few = fresh-start list v (first .values) (first .trail) n values-open trail-open few ∙ over-open n

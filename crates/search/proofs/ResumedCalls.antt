@@ -11,7 +11,7 @@ use lib.Seq.{length-take-le}
 use borrow.Author.Tests.{leb-true, leb-false, ltb-true, ltb-false}
 use Rattle.clause_list.specs.ClauseList.{isList}
 use Rattle.search_rules.specs.Rules.{State}
-use Rattle.search_rules.specs.Held.{noState, tooMany, Stored}
+use Rattle.search_rules.specs.Held.{noState, stepLimit, tooMany, Stored}
 use Rattle.search_rules.proofs.StateHeld.{holds-state}
 use Rattle.search.specs.declared.answer.Position.{Position}
 use Rattle.search.specs.Resumed.{decline, finishAfter, startOf, resumedRun, resumption}
@@ -26,7 +26,7 @@ module _ (list : List ℤ) (v : ℕ) (values : List ℕ) (trail : List ℤ) (p :
     pub wide : v ≤ length values
     pub deep : v ≤ length trail
     pub holds : noState v (take v values) (take v trail) (p .length) ≡ false
-    pub few : p .steps + budget ≤ 18446744073709551615
+    pub few : p .steps + budget ≤ stepLimit
     pub ends : resumption list v values trail p budget ≡ finishAfter (p .steps) v values trail (resumedRun list v begin budget)
 
   abbrev Called : Type 0

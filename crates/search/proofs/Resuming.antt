@@ -14,7 +14,7 @@ use borrow.Author.Tests.{leb-true, leb-false}
 use Rattle.clause_list.specs.ClauseList.{clausesOf, isList}
 use Rattle.search_rules.specs.Rules.{State, valuesOf, trailOf}
 use Rattle.search_rules.specs.Run.{Tally, zeros, total, End, wasNone, wasFound, wasSpent}
-use Rattle.search_rules.specs.Held.{stateIn, WasOpen, Stored}
+use Rattle.search_rules.specs.Held.{stepLimit, stateIn, WasOpen, Stored}
 use Rattle.search_rules.proofs.Invariant.{length-values}
 use Rattle.search_rules.proofs.Trails.{length-trail}
 use Rattle.search_rules.proofs.Ranges.{fine-list, ranged}
@@ -38,7 +38,7 @@ module _ (v : ℕ) (state : State) (opened : WasOpen v state) (values : List ℕ
 
 -- a fresh start
 module _ (list : List ℤ) (v : ℕ) (values : List ℕ) (trail : List ℤ) (budget : ℕ) (vs : take v values ≡ valuesOf v [])
-    (ts : take v trail ≡ trailOf v []) (few : budget ≤ 18446744073709551615) where
+    (ts : take v trail ≡ trailOf v []) (few : budget ≤ stepLimit) where
   empty : Stored v [] (take v values) (take v trail) 0
   unfolding WasOpen
   empty = stored v [] tt values trail vs ts
@@ -156,8 +156,8 @@ module _ (list : List ℤ) (v : ℕ) (values : List ℕ) (trail : List ℤ) (p :
   finish-later (wasFound u state) = rw (values-behind, trail-behind, figure u) refl
   finish-later (wasSpent u state) = rw (values-behind, trail-behind, figure u) refl
 
-  module _ (n : ℕ) (few : p .steps + (m + n) ≤ 18446744073709551615) where
-    few-left : p .steps + total t + n ≤ 18446744073709551615
+  module _ (n : ℕ) (few : p .steps + (m + n) ≤ stepLimit) where
+    few-left : p .steps + total t + n ≤ stepLimit
     few-left = let e : p .steps + total t ≡ p .steps + m = sym (ap (λ q. q .steps) position-left) ∙ steps-left in omega arith
 
     goes-on : resumption list v values′ trail′ position′ n

@@ -11,7 +11,7 @@ use Rattle.prelude.proofs.Laws.{and-both, and-not-left, and-not-right, or-left,
 use Rattle.refusal.specs.declared.Refusal.{Refusal}
 use Rattle.refusal.specs.Refusals.{numberOf}
 use Rattle.clause_list.specs.ClauseList.{isList}
-use Rattle.search_rules.specs.Held.{noState}
+use Rattle.search_rules.specs.Held.{noState, stepLimit}
 use Rattle.search_rules.specs.Run.{End}
 use Rattle.search.specs.declared.answer.Search.the-variants.{Refused}
 use Rattle.search.specs.declared.answer.Position.{Position}
@@ -64,13 +64,13 @@ module _ (list : List ℤ) (v : ℕ) (values : List ℕ) (trail : List ℤ) (p :
       pub no-state : noState v (take v values) (take v trail) (p .length) ≡ true → call ≡ decline 14 values trail p
       no-state h = by-tests true true true is room (or-left _ _ h)
 
-      pub too-many : 18446744073709551615 < p .steps + budget → call ≡ decline 14 values trail p
+      pub too-many : stepLimit < p .steps + budget → call ≡ decline 14 values trail p
       too-many h = by-tests true true true is room (or-right (noState v (take v values) (take v trail) (p .length)) _ (lt-ltb _ _ h))
 
       pub takes : stopped ≡ false → call ≡ ended
       takes h = by-tests true true false is room h
 
-      pub runs : noState v (take v values) (take v trail) (p .length) ≡ false → p .steps + budget ≤ 18446744073709551615 → call ≡ ended
+      pub runs : noState v (take v values) (take v trail) (p .length) ≡ false → p .steps + budget ≤ stepLimit → call ≡ ended
       runs h k = takes (or-rest _ _ h ∙ le-ltb _ _ k)
 
 pub denied : (b : Bool) → not b ≡ false → b ≡ true

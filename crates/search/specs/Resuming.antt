@@ -5,6 +5,7 @@ use Prim.Native.Nat.{ℕ, _+_, _≤_}
 use lib.IntN.{ℤ}
 use lib.ListN.{length, take}
 use Rattle.search_rules.specs.Rules.{valuesOf, trailOf}
+use Rattle.search_rules.specs.Held.{stepLimit}
 use Rattle.search.specs.declared.answer.Position.{Position}
 use Rattle.search.specs.Answers.{spent, outcome}
 use Rattle.search.specs.Resumed.{Resumption, resumption}
@@ -16,7 +17,7 @@ start = record { length = 0; steps = 0 }
 -- "A record of zeros over open slices is a fresh start": it answers and leaves what `search` does
 abbrev pub FreshStart : Type 0
 FreshStart = (list : List ℤ) (v : ℕ) (values : List ℕ) (trail : List ℤ) (budget : ℕ) → take v values ≡ valuesOf v [] → take v trail ≡ trailOf v []
-    → budget ≤ 18446744073709551615 → resumption list v values trail start budget .outcome ≡ outcome list v values trail budget
+    → budget ≤ stepLimit → resumption list v values trail start budget .outcome ≡ outcome list v values trail budget
 
 -- calls over one list and v, from slices and a record on: each but the last is spent, and the next takes up what it left;
 -- n steps are allowed in all, and the last call comes to r
@@ -32,4 +33,4 @@ pub data Chain (list : List ℤ) (v : ℕ) : List ℕ → List ℤ → Position 
 -- start, provided the clause list and v are the same and record and slices are those the search left": and so for any number of calls
 abbrev pub SameAsOne : Type 0
 SameAsOne = (list : List ℤ) (v : ℕ) (values : List ℕ) (trail : List ℤ) (p : Position) (n : ℕ) (r : Resumption) → Chain list v values trail p n r
-    → p .steps + n ≤ 18446744073709551615 → r ≡ resumption list v values trail p n
+    → p .steps + n ≤ stepLimit → r ≡ resumption list v values trail p n

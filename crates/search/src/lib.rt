@@ -15,7 +15,8 @@ pub mod answer; // answer.rt: what a search answers, and where it stands
 mod fills; // fills.rt: slices, filled
 mod runs; // runs.rt: the run over slices that fit
 
-const MOST_STEPS: u64 = 18446744073709551615;
+// The steps that are counted at most.
+const STEP_LIMIT: u64 = 18446744073709551615;
 
 // The search from a fresh start within a budget. Its answer and all that it leaves are those of the definition `outcome`.
 pub fn search(list: &[i32], v: u32, values: &mut [u8], trail: &mut [i32], budget: u64) -> Search
@@ -74,7 +75,7 @@ pub fn resumed(
     if !is_state(vs, ts, position.length) {
         return refused(Refusal::State, position);
     }
-    if MOST_STEPS - position.steps < budget {
+    if STEP_LIMIT - position.steps < budget {
         return refused(Refusal::State, position);
     }
     go_on(list, vs, ts, position, budget)

@@ -4,7 +4,7 @@ ghost use Prim.Native.Nat.{_+_, _≤_};
 ghost use lib.ListN.{length};
 ghost use Rattle.literal.specs.Literals.{lastVariable};
 ghost use Rattle.search_rules.specs.Rules.{State};
-ghost use Rattle.search_rules.specs.Held.{Stored};
+ghost use Rattle.search_rules.specs.Held.{stepLimit, Stored};
 ghost use Rattle.search_rules.specs.Inner.{Fine};
 ghost use Rattle.search_core.specs.Inner.{SomeStored};
 ghost use Rattle.search.specs.Answers.{answerOf, answerAt, valuesAt, trailAt, searchRun};
@@ -31,7 +31,7 @@ pub(crate) fn go_on(
     requires { ⌜ Fine (length (now values)) (now list) ⌝ }
     requires { ⌜ length (now values) ≤ lastVariable ⌝ }
     requires { ⌜ SomeStored (length (now values)) (now values) (now trail) (position .length) ⌝ }
-    requires { ⌜ position .steps + budget ≤ 18446744073709551615 ⌝ }
+    requires { ⌜ position .steps + budget ≤ stepLimit ⌝ }
     ensures { λ r. ⌜ ((state : State) → Stored (length (now (values .entry))) state (now (values .entry)) (now (trail .entry)) (position .length)
         → Finished (length (now (values .entry))) (position .steps)
         (resumedRun (now (list .entry)) (length (now (values .entry))) state budget)

@@ -55,8 +55,11 @@ noState v values trail n =
     || (setOutside v values literals || filledOutside trail n))))
 
 -- "or steps done and allowed together pass 2^64 - 1"
+abbrev pub stepLimit : ℕ
+stepLimit = 18446744073709551615
+
 abbrev pub tooMany : ℕ → ℕ → Bool
-tooMany done allowed = ltb 18446744073709551615 (done + allowed)
+tooMany done allowed = ltb stepLimit (done + allowed)
 
 -- The state that values, trail and length hold.
 

@@ -7,6 +7,7 @@ use borrow.Author.Needs.{needs}
 use Rattle.clause_list.specs.ClauseList.{clausesOf}
 use Rattle.search_rules.specs.Rules.{State}
 use Rattle.search_rules.specs.Run.{total, zeros}
+use Rattle.search_rules.specs.Held.{stepLimit}
 use Rattle.search_core.specs.Inner.{tallyOf}
 use Rattle.search.proofs.Outcomes.{figure-within, finish-none, finish-found, finish-spent}
 use Rattle.search.proofs.runs.go_on.Statement.{statement}
@@ -29,7 +30,7 @@ module _ (c : tie.After-run) where
   abbrev state : State
   state = from .pre .1 .1 .0 .state
 
-  small : from .args .position .steps + total (tallyOf (c .run .result .progress)) ≤ 18446744073709551615
+  small : from .args .position .steps + total (tallyOf (c .run .result .progress)) ≤ stepLimit
   unfolding total
   small =
       let f = figure-within (clausesOf (from .args .list .now)) v (from .args .budget) zeros state in
