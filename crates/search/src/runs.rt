@@ -34,8 +34,7 @@ pub(crate) fn go_on(
     requires { ⌜ position .steps + budget ≤ stepLimit ⌝ }
     ensures { λ r. ⌜ ((state : State) → Stored (length (now (values .entry))) state (now (values .entry)) (now (trail .entry)) (position .length)
         → Finished (length (now (values .entry))) (position .steps)
-        (resumedRun (now (list .entry)) (length (now (values .entry))) state budget)
-        r (now (values .exit)) (now (trail .exit))) ⌝ }
+        (resumedRun (now (list .entry)) (length (now (values .entry))) state budget) r (now (values .exit)) (now (trail .exit))) ⌝ }
 {
     let start = Progress {
         used: position.length,
