@@ -161,8 +161,9 @@ module _ (S : Answers) {M : Type 1} (𝓤 : URA M) (E : Ensures S 𝓤) (H : Hea
     -- ---- the code, from its first statement on
     abbrev Own : Fml
     Own =
-        owns (ShrSlice (named 0) κ₀ i32 ∷ u32 ∷ MutSlice (named 1) κ₁ u8 ∷ MutSlice (named 2) κ₂ i32 ∷ MutRef (named 3) κ₃ T.the-row ∷ u64 ∷ []) args
-        vals
+        owns
+        (ShrSlice (named 0) κ₀ i32 ∷ u32 ∷ MutSlice (named 1) κ₁ u8 ∷ MutSlice (named 2) κ₂ i32 ∷ MutRef (named 3) κ₃ T.the-row ∷ u64 ∷ [])
+        args vals
 
     walk : (core : Name) (C : Calls 𝓤 H) (Λ : Loops 𝓤 H) → FmC 𝓤 H (W .laws) C → Triple 𝓤 (C core) (Core S 𝓤 E H A)
         → Is (ShrSlice (named 0) κ₀ i32) list (slice-vals list) → Is (MutSlice (named 1) κ₁ u8) values (slice-vals values)
