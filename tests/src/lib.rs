@@ -19,6 +19,7 @@ pub mod resume;
 pub mod search;
 pub mod shadows;
 pub mod sheet;
+pub mod struck;
 
 #[cfg(test)]
 mod cases;
