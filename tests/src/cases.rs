@@ -157,6 +157,9 @@ fn sizes() {
         let variables = count(&gates_of(gates).bytes()).map(|size| size.variables as usize);
         assert_eq!(variables, if gates + 4 <= 16_000 { Ok(gates + 4) } else { Err(SIZE) });
     }
+    // the constant, the cells, the closure and "some": a sheet of `closures` without its binders
+    let closure = one(8, 2, 0, &[node(1, 0, 0), node(11, 0, 0), node(22, 1, 0)]);
+    assert_eq!(count(&closure.bytes()).map(|size| size.variables), Ok(1 + 64 + 1_896 + 1));
 }
 
 #[test]

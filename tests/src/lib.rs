@@ -13,6 +13,7 @@ pub mod meaning;
 pub mod random;
 pub mod random_damage;
 pub mod random_list;
+pub mod random_rich;
 pub mod random_sheet;
 pub mod random_state;
 pub mod resume;
