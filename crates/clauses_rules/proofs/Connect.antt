@@ -1,19 +1,20 @@
 -- OR, AND and IFF are right. Nothing but `right-or` looks into the rule for OR: another rule with this law changes that rule
--- and this one proof.
+-- and this one proof. (What it says of the list is in Struck.)
 use mathlib.Core.Path.{_≡_, refl, sym, ap, _∙_}
-use mathlib.Core.Bool.{Bool, true, false, not, _&&_, _||_, or-false}
+use mathlib.Core.Bool.{Bool, true, false, not, _&&_, _||_, cond, or-false}
 use mathlib.Core.List.{List, [], _∷_, map}
 use Prim.Native.Nat.{ℕ, zero, suc}
 use native.Mathlib.Omega.{arith}
 use lib.ListN.{length, getD}
 use Rattle.prelude.specs.Tests.{all, any}
-use Rattle.literal.specs.Literals.{Literal, negative, opposite}
-use Rattle.clauses_rules.specs.Builder.{Gate, _>>=_}
-use Rattle.clauses_rules.specs.Gates.{gateOf, or, and, iff}
+use Rattle.literal.specs.Literals.{Literal, positive, negative, opposite}
+use Rattle.clauses_rules.specs.Builder.{Gate, return, _>>=_}
+use Rattle.clauses_rules.specs.Gates.{gateOf, remaining, givesTrue, orOf, or, and, iff}
 use Rattle.clauses_rules.proofs.Values.{value, AllIn, value-opposite, in-opposite}
 use Rattle.clauses_rules.proofs.Gate.{length-snoc, get-here}
 use Rattle.clauses_rules.proofs.Build.{extends-trans, Right, Means, nothing, more, Mean, One, means-extends, right-return, right-map}
 use Rattle.clauses_rules.proofs.Build.{right-bind}
+use Rattle.clauses_rules.proofs.Struck.{remaining-any, remaining-in, gives-true-any}
 
 -- the bits of a list, all or some of them
 abbrev pub every : List Bool → Bool
@@ -62,12 +63,33 @@ right-gate a {ls} b p =
           };
     }
 
+-- what remains: none, one, or a gate
+right-or-of : (a : List Bool) {ms : List Bool} {ls : List Literal} → One a → Mean ms a ls → Right a (orOf ls (length a)) (Means (some ms))
+unfolding any
+right-or-of a b nothing = right-return a (negative 1) (Means false) (means-opposite b)
+right-or-of a b (more {x = m} {y = l} p nothing) = right-return a l (Means (m || false)) (rw or-false p)
+right-or-of a b (more p (more q ps)) = right-gate a b (more p (more q ps))
+
+-- literals mean what their values are
+values-mean : (a : List Bool) (ls : List Literal) → AllIn (length a) ls → Mean (map (value a) ls) a ls
+values-mean a [] i = nothing
+values-mean a (l ∷ ls) i = more (record { inside = i .0; value = refl }) (values-mean a ls (i .1))
+
 -- the one law of OR
 pub right-or : (a : List Bool) {ms : List Bool} {ls : List Literal} → One a → Mean ms a ls → Right a (or ls (length a)) (Means (some ms))
 unfolding or any
-right-or a b nothing = right-return a (negative 1) (Means false) (means-opposite b)
-right-or a b (more {x = m} {y = l} p nothing) = right-return a l (Means (m || false)) (rw or-false p)
-right-or a b (more p (more q ps)) = right-gate a b (more p (more q ps))
+right-or a {ms} {ls} b p = rw (← mean-some p) (go (givesTrue ls) refl)
+  where
+    rest : List Literal
+    rest = remaining [] ls
+
+    go : (t : Bool) → givesTrue ls ≡ t → Right a (cond t (return (positive 1)) (orOf rest) (length a)) (Means (any (value a) ls))
+    go true e =
+        right-return a (positive 1) (Means (any (value a) ls))
+        record { inside = b .inside; value = b .value ∙ sym (gives-true-any (value a) (b .value) (value-opposite a) ls e) }
+    go false e =
+        let means = values-mean a rest (remaining-in (length a) ls [] (mean-inside p)) in
+        rw (← remaining-any (value a) (ap not (b .value)) ls [], mean-some means) (right-or-of a b means)
 
 not-some-not : (ms : List Bool) → not (some (map not ms)) ≡ every ms
 unfolding any all
