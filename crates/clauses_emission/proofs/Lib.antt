@@ -5,5 +5,5 @@ pub mod Steps
 pub mod Ors
 pub mod Settled
 pub mod Looks
-pub mod Settlings
+pub mod InPlace
 pub mod Twos

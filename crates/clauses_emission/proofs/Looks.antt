@@ -1,13 +1,12 @@
 -- What is seen among words, one after the other.
-use mathlib.Core.Path.{_≡_, refl, sym, ap, _∙_}
-use mathlib.Core.Bool.{true, false}
-use mathlib.Core.List.{List, [], _∷_}
+use mathlib.Core.Path.{_≡_, sym, ap, _∙_}
+use mathlib.Core.List.{List, _∷_}
 use Prim.Native.Nat.{ℕ, suc, _≤_, _<_}
 use lib.IntN.{ℤ, pos, negsuc}
 use lib.ListN.{length, getD, drop, drop-of-length-le}
 use lib.Seq.{drop-cons}
 use Rattle.literal.specs.Literals.{Literal, opposite, literalOf, isSame}
-use Rattle.literal.proofs.Same.{same-is, same-self, same-not, opposite-twice, one-word}
+use Rattle.literal.proofs.Same.{same-self, same-not, opposite-twice, one-word}
 use Rattle.clauses_rules.specs.Translation.{absent}
 use Rattle.clauses_emission.specs.declared.Seen.the-variants.{Nothing, Itself, Opposite}
 use Rattle.clauses_emission.specs.Emission.{literalsOf}

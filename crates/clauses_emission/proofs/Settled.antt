@@ -3,10 +3,10 @@ use mathlib.Core.Path.{_≡_, refl, sym, ap, _∙_, subst}
 use mathlib.Core.Bool.{Bool, true, false, _||_, cond, true≢false, false≢true, or-false}
 use mathlib.Core.List.{List, [], _∷_, _++_, append-assoc, append-nil}
 use mathlib.Core.Logic.{⊎-elim}
-use Prim.Native.Nat.{ℕ, zero, suc, _≤_}
+use Prim.Native.Nat.{ℕ, suc, _≤_}
 use Rattle.prelude.specs.Tests.{any}
-use Rattle.prelude.proofs.Laws.{clash, decided, or-left, or-right, or-rest, or-cases, any-append}
-use Rattle.literal.specs.Literals.{Literal, positive, negative, opposite, isSame}
+use Rattle.prelude.proofs.Laws.{decided, or-left, or-right, or-rest, or-cases, any-append}
+use Rattle.literal.specs.Literals.{Literal, positive, opposite, isSame}
 use Rattle.literal.proofs.Same.{same-is, same-self, same-not, same-turned, opposite-other, opposite-twice}
 use Rattle.clauses_rules.specs.Builder.{return}
 use Rattle.clauses_rules.specs.Gates.{contains, struck, remaining, givesTrue, orOf, or}

@@ -1,12 +1,12 @@
 -- OR of two literals where it is told without a list, and where it is a gate.
-use mathlib.Core.Path.{_≡_, refl, sym, ap, _∙_, subst}
+use mathlib.Core.Path.{_≡_, sym, ap, _∙_}
 use mathlib.Core.Bool.{true, false, _||_, true≢false}
 use mathlib.Core.List.{List, [], _∷_}
 use mathlib.Core.Logic.{_⊎_, inl, inr, ⊎-elim}
 use Prim.Native.Nat.{ℕ}
 use Rattle.prelude.specs.Tests.{any}
 use Rattle.prelude.proofs.Laws.{decided, or-left, or-right}
-use Rattle.literal.specs.Literals.{Literal, positive, negative, opposite, isSame}
+use Rattle.literal.specs.Literals.{Literal, positive, opposite, isSame}
 use Rattle.literal.proofs.Same.{same-is, same-self, opposite-twice}
 use Rattle.clauses_rules.specs.Builder.{return}
 use Rattle.clauses_rules.specs.Gates.{gateOf, givesTrue, orOf, or}

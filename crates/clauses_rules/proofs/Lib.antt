@@ -15,3 +15,4 @@ pub mod Accepted
 pub mod Listed
 pub mod Series
 pub mod Theorems
+pub mod Cases

@@ -12,7 +12,7 @@ use Rattle.clauses_emission.specs.Emission.{literalsOf, Inside, Inputs}
 use Rattle.clauses_emission.proofs.Ranges.{inside-absent, all-grows, literal-at}
 use Rattle.clauses_emission.proofs.Steps.{emits-return, emits-as, emits-literal}
 use Rattle.clauses_emission.proofs.Ors.{or-none, or-one, or-many}
-use Rattle.clauses_emission.proofs.Settlings.{settled-or, settled-inputs}
+use Rattle.clauses_emission.proofs.InPlace.{settled-or, settled-inputs}
 use borrow.Author.Needs.{needs}
 use Rattle.clauses_emission.proofs.gates.or.Statement.{statement}
 use Rattle.clauses_emission.proofs.gates.or.Tie as tie

@@ -1,16 +1,16 @@
 -- `inputs::look` meets its contract. The loop's invariant: what is seen from place k on is what is seen among all.
 use borrow.Author.Needs.{needs}
-use mathlib.Core.Path.{_≡_, refl, sym, ap, _∙_}
+use mathlib.Core.Path.{_≡_, sym, ap, _∙_}
 use mathlib.Core.List.{_∷_}
 use Prim.Native.Nat.{_-_, _≤_}
 use native.Mathlib.Numerals.{add-one}
 use native.Mathlib.Omega.{arith}
-use lib.IntN.{pos, negsuc}
+use lib.IntN.{pos}
 use lib.ListN.{length, getD, drop}
 use mir.Syntax.{w32}
 use mir.Val.{toZ, ofZ}
 use Rattle.literal.specs.Literals.{opposite, literalOf}
-use Rattle.literal.proofs.Signs.{read, back, same-word, same-as}
+use Rattle.literal.proofs.Signs.{back, same-word, same-as}
 use Rattle.literal.proofs.Same.{one-word}
 use Rattle.clauses_rules.specs.Translation.{absent}
 use Rattle.clauses_emission.specs.Emission.{literalsOf}

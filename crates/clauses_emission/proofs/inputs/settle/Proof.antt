@@ -15,7 +15,7 @@ use Rattle.clauses_emission.specs.Emission.{literalsOf}
 use Rattle.clauses_emission.specs.Settling.{seenIn}
 use Rattle.clauses_emission.proofs.Ranges.{literal-at}
 use Rattle.clauses_emission.proofs.Rests.{rest-at}
-use Rattle.clauses_emission.proofs.Settlings.{Settling, settling-start, settling-new, settling-old, settling-true, settling-done}
+use Rattle.clauses_emission.proofs.InPlace.{Settling, settling-start, settling-new, settling-old, settling-true, settling-done}
 use Rattle.clauses_emission.proofs.inputs.settle.Statement.{statement}
 use Rattle.clauses_emission.proofs.inputs.settle.Tie as tie
 
@@ -83,8 +83,7 @@ slice-set-of-inputs : tie.Need-slice-set-of-inputs Inv-loop μ-loop
 slice-set-of-inputs c = omega arith
 
 same-length : tie.Need-same-length Inv-loop μ-loop
-same-length c =
-    length-set (c .before .before .before .before .before .before .loop .inputs) 0 (pos 1) ∙ c .before .before .before .before .before .before .loop .inv .size
+same-length c = simp length-set (c .before .before .before .before .before .before .loop .inv .size)
 
 returns : tie.Need-returns Inv-loop μ-loop
 returns c =
