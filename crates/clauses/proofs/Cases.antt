@@ -2,9 +2,9 @@
 use mathlib.Core.Path.{_≡_, refl, ap}
 use mathlib.Core.List.{List, [], _∷_}
 use Prim.Native.Nat.{ℕ}
-use Rattle.prelude.specs.Tests.{each}
+use Rattle.prelude.specs.Tests.{each, any}
 use Rattle.kinds.specs.Kinds.{rowOf}
-use Rattle.literal.specs.Literals.{Literal, positive, negative}
+use Rattle.literal.specs.Literals.{Literal, positive}
 use Rattle.clause_list.specs.ClauseList.{wordsOf}
 use Rattle.sheet_rules.specs.Blocks.{sheetOf}
 use Rattle.sheet_rules.specs.Tables.{table, shapeStep, freeStep, visitsStep}
@@ -14,7 +14,7 @@ use Rattle.relational.specs.Cells.{firstCell}
 use Rattle.relational.specs.Matrices.{Matrix, rounds}
 use Rattle.clauses_rules.specs.Builder as b
 use Rattle.clauses_rules.specs.Builder.{return}
-use Rattle.clauses_rules.specs.Gates.{or, inputClauses, gatesClauses}
+use Rattle.clauses_rules.specs.Gates.{remaining, or, inputClauses, gatesClauses}
 use Rattle.clauses_rules.specs.Translation.{afterRounds, translate, translateUnary}
 use Rattle.clauses_rules.specs.Whole.{series, markClauses, rootWalk, clauses, words, variableTotal}
 use Rattle.clauses.specs.Answers.{fits, countAnswer}
@@ -24,25 +24,17 @@ pub k6 : (p : Matrix Literal) → p .rows ≡ 1 → translateUnary closure p ≡
 unfolding afterRounds rounds
 k6 p e = ap (λ (n : ℕ). afterRounds (rounds n) p) e
 
--- one sort of two atoms, one free set, "r equal r": gates hold a variable with both signs
+-- one sort of two atoms, one free set, "r equal r": each OR has a variable with both signs, and the formula is the literal 1
 abbrev pub equal-itself : List ℕ
 equal-itself = 1 ∷ 0 ∷ 1 ∷ 2 ∷ 0 ∷ 0 ∷ 0 ∷ 4 ∷ 1 ∷ 0 ∷ 0 ∷ 0 ∷ 0 ∷ 6 ∷ 1 ∷ 0 ∷ 0 ∷ 20 ∷ 0 ∷ 0 ∷ []
 
-pub equal-itself-clauses : clauses (sheetOf equal-itself)
-    ≡ (positive 1 ∷ [])
-    ∷ (positive 4 ∷ positive 2 ∷ []) ∷ (positive 4 ∷ negative 2 ∷ []) ∷ (negative 4 ∷ negative 2 ∷ positive 2 ∷ [])
-    ∷ (positive 5 ∷ positive 2 ∷ []) ∷ (positive 5 ∷ negative 2 ∷ []) ∷ (negative 5 ∷ negative 2 ∷ positive 2 ∷ [])
-    ∷ (positive 6 ∷ positive 4 ∷ []) ∷ (positive 6 ∷ positive 5 ∷ []) ∷ (negative 6 ∷ negative 4 ∷ negative 5 ∷ [])
-    ∷ (positive 7 ∷ positive 3 ∷ []) ∷ (positive 7 ∷ negative 3 ∷ []) ∷ (negative 7 ∷ negative 3 ∷ positive 3 ∷ [])
-    ∷ (positive 8 ∷ positive 3 ∷ []) ∷ (positive 8 ∷ negative 3 ∷ []) ∷ (negative 8 ∷ negative 3 ∷ positive 3 ∷ [])
-    ∷ (positive 9 ∷ positive 7 ∷ []) ∷ (positive 9 ∷ positive 8 ∷ []) ∷ (negative 9 ∷ negative 7 ∷ negative 8 ∷ [])
-    ∷ (positive 10 ∷ negative 6 ∷ []) ∷ (positive 10 ∷ negative 9 ∷ []) ∷ (negative 10 ∷ positive 6 ∷ positive 9 ∷ [])
-    ∷ (negative 10 ∷ []) ∷ []
-unfolding clauses markClauses rootWalk series translate table treeStep symbolOf firstCell b.each or inputClauses gatesClauses
+pub equal-itself-clauses : clauses (sheetOf equal-itself) ≡ (positive 1 ∷ []) ∷ (positive 1 ∷ []) ∷ []
+unfolding clauses markClauses rootWalk series translate table treeStep symbolOf firstCell b.each or remaining any
+    inputClauses gatesClauses
 equal-itself-clauses = refl
 
-pub equal-itself-answer : countAnswer equal-itself ≡ fits 10 23 74
+pub equal-itself-answer : countAnswer equal-itself ≡ fits 3 2 4
 unfolding countAnswer reading counted scoped declared nodesFine shaped rooted walkable each rowOf shapeStep freeStep visitsStep
     variableTotal words wordsOf clauses markClauses rootWalk series translate table treeStep symbolOf firstCell
-    b.each or inputClauses gatesClauses
+    b.each or remaining any inputClauses gatesClauses
 equal-itself-answer = refl

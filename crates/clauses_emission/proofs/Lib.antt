@@ -1,4 +1,9 @@
 pub mod Writes
 pub mod Ranges
+pub mod Rests
 pub mod Steps
 pub mod Ors
+pub mod Settled
+pub mod Looks
+pub mod InPlace
+pub mod Twos

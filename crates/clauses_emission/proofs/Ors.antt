@@ -9,7 +9,7 @@ use lib.Seq.{take-all, take-suc, take-suc-set}
 use Rattle.literal.specs.Literals.{Literal, positive, negative, opposite, literalOf, wordOf}
 use Rattle.clause_list.specs.ClauseList.{wordsOf}
 use Rattle.clauses_rules.specs.Builder.{Builder, return, _<$>_}
-use Rattle.clauses_rules.specs.Gates.{Clause, gateOf, or, inputClauses, gatesClauses}
+use Rattle.clauses_rules.specs.Gates.{Clause, gateOf, orOf, inputClauses, gatesClauses}
 use Rattle.clauses_emission.specs.declared.Tape.{Tape}
 use Rattle.clauses_emission.specs.declared.Made.{Made}
 use Rattle.clauses_emission.specs.Emission.{Inside, literalsOf, wordsFor, Appends, Room, Bounded, Within, Emits, EmitsLiteral}
@@ -97,20 +97,17 @@ module _ (tape : Tape) (ls : List Literal) (bounded : Bounded tape) (within : Wi
 pub regular-gate : (ls : List Literal) → Regular (gateOf ls)
 regular-gate ls = record { counts = λ g. omega arith }
 
--- ---- OR by the number of its inputs
-pub or-none : (ws : List ℤ) (g : ℕ) → length ws ≡ 0 → return (negative 1) g ≡ or (literalsOf ws) g
-unfolding or
+-- ---- what remains of an OR, by its number
+pub or-none : (ws : List ℤ) (g : ℕ) → length ws ≡ 0 → return (negative 1) g ≡ orOf (literalsOf ws) g
 or-none [] g e = refl
 or-none (w ∷ ws) g e = absurd (omega (arith, e))
 
-pub or-one : (ws : List ℤ) (g : ℕ) → length ws ≡ 1 → return (literalOf (getD ws 0 (pos 0))) g ≡ or (literalsOf ws) g
-unfolding or
+pub or-one : (ws : List ℤ) (g : ℕ) → length ws ≡ 1 → return (literalOf (getD ws 0 (pos 0))) g ≡ orOf (literalsOf ws) g
 or-one [] g e = absurd (omega (arith, e))
 or-one (w ∷ []) g e = refl
 or-one (w ∷ v ∷ ws) g e = absurd (omega (arith, e))
 
-pub or-many : (ws : List ℤ) (g : ℕ) → (length ws ≡ 0 → ⊥) → (length ws ≡ 1 → ⊥) → gateOf (literalsOf ws) g ≡ or (literalsOf ws) g
-unfolding or
+pub or-many : (ws : List ℤ) (g : ℕ) → (length ws ≡ 0 → ⊥) → (length ws ≡ 1 → ⊥) → gateOf (literalsOf ws) g ≡ orOf (literalsOf ws) g
 or-many [] g e f = absurd (e refl)
 or-many (w ∷ []) g e f = absurd (f refl)
 or-many (w ∷ v ∷ ws) g e f = refl
@@ -129,11 +126,10 @@ opposites-next ws out k r h l e f =
     ∙ ap (map opposite) (map-append literalOf (take k ws) (w ∷ []))
     ∙ map-append opposite (literalsOf (take k ws)) (literalOf w ∷ [])))
 
-pub opposites-all : (ws out : List ℤ) (k : ℕ) → k ≤ length ws → length ws ≤ k
-    → literalsOf (take k out) ≡ map opposite (literalsOf (take k ws)) → literalsOf (take (length ws) out) ≡ map opposite (literalsOf ws)
-opposites-all ws out k h l i =
-    let e : length ws ≡ k = omega arith in
-    ap (λ (n : ℕ). literalsOf (take n out)) e ∙ i ∙ ap (λ (t : List ℤ). map opposite (literalsOf t)) (take-all k ws l)
+pub opposites-all : (ws out : List ℤ) (k : ℕ) → length ws ≤ k → length out ≡ length ws
+    → literalsOf (take k out) ≡ map opposite (literalsOf (take k ws)) → literalsOf out ≡ map opposite (literalsOf ws)
+opposites-all ws out k h e i =
+    sym (ap literalsOf (take-all k out (omega arith))) ∙ i ∙ ap (λ (t : List ℤ). map opposite (literalsOf t)) (take-all k ws h)
 
 -- ---- the opposite of what a step gives
 pub emits-negated : (step : Builder Literal) (x y : Made) {old new : List ℤ} {a : Tape}

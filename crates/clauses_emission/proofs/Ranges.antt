@@ -23,9 +23,8 @@ inside-opposite (negative v) i = record { low = i .low; high = i .high }
 pub inside-absent : (n : ℕ) → 2 ≤ n → Inside n absent
 inside-absent n h = record { low = omega arith; high = omega arith }
 
-pub opposite-twice : (l : Literal) → opposite (opposite l) ≡ l
-opposite-twice (positive v) = refl
-opposite-twice (negative v) = refl
+pub inside-one : (n : ℕ) → 2 ≤ n → Inside n (positive 1)
+inside-one n h = record { low = omega arith; high = omega arith }
 
 -- the opposite of a word is the word of the opposite: only 0, and a word past the range, have none
 opposite-plain : (w : ℤ) → 1 ≤ natAbs w → literalOf (negℤ w) ≡ opposite (literalOf w)

@@ -1,5 +1,6 @@
 -- What it means that steps put together are done (specs/Emission): a sequence of two, a changed value, a list of steps.
 use mathlib.Core.Path.{_≡_, refl, sym, ap, _∙_, subst}
+use mathlib.Core.Bool.{Bool, true, false, cond}
 use mathlib.Core.List.{List, [], _∷_, _++_, map, append-assoc, append-nil}
 use mathlib.Core.Logic.{_⊎_, inl, inr, ⊎-elim}
 use Prim.Native.Nat.{ℕ, suc, _+_, _≤_, _<_}
@@ -10,11 +11,11 @@ use lib.IntN.{ℤ}
 use lib.ListN.{length, length-append}
 use borrow.Author.Tests.{leb-true, leb-false}
 use Rattle.prelude.proofs.Laws.{decided}
-use Rattle.literal.specs.Literals.{Literal, opposite}
+use Rattle.literal.specs.Literals.{Literal, positive, opposite}
 use Rattle.relational.specs.Matrices.{upto}
 use Rattle.relational.proofs.Places.{upto-suc}
 use Rattle.clauses_rules.specs.Builder.{Gate, Built, Builder, return, _>>=_, _<$>_, each}
-use Rattle.clauses_rules.specs.Gates.{or, and, gatesClauses}
+use Rattle.clauses_rules.specs.Gates.{remaining, givesTrue, orOf, or, and, gatesClauses}
 use Rattle.clauses_rules.specs.Translation.{Two}
 use Rattle.clauses_rules.proofs.Gate.{gates-append}
 use Rattle.clauses_emission.specs.declared.Tape.{Tape}
@@ -48,11 +49,18 @@ regular-each step r (x ∷ xs) =
     regular-bind (step x) (λ y. (λ ys. y ∷ ys) <$> each step xs) (r x)
     (λ y. regular-map (λ ys. y ∷ ys) (each step xs) (regular-each step r xs))
 
+regular-or-of : (ls : List Literal) → Regular (orOf ls)
+regular-or-of [] = regular-return _
+regular-or-of (l ∷ []) = regular-return _
+regular-or-of (l ∷ k ∷ ls) = record { counts = λ g. omega arith }
+
 pub regular-or : (ls : List Literal) → Regular (or ls)
 unfolding or
-regular-or [] = regular-return _
-regular-or (l ∷ []) = regular-return _
-regular-or (l ∷ k ∷ ls) = record { counts = λ g. omega arith }
+regular-or ls = go (givesTrue ls)
+  where
+    go : (t : Bool) → Regular (cond t (return (positive 1)) (orOf (remaining [] ls)))
+    go true = regular-return (positive 1)
+    go false = regular-or-of (remaining [] ls)
 
 pub regular-and : (ls : List Literal) → Regular (and ls)
 regular-and ls = regular-map opposite (or (map opposite ls)) (regular-or (map opposite ls))

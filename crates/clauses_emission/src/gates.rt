@@ -1,8 +1,6 @@
-// OR, AND and IFF (document 01, "Clauses", second paragraph). Past the limit of variables no gate is made.
+// OR, AND and IFF (document 01, "Clauses", second paragraph; document 02, Change 2). Past the limit of variables no gate is made.
 ghost use mathlib.Core.Path.{_≡_};
-ghost use Prim.Native.Nat.{_≤_};
 ghost use lib.IntN.{pos};
-ghost use lib.ListN.{length};
 ghost use Rattle.literal.specs.Literals.{literalOf, opposite};
 ghost use Rattle.clauses_rules.specs.Gates as spec;
 ghost use Rattle.clauses_rules.specs.Gates.{gateOf, inputClauses};
@@ -12,6 +10,8 @@ use super::LIMIT;
 use super::Made;
 use super::Pairing;
 use super::Tape;
+use super::inputs::settle;
+use super::inputs::turn;
 use super::list::emit_clause;
 
 // Writes (g, -l) for each input l of the gate of the next variable.
@@ -56,19 +56,21 @@ fn gate(list: &mut [i32], tape: Tape, inputs: &[i32]) -> Made
     }
 }
 
-pub fn or(list: &mut [i32], tape: Tape, inputs: &[i32]) -> Made
+// OR, over inputs that change places: what remains of them moves to the front.
+pub fn or(list: &mut [i32], tape: Tape, inputs: &mut [i32]) -> Made
     requires { ⌜ Bounded tape ⌝ }
     requires { ⌜ Inputs (tape .next) (now inputs) ⌝ }
     ensures { λ r. ⌜ EmitsList spec.or (now (inputs .entry)) (now (list .entry)) tape (r .literal) (now (list .exit)) (r .tape) ⌝ }
 {
-    if inputs.len() == 0 {
+    let n = settle(inputs);
+    if n == 0 {
         return Made { literal: -1, tape };
     }
-    if inputs.len() == 1 {
+    if n == 1 {
         let l = inputs[0];
         return Made { literal: l, tape };
     }
-    gate(list, tape, inputs)
+    gate(list, tape, &inputs[..n])
 }
 
 // Not: the opposite literal.
@@ -84,33 +86,44 @@ pub fn negate(made: Made) -> Made
     }
 }
 
-// AND of at most 64 literals, as many as a matrix has cells: the opposite of OR of the opposites.
-pub fn and(list: &mut [i32], tape: Tape, inputs: &[i32]) -> Made
+// AND: the opposite of OR of the opposites, in the place of the inputs.
+pub fn and(list: &mut [i32], tape: Tape, inputs: &mut [i32]) -> Made
     requires { ⌜ Bounded tape ⌝ }
     requires { ⌜ Inputs (tape .next) (now inputs) ⌝ }
-    requires { ⌜ length (now inputs) ≤ 64 ⌝ }
     ensures { λ r. ⌜ EmitsList spec.and (now (inputs .entry)) (now (list .entry)) tape (r .literal) (now (list .exit)) (r .tape) ⌝ }
 {
-    let mut opposites = [-1; 64];
-    let mut k: usize = 0;
-    while k < inputs.len() {
-        let l = inputs[k];
-        opposites[k] = literal::opposite(l);
-        k += 1;
-    }
-    let n = inputs.len();
-    let made = or(list, tape, &opposites[..n]);
+    turn(inputs);
+    let made = or(list, tape, inputs);
     negate(made)
 }
 
+// OR(p, q): constants, a repeat and opposites are told without a list.
 pub fn either(list: &mut [i32], tape: Tape, p: i32, q: i32) -> Made
     requires { ⌜ Bounded tape ⌝ }
     requires { ⌜ Inside (tape .next) (literalOf p) ⌝ }
     requires { ⌜ Inside (tape .next) (literalOf q) ⌝ }
     ensures { λ r. ⌜ EmitsTwo two.either p q (now (list .entry)) tape (r .literal) (now (list .exit)) (r .tape) ⌝ }
 {
+    if p == -1 {
+        return Made { literal: q, tape };
+    }
+    if q == -1 {
+        return Made { literal: p, tape };
+    }
+    if p == q {
+        return Made { literal: p, tape };
+    }
+    if p == 1 {
+        return Made { literal: 1, tape };
+    }
+    if q == 1 {
+        return Made { literal: 1, tape };
+    }
+    if p == literal::opposite(q) {
+        return Made { literal: 1, tape };
+    }
     let inputs = [p, q];
-    or(list, tape, &inputs)
+    gate(list, tape, &inputs)
 }
 
 pub fn implies(list: &mut [i32], tape: Tape, p: i32, q: i32) -> Made

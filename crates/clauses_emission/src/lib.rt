@@ -1,6 +1,7 @@
 // Clauses and gates written into a lent list (document 01, "Clauses"): clauses one after the other, OR, AND, IFF, and what is made of two
 // literals. Counting runs the same code over an empty list. The operators over matrices of literals are the crate `clauses_matrix`.
 pub mod gates; // gates.rt: OR, AND, IFF, and two literals
+mod inputs; // inputs.rt: what remains of the inputs of an OR
 pub mod list; // list.rt: one clause after the other
 
 // The last next variable with which a gate is made: 16,000 variables are used then.
@@ -26,4 +27,11 @@ pub enum Pairing {
     Implies,
     Same,
     Apart,
+}
+
+// What is seen among literals where one is looked for: the literal itself, its opposite, or nothing of the two.
+pub enum Seen {
+    Nothing,
+    Itself,
+    Opposite,
 }

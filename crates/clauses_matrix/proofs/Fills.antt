@@ -21,7 +21,7 @@ use Rattle.clauses_rules.specs.Builder.{Builder, each}
 use Rattle.clauses_rules.specs.Translation.{Two, absent}
 use Rattle.clauses_emission.specs.declared.Tape.{Tape}
 use Rattle.clauses_matrix.specs.declared.Literals.{Literals}
-use Rattle.clauses_emission.specs.Emission.{Inside, AllInside, literalsOf, Inputs, Bounded, EmitsLiteral}
+use Rattle.clauses_emission.specs.Emission.{Inside, AllInside, literalsOf, mostInputs, Inputs, Bounded, EmitsLiteral}
 use Rattle.clauses_matrix.specs.Matrices.{cellsOf, Cells, matrixOf, Operand, EmitsCells}
 use Rattle.clauses_emission.proofs.Ranges.{inside-absent, all-grows, literal-at}
 use Rattle.clauses_emission.proofs.Steps.{Regular, emits-return, emits-more, emits-as}
@@ -50,7 +50,7 @@ from-same : {A : Type 0} (f g : ℕ → A) (s n : ℕ) → ((j : ℕ) → j < s 
 from-same f g s zero h = refl
 from-same f g s (suc n) h = rw (h s (omega arith), from-same f g (suc s) n (λ j l. h j (omega arith)))
 
-map-same : {A : Type 0} (f g : ℕ → A) (n : ℕ) → ((j : ℕ) → j < n → f j ≡ g j) → map f (upto n) ≡ map g (upto n)
+pub map-same : {A : Type 0} (f g : ℕ → A) (n : ℕ) → ((j : ℕ) → j < n → f j ≡ g j) → map f (upto n) ≡ map g (upto n)
 map-same f g n h = from-same f g 0 n (λ j l. h j (omega arith))
 
 -- ---- one more cell
@@ -73,16 +73,15 @@ cells-set k n ws w h c i = record {
   inside = all-set n ws k w (c .inside) i;
 }
 
-cells-more : (k n : ℕ) (ws : List ℤ) (w : ℤ) → k < 64 → Cells k n ws → cellsOf k ws ++ (literalOf w ∷ []) ≡ cellsOf (suc k) (set ws k w)
-cells-more k n ws w h c =
-    sym (ap literalsOf (take-suc-set ws k w (omega (arith, c .room))) ∙ map-append literalOf (take k ws) (w ∷ []))
+pub cells-more : (k : ℕ) (ws : List ℤ) (w : ℤ) → k < length ws → cellsOf k ws ++ (literalOf w ∷ []) ≡ cellsOf (suc k) (set ws k w)
+cells-more k ws w h = sym (ap literalsOf (take-suc-set ws k w h) ∙ map-append literalOf (take k ws) (w ∷ []))
 
 module _ {A : Type 0} (step : A → Builder Literal) (regular : (x : A) → Regular (step x)) (f : ℕ → A) where
   pub cells-next : (k : ℕ) (ws : List ℤ) (w : ℤ) {old mid new : List ℤ} {a b c : Tape} → k < 64
       → EmitsCells k (each step (map f (upto k)) (a .next)) old a ws mid b → EmitsLiteral (step (f k) (b .next)) mid b w new c
       → EmitsCells (suc k) (each step (map f (upto (suc k))) (a .next)) old a (set ws k w) new c
   cells-next k ws w {old} {mid} {new} {a} {b} {c} h p q =
-      emits-as refl (cells-more k (b .next) ws w h (p .fine))
+      emits-as refl (cells-more k ws w (omega (arith, p .fine .room)))
       (emits-more step regular f k p q (cells-set k (c .next) ws w h (cells-grow (q .grows) (p .fine)) (q .fine)))
 
   -- all cells: what is worked on may go by other names
@@ -166,14 +165,11 @@ all-front n (suc k) [] h a i = inside-absent n h
 all-front n (suc k) (w ∷ ws) h a zero = a 0
 all-front n (suc k) (w ∷ ws) h a (suc i) = all-front n k ws h (λ j. a (suc j)) i
 
-pub front-few : {size n : ℕ} {ws : List ℤ} (k : ℕ) → Cells size n ws → length (take k ws) ≤ 64
-front-few {size} {n} {ws} k c = omega (arith, length-take k ws, c .room)
+pub inputs-front : (k n : ℕ) (ws : List ℤ) → 2 ≤ n → length ws ≤ mostInputs → AllInside n (literalsOf ws) → Inputs n (take k ws)
+inputs-front k n ws h l a = record { few = omega (arith, length-take k ws); inside = all-front n k ws h a }
 
 pub front-inputs : (size k n : ℕ) (ws : List ℤ) → 2 ≤ n → Cells size n ws → Inputs n (take k ws)
-front-inputs size k n ws h c = record {
-  few = omega (arith, length-take k ws, c .room);
-  inside = all-front n k ws h (c .inside);
-}
+front-inputs size k n ws h c = inputs-front k n ws h (omega (arith, c .room)) (c .inside)
 
 pub front-length : (size k n : ℕ) (ws : List ℤ) → Cells size n ws → k ≤ 64 → k ≡ length (take k ws)
 front-length size k n ws c h = sym (length-take-le k ws (omega (arith, c .room)))

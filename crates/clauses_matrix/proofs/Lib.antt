@@ -3,3 +3,5 @@ pub mod Fills
 pub mod Regulars
 pub mod Sizes
 pub mod Pairs
+pub mod Middles
+pub mod Rows

@@ -1,14 +1,14 @@
 -- The pairs of a list's elements, passed in order by two numbers i < j, and the array of what is made of each.
 use mathlib.Core.Path.{_≡_, refl, sym, ap, _∙_}
-use mathlib.Core.List.{List, [], _∷_, _++_, map, append-assoc, append-nil, map-append}
+use mathlib.Core.List.{List, [], _∷_, _++_, map, append-assoc, append-nil}
 use Prim.Native.Nat.{ℕ, zero, suc, _+_, _*_, _≤_, _<_}
 use native.Mathlib.Nat.{mul-le-mul-right}
 use native.Mathlib.Numerals.{add-one}
 use native.Mathlib.Omega.{arith}
 use lib.IntN.{ℤ, negsuc}
 use lib.ListN.{length, getD, take, drop, set, replicate, length-append, length-map, length-set, length-replicate, drop-of-length-le}
-use lib.Seq.{drop-cons, take-suc-set, length-take-le}
-use Rattle.literal.specs.Literals.{Literal, opposite, literalOf}
+use lib.Seq.{drop-cons}
+use Rattle.literal.specs.Literals.{Literal, opposite}
 use Rattle.relational.specs.Matrices.{pairs}
 use Rattle.clauses_rules.specs.Builder.{Built, Builder, _>>=_, _<$>_, each}
 use Rattle.clauses_rules.specs.Gates.{or, and}
@@ -19,7 +19,7 @@ use Rattle.clauses_emission.specs.Emission.{AllInside, literalsOf, Inputs, Boun
 use Rattle.clauses_emission.proofs.Ranges.{all-grows}
 use Rattle.clauses_emission.proofs.Steps.{regular-each, regular-map, regular-pairing, emits-return, emits-bind, emits-map, emits-as}
 use Rattle.clauses_emission.proofs.Steps.{each-more}
-use Rattle.clauses_matrix.proofs.Fills.{all-set, all-front, blank-inside}
+use Rattle.clauses_matrix.proofs.Fills.{all-set, cells-more, inputs-front, blank-inside}
 
 -- ---- the pairs from i and j on
 unfoldable pub rest : List Literal → ℕ → ℕ → List Two
@@ -107,10 +107,7 @@ module _ (ls : List Literal) (t i j : ℕ) {old mid : List ℤ} {a b : Tape} (ou
         let x : Two = (getD ls i absent, getD ls j absent) in
         let ys = literalsOf (take t out) in
         let then : List Literal → Builder (List Literal) = λ zs. (λ z. zs ++ (z ∷ [])) <$> both x in
-        let v : ys ++ (literalOf w ∷ []) ≡ literalsOf (take (suc t) (set out t w)) =
-        sym (ap literalsOf (take-suc-set out t w (omega (arith, passed-room, p .room))) ∙ map-append literalOf (take t out) (w ∷ []))
-        in
-        emits-as (sym (each-more both (p .done) x (a .next))) v
+        emits-as (sym (each-more both (p .done) x (a .next))) (cells-more t out w (omega (arith, passed-room, p .room)))
         (emits-bind (each both (p .done)) then (regular-each both (regular-pairing Both) (p .done))
         (λ zs. regular-map (λ z. zs ++ (z ∷ [])) (both x) (regular-pairing Both x))
         (p .emits)
@@ -169,11 +166,7 @@ pub passed-few : (ls : List Literal) (t i j : ℕ) {old new : List ℤ} {a b : T
     → length ls ≤ 64 → t ≤ 2016
 passed-few ls t i j out p few = omega (arith, ap length (p .whole), length-append (p .done) (rest ls i j), p .count, pairs-few ls few)
 
-pub passed-inputs : (ls : List Literal) (t i j : ℕ) {old new : List ℤ} {a b : Tape} (out : List ℤ) → Passed ls t i j old a out new b → length ls ≤ 64
+pub passed-inputs : (ls : List Literal) (t i j : ℕ) {old new : List ℤ} {a b : Tape} (out : List ℤ) → Passed ls t i j old a out new b
     → Inputs (b .next) (take t out)
-passed-inputs ls t i j {old} {new} {a} {b} out p few =
-    let n = length-take-le t out (omega (arith, p .room, passed-few ls t i j out p few)) in
-    record {
-      few = omega (arith, n, passed-few ls t i j out p few);
-      inside = all-front (b .next) t out (p .emits .bounded .first) (p .emits .fine);
-    }
+passed-inputs ls t i j {old} {new} {a} {b} out p =
+    inputs-front t (b .next) out (p .emits .bounded .first) (omega (arith, p .room)) (p .emits .fine)

@@ -6,7 +6,7 @@ use Rattle.literal.specs.Literals.{Literal, opposite}
 use Rattle.relational.specs.Trees.{Binary, union, intersection, difference, join, product, Unary, inverse, closure}
 use Rattle.relational.specs.Trees.{Comparison, equal, within, Test, some, none, lone}
 use Rattle.relational.specs.Trees.{Connective, conjunction, disjunction, implication, equivalence, Quantifier, for-all, for-some}
-use Rattle.relational.specs.Matrices.{Place, Matrix, rounds, pairs, sameSize, joinSize, joinPlaces, productSize, matched, middles, crossed}
+use Rattle.relational.specs.Matrices.{Matrix, rounds, pairs, sameSize, joinSize, joinPlaces, productSize, matched, middles, crossed}
 use Rattle.clauses_rules.specs.Builder.{Built, return, each}
 use Rattle.clauses_rules.specs.Gates.{or, and}
 use Rattle.clauses_rules.specs.Translation.{Two, absent, both, apart, joinCells, translateBinary, roundOf, afterRounds, translateUnary}
@@ -21,16 +21,16 @@ use Rattle.clauses_emission.proofs.Steps.{regular-pairing}
 pub regular-paired : (kind : Pairing) (p q : Matrix Literal) → Regular (paired kind p q)
 regular-paired kind p q = regular-each _ (regular-pairing kind) (matched absent p q)
 
-pub regular-join-cell : (p q : Matrix Literal) (t : Place) → Regular (joinCell p q t)
-regular-join-cell p q t =
-    regular-bind (each both (middles absent p q t)) or (regular-each both (regular-pairing Both) (middles absent p q t)) regular-or
+pub regular-join-cell : (met : List Two) → Regular (joinCell met)
+regular-join-cell met = regular-bind (each both met) or (regular-each both (regular-pairing Both) met) regular-or
 
 pub regular-binary : (o : Binary) (p q : Matrix Literal) → Regular (translateBinary o p q)
 regular-binary union p q = regular-map (sameSize p) (paired Either p q) (regular-paired Either p q)
 regular-binary intersection p q = regular-map (sameSize p) (paired Both p q) (regular-paired Both p q)
 regular-binary difference p q = regular-map (sameSize p) (paired Without p q) (regular-paired Without p q)
 regular-binary join p q =
-    regular-map (joinSize p q) (joinCells p q) (regular-each (joinCell p q) (regular-join-cell p q) (joinPlaces p q))
+    regular-map (joinSize p q) (joinCells p q)
+    (regular-each (λ t. joinCell (middles absent p q t)) (λ t. regular-join-cell (middles absent p q t)) (joinPlaces p q))
 regular-binary product p q =
     regular-map (productSize p q) (each both (crossed absent p q)) (regular-each both (regular-pairing Both) (crossed absent p q))
 

@@ -1,15 +1,15 @@
 -- Matrices of literals in an array of 64 words, and what the code makes of them, step by step.
 -- No public contract reaches this file: nothing here needs belief.
 use mathlib.Core.Path.{_≡_}
-use mathlib.Core.List.{List}
-use Prim.Native.Nat.{ℕ, _*_, _≤_, _<_}
+use mathlib.Core.List.{List, map}
+use Prim.Native.Nat.{ℕ, _+_, _*_, _≤_, _<_}
 use lib.IntN.{ℤ, pos, negsuc}
 use lib.ListN.{length, getD, take}
 use Rattle.literal.specs.Literals.{Literal}
-use Rattle.relational.specs.Matrices.{Place, Matrix, sameSize, matched, middles}
+use Rattle.relational.specs.Matrices.{upto, Matrix, sameSize, matched}
 use Rattle.clauses_rules.specs.Builder.{Built, Builder, _>>=_, _<$>_, each}
 use Rattle.clauses_rules.specs.Gates.{or, and}
-use Rattle.clauses_rules.specs.Translation.{absent, both}
+use Rattle.clauses_rules.specs.Translation.{Two, absent, both}
 use Rattle.clauses_emission.specs.declared.Tape.{Tape}
 use Rattle.clauses_emission.specs.declared.Pairing.{Pairing}
 use Rattle.clauses_emission.specs.Emission.{AllInside, literalsOf, Emits, EmitsLiteral, pairing}
@@ -66,6 +66,23 @@ pairedMatrix kind p q = sameSize p <$> paired kind p q
 abbrev pub compared : Pairing → Matrix Literal → Matrix Literal → Builder Literal
 compared kind p q = paired kind p q >>= and
 
--- one cell of a join
-abbrev pub joinCell : Matrix Literal → Matrix Literal → Place → Builder Literal
-joinCell p q t = each both (middles absent p q t) >>= or
+-- one cell of a join, from what meets at its middle atoms
+abbrev pub joinCell : List Two → Builder Literal
+joinCell met = each both met >>= or
+
+-- what meets at middle atom k: of a row, and of column j of a matrix of so many columns
+abbrev pub middleAt : List Literal → List Literal → ℕ → ℕ → ℕ → Two
+middleAt row cells columns j k = (getD row k absent, getD cells (k * columns + j) absent)
+
+-- the middles of a row and a column
+abbrev pub rowMiddles : List Literal → List Literal → ℕ → ℕ → List Two
+rowMiddles row cells columns j = map (middleAt row cells columns j) (upto (length row))
+
+-- words that are a row, and those of a matrix of so many columns, of which j is one
+pub record RowAndColumn (n : ℕ) (row cells : List ℤ) (columns j : ℕ) : Type 0 where
+  pub few : length row ≤ 8
+  pub room : length cells ≡ 64
+  pub narrow : columns ≤ 8
+  pub column : j < columns
+  pub row-inside : AllInside n (literalsOf row)
+  pub cells-inside : AllInside n (literalsOf cells)

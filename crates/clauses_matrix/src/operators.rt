@@ -1,13 +1,13 @@
 // Expressions, operator by operator: cells in row order (document 01, "Clauses", the last list).
 ghost use mathlib.Core.List.{List};
-ghost use Prim.Native.Nat.{_*_, _<_};
+ghost use Prim.Native.Nat.{_*_};
 ghost use lib.IntN.{ℤ};
 ghost use Rattle.relational.specs.Trees.{join, product, inverse, closure};
 ghost use Rattle.relational.specs.Matrices as matrices;
 ghost use Rattle.clauses_rules.specs.Translation.{joinCells, translateBinary, translateUnary, roundOf};
-ghost use Rattle.clauses_emission.specs.Emission.{Bounded, EmitsLiteral};
+ghost use Rattle.clauses_emission.specs.Emission.{literalsOf, Bounded, EmitsLiteral};
 ghost use Rattle.clauses_matrix.specs.Matrices.{matrixOf, Operand, EmitsCells, EmitsBinary, EmitsUnary};
-ghost use Rattle.clauses_matrix.specs.Matrices.{paired, pairedMatrix, joinCell};
+ghost use Rattle.clauses_matrix.specs.Matrices.{paired, pairedMatrix, joinCell, rowMiddles, RowAndColumn};
 use super::Literals;
 use super::MadeCells;
 use super::MadeMatrix;
@@ -71,29 +71,33 @@ pub fn matched(list: &mut [i32], tape: Tape, kind: Pairing, p: Literals, q: Lite
     }
 }
 
-// The cell of row i and column j of a join: OR over the middle atoms of AND.
-fn join_cell(list: &mut [i32], tape: Tape, p: Literals, q: Literals, i: usize, j: usize) -> Made
+// One cell of a join: OR over the middle atoms of AND. `left` is a row of the left operand, `right` all cells of the right one.
+fn join_cell(
+    list: &mut [i32],
+    tape: Tape,
+    left: &[i32],
+    right: &[i32],
+    columns: usize,
+    j: usize,
+) -> Made
     requires { ⌜ Bounded tape ⌝ }
-    requires { ⌜ Operand (tape .next) p ⌝ }
-    requires { ⌜ Operand (tape .next) q ⌝ }
-    requires { ⌜ i < p .rows ⌝ }
-    requires { ⌜ j < matrices.joinColumns (matrixOf q) ⌝ }
-    ensures { λ r. ⌜ EmitsLiteral (joinCell (matrixOf p) (matrixOf q) (i, j) (tape .next))
+    requires { ⌜ RowAndColumn (tape .next) (now left) (now right) columns j ⌝ }
+    ensures { λ r. ⌜ EmitsLiteral
+        (joinCell (rowMiddles (literalsOf (now (left .entry))) (literalsOf (now (right .entry))) columns j) (tape .next))
         (now (list .entry)) tape (r .literal) (now (list .exit)) (r .tape) ⌝ }
 {
-    let columns = join_columns(q.arity, q.columns);
-    let n = p.columns;
-    let mut middles = [-1; 64];
+    let mut middles = [-1; 8];
     let mut after = tape;
     let mut k: usize = 0;
-    while k < n {
-        let made = both(list, after, p.cells[i * n + k], q.cells[k * columns + j]);
+    while k < left.len() {
+        let made = both(list, after, left[k], right[k * columns + j]);
         let l = made.literal;
         middles[k] = l;
         after = made.tape;
         k += 1;
     }
-    or(list, after, &middles[..n])
+    let n = left.len();
+    or(list, after, &mut middles[..n])
 }
 
 // The cells of a join, place by place.
@@ -106,11 +110,16 @@ fn join_cells(list: &mut [i32], tape: Tape, p: Literals, q: Literals) -> MadeCel
 {
     let columns = join_columns(q.arity, q.columns);
     let size = p.rows * columns;
+    let n = p.columns;
+    let left = p.cells;
+    let right = q.cells;
     let mut cells = [-1; 64];
     let mut after = tape;
     let mut k: usize = 0;
     while k < size {
-        let made = join_cell(list, after, p, q, k / columns, k % columns);
+        let start = k / columns * n;
+        let end = start + n;
+        let made = join_cell(list, after, &left[start..end], &right, columns, k % columns);
         let l = made.literal;
         cells[k] = l;
         after = made.tape;

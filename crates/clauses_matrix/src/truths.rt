@@ -23,10 +23,10 @@ pub fn all_matched(list: &mut [i32], tape: Tape, kind: Pairing, p: Literals, q: 
         (now (list .entry)) tape (r .literal) (now (list .exit)) (r .tape) ⌝ }
 {
     let made = matched_cells(list, tape, kind, p, q);
-    let cells = made.cells;
+    let mut cells = made.cells;
     let after = made.tape;
     let n = p.rows * p.columns;
-    and(list, after, &cells[..n])
+    and(list, after, &mut cells[..n])
 }
 
 pub fn some(list: &mut [i32], tape: Tape, p: Literals) -> Made
@@ -34,9 +34,9 @@ pub fn some(list: &mut [i32], tape: Tape, p: Literals) -> Made
     requires { ⌜ Operand (tape .next) p ⌝ }
     ensures { λ r. ⌜ EmitsTest (translateTest some) p (now (list .entry)) tape (r .literal) (now (list .exit)) (r .tape) ⌝ }
 {
-    let cells = p.cells;
+    let mut cells = p.cells;
     let n = p.rows * p.columns;
-    or(list, tape, &cells[..n])
+    or(list, tape, &mut cells[..n])
 }
 
 // AND of the cells, as some is OR of them.
@@ -45,9 +45,9 @@ pub fn every(list: &mut [i32], tape: Tape, p: Literals) -> Made
     requires { ⌜ Operand (tape .next) p ⌝ }
     ensures { λ r. ⌜ EmitsTest spec.and p (now (list .entry)) tape (r .literal) (now (list .exit)) (r .tape) ⌝ }
 {
-    let cells = p.cells;
+    let mut cells = p.cells;
     let n = p.rows * p.columns;
-    and(list, tape, &cells[..n])
+    and(list, tape, &mut cells[..n])
 }
 
 pub fn none(list: &mut [i32], tape: Tape, p: Literals) -> Made
@@ -83,6 +83,6 @@ pub fn lone(list: &mut [i32], tape: Tape, p: Literals) -> Made
             j = i + 1;
         }
     }
-    let met = or(list, after, &pairs[..t]);
+    let met = or(list, after, &mut pairs[..t]);
     negate(met)
 }

@@ -1,6 +1,7 @@
 pub mod Values
 pub mod Gate
 pub mod Build
+pub mod Struck
 pub mod Connect
 pub mod Operators
 pub mod Counts
@@ -14,3 +15,4 @@ pub mod Accepted
 pub mod Listed
 pub mod Series
 pub mod Theorems
+pub mod Cases

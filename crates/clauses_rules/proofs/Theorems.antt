@@ -1,5 +1,5 @@
--- What this crate shows of its clauses: `gate`, `walk` and `match`.
-use mathlib.Core.Path.{_≡_}
+-- What this crate shows of its clauses: `gate`, `or`, `walk` and `match`.
+use mathlib.Core.Path.{_≡_, sym, _∙_}
 use mathlib.Core.Logic.{_↔_}
 use mathlib.Core.Bool.{Bool, true}
 use mathlib.Core.List.{List, _++_, map}
@@ -16,14 +16,15 @@ use Rattle.relational.specs.Meaning.{Environment}
 use Rattle.relational.specs.Evaluation.{valueOf, truthOf}
 use Rattle.relational.proofs.Accepted.{accepted-holds}
 use Rattle.clauses_rules.specs.Builder.{Gate, Built}
-use Rattle.clauses_rules.specs.Gates.{gateClauses, gatesClauses}
+use Rattle.clauses_rules.specs.Gates.{or, gateClauses, gatesClauses}
 use Rattle.clauses_rules.specs.Translation.{translate, translateFormula}
 use Rattle.clauses_rules.specs.Whole.{words, variableTotal, wordTotal, readBack}
 use Rattle.clauses_rules.specs.Matching.{Solution, Assignment, Match}
-use Rattle.clauses_rules.proofs.Values.{value, satisfied}
+use Rattle.clauses_rules.proofs.Values.{value, satisfied, AllIn}
 use Rattle.clauses_rules.proofs.Gate as g
 use Rattle.clauses_rules.proofs.Gate.{outputs, Scoped, solved, solved-only, length-outputs}
-use Rattle.clauses_rules.proofs.Connect.{mean-values}
+use Rattle.clauses_rules.proofs.Build.{One}
+use Rattle.clauses_rules.proofs.Connect.{values-mean, mean-values, mean-some, right-or}
 use Rattle.clauses_rules.proofs.Walk.{Ready, right-translate, right-translate-formula}
 use Rattle.clauses_rules.proofs.Match.{reads-instance, exactly-one}
 use Rattle.clauses_rules.proofs.Accepted.{accepted-rows}
@@ -45,23 +46,33 @@ extension : (a : List Bool) (gates : List Gate) → Scoped (length a) gates → 
 extension a gates s =
     record { values = outputs a gates; size = length-outputs a gates; holds = solved a gates s; only = λ b e h. solved-only a b gates s e h }
 
+-- a step's gates extend an assignment of the variables below in exactly one way, and what the step gives then means what is said
+pub record Walked (a : List Bool) {A : Type 0} (r : Built A) (Meant : List Bool → A → Type 0) : Type 0 where
+  pub extends : OneExtension a (r .gates)
+  pub next : r .next ≡ length (a ++ extends .values)
+  pub meant : Meant (a ++ extends .values) (r .value)
+
+-- `or`: the literal of an OR has the value of the OR of its whole list, what is struck out included
+pub or-value : (a : List Bool) (ls : List Literal) → One a → AllIn (length a) ls
+    → Walked a (or ls (length a)) (λ b l. value b l ≡ any (value a) ls)
+unfolding extension
+or-value a ls one inside =
+    let means = values-mean a ls inside in
+    let r = right-or a one means in
+    record { extends = extension a _ (r .scoped); next = r .next; meant = r .gives .value ∙ sym (mean-some means) }
+
 -- `walk`: each assignment of the variables below, where the cells' literals have the values of an instance, extends in exactly one
 -- way through the whole walk, and the walk's literals then have the values of the evaluation
 module _ (sheet : Sheet) (instance : List ℕ) (cells : List Literal) (env : Environment) (a : List Bool) (ready : Ready sheet instance cells a) where
-  pub record Walked {A : Type 0} (r : Built A) (Meant : List Bool → A → Type 0) : Type 0 where
-    pub extends : OneExtension a (r .gates)
-    pub next : r .next ≡ length (a ++ extends .values)
-    pub meant : Meant (a ++ extends .values) (r .value)
-
   pub walk-formula : (f : Formula)
-      → Walked (translateFormula sheet cells f env (length a)) (λ b l. value b l ≡ truthOf sheet instance f env)
+      → Walked a (translateFormula sheet cells f env (length a)) (λ b l. value b l ≡ truthOf sheet instance f env)
   unfolding extension
   walk-formula f =
       let r = right-translate-formula sheet instance cells f env a ready in
       record { extends = extension a _ (r .scoped); next = r .next; meant = r .gives .value }
 
   pub walk-expression : (e : Expression)
-      → Walked (translate sheet cells e env (length a)) (λ b p. map (value b) (p .cells) ≡ valueOf sheet instance e env .cells)
+      → Walked a (translate sheet cells e env (length a)) (λ b p. map (value b) (p .cells) ≡ valueOf sheet instance e env .cells)
   unfolding extension
   walk-expression e =
       let r = right-translate sheet instance cells e env a ready in

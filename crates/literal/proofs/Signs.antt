@@ -24,6 +24,10 @@ back l f = toZ-ofZ w32 l f
 pub same-word : (l m : ℤ) → SFits w32 l → SFits w32 m → ofZ w32 l ≡ ofZ w32 m → l ≡ m
 same-word l m f g e = sym (back l f) ∙ ap (toZ w32) e ∙ back m g
 
+-- a word with these bits
+pub same-as : (l : ℤ) {n : ℕ} → SFits w32 l → ofZ w32 l ≡ n → l ≡ toZ w32 n
+same-as l f e = sym (back l f) ∙ ap (toZ w32) e
+
 pub same-bits : (l m : ℤ) → l ≡ m → ofZ w32 l ≡ ofZ w32 m
 same-bits l m e = ap (ofZ w32) e
 

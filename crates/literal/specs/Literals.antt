@@ -1,7 +1,7 @@
 -- Literals (document 01, "Clauses", first paragraph), and the 32-bit words that hold them.
 use mathlib.Core.Bool.{Bool, false, cond}
 use Prim.Native.Nat.{ℕ, suc}
-use lib.Dec.{leb, ltb}
+use lib.Dec.{eqb, leb, ltb}
 use lib.IntN.{ℤ, pos, negsuc, negℤ, natAbs}
 use Rattle.prelude.specs.Tests.{between}
 
@@ -20,6 +20,13 @@ opposite (negative v) = positive v
 abbrev pub variable : Literal → ℕ
 variable (positive v) = v
 variable (negative v) = v
+
+-- two literals are the same
+abbrev pub isSame : Literal → Literal → Bool
+isSame (positive v) (positive w) = eqb v w
+isSame (positive v) (negative w) = false
+isSame (negative v) (positive w) = false
+isSame (negative v) (negative w) = eqb v w
 
 -- the literal that a word is (0 is none: it reads as a literal of variable 0)
 abbrev pub literalOf : ℤ → Literal

@@ -14,7 +14,7 @@ use Rattle.relational.specs.Evaluation as evaluation
 use Rattle.relational.specs.Evaluation.{valueOf, marksHold, holds}
 use Rattle.instance.specs.Held.{heldAnswer, checkAnswer}
 use Rattle.clauses_rules.specs.Builder as builder
-use Rattle.clauses_rules.specs.Gates.{or, inputClauses, gatesClauses}
+use Rattle.clauses_rules.specs.Gates.{remaining, or, inputClauses, gatesClauses}
 use Rattle.clauses_rules.specs.Translation.{afterRounds, translate}
 use Rattle.clauses_rules.specs.Whole.{series, markClauses, rootWalk, clauses, words, variableTotal}
 use Rattle.clauses.specs.Answers.{countAnswer, writeAnswer, listAfter}
@@ -33,7 +33,7 @@ use Rattle.marked.specs.Shown.{Marked}
 pub cases : Marked
 unfolding rowOf each all any digits decimal tables.table shapeStep freeStep visitsStep
     counted scoped declared nodesFine shaped rooted walkable reading symbolOf treeStep firstCell withinScopes rounds
-    valueOf evaluation.truthOf marksHold holds heldAnswer checkAnswer builder.each or inputClauses gatesClauses afterRounds translate
+    valueOf evaluation.truthOf marksHold holds heldAnswer checkAnswer builder.each remaining or inputClauses gatesClauses afterRounds translate
     series markClauses rootWalk clauses words wordsOf variableTotal countAnswer writeAnswer listAfter cut wellCut isList
     literalText clauseLine clauseLines header textOf textRoom text.sizeAnswer text.writeAnswer text.textAfter
     truthOf negated literal isFalsified isSatisfied conflict openOf sameLiteral only unitOf firstUnit lowestOpen

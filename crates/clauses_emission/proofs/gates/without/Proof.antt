@@ -3,7 +3,7 @@ use mathlib.Core.List.{[], _∷_}
 use Rattle.literal.specs.Literals.{opposite, literalOf}
 use Rattle.literal.proofs.Signs.{back}
 use Rattle.clauses_rules.specs.Gates.{or}
-use Rattle.clauses_emission.proofs.Ranges.{opposite-twice}
+use Rattle.literal.proofs.Same.{opposite-twice}
 use Rattle.clauses_emission.proofs.Ors.{emits-negated}
 use borrow.Author.Needs.{needs}
 use Rattle.clauses_emission.proofs.gates.without.Statement.{statement}

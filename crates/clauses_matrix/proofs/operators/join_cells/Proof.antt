@@ -1,113 +1,138 @@
 -- `operators::join_cells` meets its contract. The loop's invariant: the cells passed are worked out.
 use borrow.Author.Needs.{needs}
-use mathlib.Core.Path.{refl, sym, ap}
+use mathlib.Core.Path.{refl, sym}
 use mathlib.Core.List.{map}
-use Prim.Native.Nat.{_-_, _*_, _≤_, _<_}
+use Prim.Native.Nat.{_+_, _-_, _*_, _/_, _≤_, _<_}
 use native.Mathlib.Numerals.{add-one}
 use native.Mathlib.Numerals.{add-one-le}
 use native.Mathlib.Omega.{arith}
 use Rattle.literal.proofs.Signs.{back}
+use Rattle.relational.specs.Matrices.{upto, middles}
+use Rattle.relational.proofs.Places.{some-column, row-below}
 use Rattle.clauses_rules.specs.Builder.{each}
+use Rattle.clauses_rules.specs.Translation.{absent}
 use Rattle.clauses_matrix.specs.Matrices.{matrixOf, EmitsCells, joinCell}
 use Rattle.clauses_emission.proofs.Steps.{emits-as}
-use Rattle.clauses_matrix.proofs.Numbers.{placeOf, places-by-number}
-use Rattle.relational.proofs.Places.{some-column, row-below, column-below}
+use Rattle.clauses_matrix.proofs.Numbers.{placeOf}
 use Rattle.clauses_matrix.proofs.Fills.{cells-start, cells-next, cells-done, operand-grow, size-fits, cell-below}
 use Rattle.clauses_matrix.proofs.Fills.{fits-four, fits-next}
 use Rattle.clauses_matrix.proofs.Regulars.{regular-join-cell}
-use Rattle.relational.specs.Matrices.{upto}
+use Rattle.clauses_matrix.proofs.Rows.{middlesAt, row-fits, row-and-column, middles-same, join-by-number}
 use Rattle.clauses_matrix.proofs.operators.join_cells.Statement.{statement}
 use Rattle.clauses_matrix.proofs.operators.join_cells.Tie as tie
 
 abbrev Inv-loop : tie.InvT-loop
-Inv-loop list₀ p q columns size cells₀ after₀ k₀ list cells after k =
+Inv-loop list₀ columns size n left right cells₀ after₀ k₀ list cells after k =
     (k ≤ size)
-    × EmitsCells k (each (joinCell (matrixOf p) (matrixOf q)) (map (placeOf columns) (upto k)) (after₀ .next)) list₀ after₀ cells list after
+    × EmitsCells k (each joinCell (map (middlesAt left right n columns) (upto k)) (after₀ .next)) list₀ after₀ cells list after
 
 abbrev μ-loop : tie.MeasureT-loop
-μ-loop list₀ p q columns size cells₀ after₀ k₀ list cells after k = size - k
+μ-loop list₀ columns size n left right cells₀ after₀ k₀ list cells after k = size - k
 
 join-columns-requires : tie.Need-join-columns-requires Inv-loop μ-loop
 join-columns-requires c κs = c .pre .1 .1 .columns
 
-few-columns : (c : tie.After-join-columns Inv-loop μ-loop) → c .join-columns .result ≤ 8
-few-columns c = c .join-columns .ensures .1
-
-below : (c : tie.In-loop Inv-loop μ-loop) → c .before .loop .k < 64
-below c =
-    let start = c .before .before .before .before in
-    cell-below (start .args .p .rows) (c .before .before .before .join-columns .result) (c .before .loop .k) (start .pre .1 .0 .rows)
-    (few-columns (c .before .before .before)) (c .loop-test .taken)
-
 mul-size : tie.Need-mul-size Inv-loop μ-loop
 mul-size c =
     let start = c .before .before in
-    size-fits (start .args .p .rows) (c .before .join-columns .result) (start .pre .1 .0 .rows) (few-columns (c .before))
+    let columns = c .before .join-columns in
+    size-fits (start .args .p .rows) (columns .result) (start .pre .1 .0 .rows) (columns .ensures .1)
 
 loop-holds : tie.Need-loop-holds Inv-loop μ-loop
 loop-holds c =
-    let start = c .before .before in (
+    let start = c .before .before .before .before in
+    let columns = c .before .before .before .join-columns .result in
+    let a = start .args in (
       omega arith,
-      cells-start (joinCell (matrixOf (start .args .p)) (matrixOf (start .args .q))) (placeOf (c .before .join-columns .result))
-          (start .args .list .now) (start .args .tape) (start .pre .0),
+      cells-start joinCell (middlesAt (a .p .cells) (a .q .cells) (a .p .columns) columns) (a .list .now) (a .tape) (start .pre .0),
     )
 
-div-join-cell : tie.Need-div-join-cell Inv-loop μ-loop
-div-join-cell c =
-    let a = c .before .before .before .before .before .args in
-    some-column (a .p .rows) (c .before .before .before .before .join-columns .result) (c .before .before .loop .k) (c .before .loop-test .taken)
+-- what a turn knows of its places
+below : (c : tie.In-loop Inv-loop μ-loop) → c .before .loop .k < 64
+below c =
+    let columns = c .before .before .before .before .before .join-columns in
+    let start = c .before .before .before .before .before .before in
+    cell-below (start .args .p .rows) (columns .result) (c .before .loop .k) (start .pre .1 .0 .rows) (columns .ensures .1)
+    (c .loop-test .taken)
+
+row-end : (c : tie.In-loop Inv-loop μ-loop)
+    → c .before .loop .k / c .before .before .before .before .before .join-columns .result
+    * c .before .before .before .before .before .before .args .p .columns
+    + c .before .before .before .before .before .before .args .p .columns ≤ 64
+row-end c =
+    let columns = c .before .before .before .before .before .join-columns .result in
+    let start = c .before .before .before .before .before .before in
+    let p = start .args .p in
+    row-fits (p .rows) (p .columns) (c .before .loop .k / columns) (start .pre .1 .0 .rows) (start .pre .1 .0 .columns)
+    (row-below (p .rows) columns (c .before .loop .k) (c .loop-test .taken))
+
+div-start : tie.Need-div-start Inv-loop μ-loop
+div-start c =
+    let columns = c .before .before .before .before .before .join-columns .result in
+    some-column (c .before .before .before .before .before .before .args .p .rows) columns (c .before .loop .k) (c .loop-test .taken)
+
+mul-start : tie.Need-mul-start Inv-loop μ-loop
+mul-start c = record { fits = omega (arith, row-end c) }
+
+add-end : tie.Need-add-end Inv-loop μ-loop
+add-end c = record { fits = omega (arith, row-end c) }
+
+mul-join-cell : tie.Need-mul-join-cell Inv-loop μ-loop
+mul-join-cell c = record { fits = omega (arith, row-end (c .before)) }
+
+sub-join-cell : tie.Need-sub-join-cell Inv-loop μ-loop
+sub-join-cell c = omega arith
+
+part-join-cell-start : tie.Need-part-join-cell-start Inv-loop μ-loop
+part-join-cell-start c = sub-join-cell (c .before)
+
+part-join-cell-end : tie.Need-part-join-cell-end Inv-loop μ-loop
+part-join-cell-end c =
+    rw (c .before .before .before .before .before .before .before .before .pre .1 .0 .cells .room) (row-end (c .before .before))
+
+slice-aggregate-join-cell : tie.Need-slice-aggregate-join-cell Inv-loop μ-loop
+slice-aggregate-join-cell c =
+    sym (c .before .before .before .before .before .before .before .before .before .before .pre .1 .1 .cells .room)
 
 rem-join-cell : tie.Need-rem-join-cell Inv-loop μ-loop
-rem-join-cell c =
-    let a = c .before .before .before .before .before .args in
-    some-column (a .p .rows) (c .before .before .before .before .join-columns .result) (c .before .before .loop .k) (c .before .loop-test .taken)
+rem-join-cell c = div-start (c .before .before .before .before)
 
 join-cell-requires : tie.Need-join-cell-requires Inv-loop μ-loop
 join-cell-requires c κs =
-    let start = c .before .before .before .before .before in
-    let columns = c .before .before .before .before .join-columns in
-    let loop = c .before .before .loop in
-    let rows = start .args .p .rows in (
+    let turn = c .before .before .before .before in
+    let loop = turn .before .loop in
+    let columns = turn .before .before .before .before .before .join-columns in
+    let start = turn .before .before .before .before .before .before in
+    let grows = loop .inv .1 .grows in (
       loop .inv .1 .bounded,
-      (
-        operand-grow (loop .inv .1 .grows) (start .pre .1 .0),
-        (
-          operand-grow (loop .inv .1 .grows) (start .pre .1 .1),
-          (
-            row-below rows (columns .result) (loop .k) (c .before .loop-test .taken),
-            rw (← columns .ensures .0) (column-below rows (columns .result) (loop .k) (c .before .loop-test .taken)),
-          ),
-        ),
-      ),
+      row-and-column (operand-grow grows (start .pre .1 .0)) (operand-grow grows (start .pre .1 .1))
+          (columns .result) (columns .ensures .0) (loop .k) (turn .loop-test .taken) (loop .inv .1 .bounded .first),
     )
 
 mul-cells : tie.Need-mul-cells Inv-loop μ-loop
-mul-cells c = fits-four _ (below (c .before .before .before .before))
+mul-cells c = fits-four _ (below (c .before .before .before .before .before .before .before))
 
 array-set-from-cells : tie.Need-array-set-from-cells Inv-loop μ-loop
-array-set-from-cells c = below (c .before .before .before .before)
+array-set-from-cells c = below (c .before .before .before .before .before .before .before)
 
 add-k : tie.Need-add-k Inv-loop μ-loop
-add-k c = fits-next _ (below (c .before .before .before .before .before))
+add-k c = fits-next _ (below (c .before .before .before .before .before .before .before .before))
 
 loop-less : tie.Need-loop-less Inv-loop μ-loop
 loop-less c = omega arith
 
 loop-again : tie.Need-loop-again Inv-loop μ-loop
 loop-again c =
-    let start = c .before .before .before .before .before .before .before .before .before in
-    let columns = c .before .before .before .before .before .before .before .before .join-columns in
-    let loop = c .before .before .before .before .before .before .loop in
-    let turn = c .before .before .before .before .before in
-    let k = loop .k in
+    let turn = c .before .before .before .before .before .before .before .before in
+    let loop = turn .before .loop in
+    let columns = turn .before .before .before .before .before .join-columns .result in
+    let a = turn .before .before .before .before .before .before .args in
     let call = c .before .before .before .join-cell in
-    let w = call .result .literal in
-    let step = joinCell (matrixOf (start .args .p)) (matrixOf (start .args .q)) in (
+    let w = call .result .literal in (
       add-one-le (turn .loop-test .taken),
-      rw (add-one k, back w (search needs))
-          (cells-next step (regular-join-cell (matrixOf (start .args .p)) (matrixOf (start .args .q))) (placeOf (columns .result)) k
-          (loop .cells) w (below turn)
-          (loop .inv .1) (call .ensures)),
+      rw (add-one (loop .k), back w (search needs))
+          (cells-next joinCell regular-join-cell (middlesAt (a .p .cells) (a .q .cells) (a .p .columns) columns) (loop .k)
+          (loop .cells) w (below turn) (loop .inv .1) (call .ensures)),
     )
 
 same-length : tie.Need-same-length Inv-loop μ-loop
@@ -115,21 +140,23 @@ same-length c = c .before .loop .inv .1 .kept
 
 returns : tie.Need-returns Inv-loop μ-loop
 returns c =
-    let start = c .before .before .before .before in
-    let columns = c .before .before .before .join-columns in
     let loop = c .before .loop in
-    let p = matrixOf (start .args .p) in
-    let q = matrixOf (start .args .q) in
-    let rows = start .args .p .rows in
-    let size = rows * columns .result in
-    let cells = cells-done (joinCell p q) (regular-join-cell p q) (placeOf (columns .result)) (placeOf (columns .result)) (loop .k) size (loop .cells)
-    (loop .inv .0) (c .loop-test .left) (λ j l. refl) (loop .inv .1)
+    let call = c .before .before .before .before .before .join-columns in
+    let columns = call .result in
+    let start = c .before .before .before .before .before .before in
+    let a = start .args in
+    let p = matrixOf (a .p) in
+    let q = matrixOf (a .q) in
+    let same = middles-same (start .pre .1 .0) (start .pre .1 .1) columns (call .ensures .0) in
+    let cells = cells-done joinCell regular-join-cell (middlesAt (a .p .cells) (a .q .cells) (a .p .columns) columns)
+    (λ k. middles absent p q (placeOf columns k)) (loop .k) (a .p .rows * columns) (loop .cells) (loop .inv .0) (c .loop-test .left)
+    same (loop .inv .1)
     in
-    rw (columns .ensures .0) at
-    (emits-as (ap (λ ts. each (joinCell p q) ts (start .args .tape .next)) (sym (places-by-number rows (columns .result)))) refl cells)
+    rw (call .ensures .0) at (emits-as (join-by-number p q columns (a .tape .next)) refl cells)
 
 pub join-cells-spec : {M : Type 1} → statement M
 join-cells-spec =
     tie.close
-    (tie.spec Inv-loop μ-loop join-columns-requires mul-size loop-holds div-join-cell rem-join-cell join-cell-requires
+    (tie.spec Inv-loop μ-loop join-columns-requires mul-size loop-holds div-start mul-start add-end mul-join-cell
+    sub-join-cell part-join-cell-start part-join-cell-end slice-aggregate-join-cell rem-join-cell join-cell-requires
     mul-cells array-set-from-cells add-k loop-less loop-again same-length returns)

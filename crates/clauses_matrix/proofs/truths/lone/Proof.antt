@@ -181,37 +181,39 @@ loop-again-2 c =
     (made (c .before .before .before .before))
     (λ e. c .if1 .left (e ∙ size-of (turn .before))))
 
-array-share-prefix-pairs : tie.Need-array-share-prefix-pairs Inv-loop μ-loop
-array-share-prefix-pairs c =
+array-borrow-prefix-pairs : tie.Need-array-borrow-prefix-pairs Inv-loop μ-loop
+array-borrow-prefix-pairs c =
     let at = c .before .before in
-    omega (arith, at .loop .inv .room, passed-few (cells at) (at .loop .t) (at .loop .i) (at .loop .j) (at .loop .pairs) (at .loop .inv) (few at))
+    let loop = at .loop in
+    omega (arith, loop .inv .room, passed-few (cells at) (loop .t) (loop .i) (loop .j) (loop .pairs) (loop .inv) (few at))
 
 slice-aggregate-or : tie.Need-slice-aggregate-or Inv-loop μ-loop
 slice-aggregate-or c =
-    sym (length-take-le (c .before .before .before .loop .t) (c .before .before .before .loop .pairs) (array-share-prefix-pairs (c .before)))
+    let loop = c .before .before .before .loop in
+    sym (length-take-le (loop .t) (loop .pairs) (array-borrow-prefix-pairs (c .before)))
 
 or-requires : tie.Need-or-requires Inv-loop μ-loop
 or-requires c κs =
     let at = c .before .before .before in
-    (at .loop .inv .emits .bounded, passed-inputs (cells at) (at .loop .t) (at .loop .i) (at .loop .j) (at .loop .pairs) (at .loop .inv) (few at))
+    (at .loop .inv .emits .bounded, passed-inputs (cells at) (at .loop .t) (at .loop .i) (at .loop .j) (at .loop .pairs) (at .loop .inv))
 
 negate-requires : tie.Need-negate-requires Inv-loop μ-loop
-negate-requires c κs = (c .before .or .ensures .bounded, c .before .or .ensures .fine)
+negate-requires c κs = (c .before .before .or .ensures .bounded, c .before .before .or .ensures .fine)
 
 same-length : tie.Need-same-length Inv-loop μ-loop
 same-length c =
-    c .before .before .or .ensures .kept ∙ c .before .before .before .before .before .before .loop .inv .emits .kept
+    c .before .before .before .or .ensures .kept ∙ c .before .before .before .before .before .before .before .loop .inv .emits .kept
 
 returns : tie.Need-returns Inv-loop μ-loop
 returns c =
-    let at = c .before .before .before .before .before .before in
-    let call = c .before .before .or in
+    let at = c .before .before .before .before .before .before .before in
+    let call = c .before .before .before .or in
     let ts = matrices.pairs (cells at) in
     emits-as (never-both ts (at .before .args .tape .next)) refl
     (emits-negated (each both ts >>= or) (call .result) (c .negate .result)
     (emits-bind (each both ts) or (regular-each both (regular-pairing Both) ts) regular-or
     (passed-all (cells at) (at .loop .t) (at .loop .i) (at .loop .j) (at .loop .pairs) (at .loop .inv)
-    (rw (size-of at) (c .before .before .before .before .before .loop-test .left)))
+    (rw (size-of at) (c .before .before .before .before .before .before .loop-test .left)))
     (call .ensures))
     (c .negate .ensures))
 
@@ -220,4 +222,4 @@ lone-spec =
     tie.close
     (tie.spec Inv-loop μ-loop mul-n loop-holds mul-both element-copy-out-both mul-both-2 element-copy-out-both-2
     both-requires mul-pairs array-set-from-pairs add-t add-j add-i add-j-2 loop-less loop-again loop-less-2 loop-again-2
-    array-share-prefix-pairs slice-aggregate-or or-requires negate-requires same-length returns)
+    array-borrow-prefix-pairs slice-aggregate-or or-requires negate-requires same-length returns)

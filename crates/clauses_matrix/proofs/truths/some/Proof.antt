@@ -8,8 +8,8 @@ use Rattle.clauses_matrix.proofs.truths.some.Tie as tie
 mul-n : tie.Need-mul-n
 mul-n c = search needs
 
-array-share-prefix-cells : tie.Need-array-share-prefix-cells
-array-share-prefix-cells c = search needs
+array-borrow-prefix-cells : tie.Need-array-borrow-prefix-cells
+array-borrow-prefix-cells c = search needs
 
 slice-aggregate-or : tie.Need-slice-aggregate-or
 slice-aggregate-or c =
@@ -34,4 +34,4 @@ returns c = search needs
 pub some-spec : {M : Type 1} → statement M
 some-spec =
     tie.close
-    (tie.spec mul-n array-share-prefix-cells slice-aggregate-or or-requires same-length returns)
+    (tie.spec mul-n array-borrow-prefix-cells slice-aggregate-or or-requires same-length returns)
