@@ -8,6 +8,7 @@ pub mod deep;
 pub mod dimacs;
 pub mod every_kind;
 pub mod finder;
+pub mod idle_walks;
 pub mod long_search;
 pub mod meaning;
 pub mod random;

@@ -9,7 +9,7 @@ use reference::random::Source;
 use reference::random_damage::any;
 use reference::random_sheet::{closures, gates_of, long_walk, sheet, style};
 use reference::sheet::{read, Sheet};
-use reference::{shadows, struck};
+use reference::{idle_walks, shadows, struck};
 
 /// What stands in the slice before the call.
 const FILLING: i32 = 0x5eed;
@@ -97,9 +97,11 @@ fn some_sheet(source: &mut Source) -> Vec<u8> {
     }
 }
 
-/// Each kind at each scope, each pair of binders of one variable, and far more gates than fit.
+/// Each kind at each scope, each pair of binders of one variable, walks without gates, and far more gates than fit.
 fn known() -> Vec<Sheet> {
-    every_kind::accepted().into_iter().chain(shadows::sheets(3)).chain([closures(1), closures(190)]).collect()
+    let idle = idle_walks::sheets(2, 60).into_iter().map(|(_, sheet)| sheet);
+    let sheets = every_kind::accepted().into_iter().chain(shadows::sheets(3)).chain(idle);
+    sheets.chain([closures(1), closures(190)]).collect()
 }
 
 /// Writing into a slice of so many words, the whole slice compared.
