@@ -1,5 +1,7 @@
 // Expressions, operator by operator: cells in row order (document 01, "Clauses", the last list).
+ghost use mathlib.Core.Bool.{true};
 ghost use mathlib.Core.List.{List};
+ghost use mathlib.Core.Path.{_≡_};
 ghost use Prim.Native.Nat.{_*_};
 ghost use lib.IntN.{ℤ};
 ghost use Rattle.relational.specs.Trees.{join, product, inverse, closure};
@@ -233,6 +235,22 @@ fn round(list: &mut [i32], tape: Tape, p: Literals) -> MadeMatrix
     matched(list, after, Pairing::Either, p, joined)
 }
 
+// Whether p and q hold the same words.
+fn same_words(p: &[i32], q: &[i32]) -> bool
+    requires { do ⌜ (← ⟦p.len()⟧) ≡ (← ⟦q.len()⟧) ⌝ }
+    ensures { λ r. ⌜ (r ≡ true → now (p .entry) ≡ now (q .entry)) ⌝ }
+{
+    let mut k: usize = 0;
+    while k < p.len() {
+        if p[k] != q[k] {
+            return false;
+        }
+        k += 1;
+    }
+    true
+}
+
+// After a round that takes no variable and leaves the cells as they were, the others would change nothing: they are not worked out.
 pub fn closure(list: &mut [i32], tape: Tape, p: Literals) -> MadeMatrix
     requires { ⌜ Bounded tape ⌝ }
     requires { ⌜ Operand (tape .next) p ⌝ }
@@ -244,8 +262,17 @@ pub fn closure(list: &mut [i32], tape: Tape, p: Literals) -> MadeMatrix
     let mut k: usize = 0;
     while k < n {
         let made = round(list, after, matrix);
-        matrix = made.matrix;
-        after = made.tape;
+        let next = made.matrix;
+        let later = made.tape;
+        if later.next == after.next {
+            let old = matrix.cells;
+            let new = next.cells;
+            if same_words(&old, &new) {
+                return made;
+            }
+        }
+        matrix = next;
+        after = later;
         k += 1;
     }
     MadeMatrix {
