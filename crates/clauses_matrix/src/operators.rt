@@ -102,7 +102,7 @@ fn join_cell(
     or(list, after, &mut middles[..n])
 }
 
-// The cells of a join, place by place.
+// The cells of a join, place by place: cell k stands in column j, and its row starts at `start` in the left operand.
 fn join_cells(list: &mut [i32], tape: Tape, p: Literals, q: Literals) -> MadeCells
     requires { ⌜ Bounded tape ⌝ }
     requires { ⌜ Operand (tape .next) p ⌝ }
@@ -118,14 +118,20 @@ fn join_cells(list: &mut [i32], tape: Tape, p: Literals, q: Literals) -> MadeCel
     let mut cells = [-1; 64];
     let mut after = tape;
     let mut k: usize = 0;
+    let mut start: usize = 0;
+    let mut j: usize = 0;
     while k < size {
-        let start = k / columns * n;
         let end = start + n;
-        let made = join_cell(list, after, &left[start..end], &right, columns, k % columns);
+        let made = join_cell(list, after, &left[start..end], &right, columns, j);
         let l = made.literal;
         cells[k] = l;
         after = made.tape;
         k += 1;
+        j += 1;
+        if j == columns {
+            start = end;
+            j = 0;
+        }
     }
     MadeCells { cells, tape: after }
 }
