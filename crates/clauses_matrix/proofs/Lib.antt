@@ -5,3 +5,4 @@ pub mod Sizes
 pub mod Pairs
 pub mod Middles
 pub mod Rows
+pub mod Rounds

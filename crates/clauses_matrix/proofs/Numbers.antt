@@ -1,9 +1,9 @@
 -- Places in row order, by their number: the place of number k is row k / columns, column k % columns.
-use mathlib.Core.Path.{_≡_, refl, ap, _∙_}
+use mathlib.Core.Path.{_≡_, refl, sym, ap, _∙_}
 use mathlib.Core.List.{List, _∷_, _++_, map, map-append}
 use Prim.Native.Nat.{ℕ, zero, suc, _+_, _*_, _/_, _%_, _≤_, _<_}
 use native.Mathlib.Nat.{add-zero, zero-mul, div-eq-of-lt, mod-eq-of-lt, mul-add-div-right}
-use native.Mathlib.Nat.{mul-add-mod-self-right}
+use native.Mathlib.Nat.{mul-add-mod-self-right, div-add-mod', zero-div, zero-mod}
 use native.Mathlib.Omega.{arith}
 use Rattle.relational.specs.Matrices.{from, upto, Place, placesFrom, places}
 
@@ -26,6 +26,28 @@ place-of i c j h =
     let d : (i * c + j) / c ≡ i = mul-add-div-right z i j ∙ ap (λ (x : ℕ). i + x) (div-eq-of-lt h) ∙ add-zero i in
     let m : (i * c + j) % c ≡ j = mul-add-mod-self-right i c j ∙ mod-eq-of-lt h in
     rw (d, m)
+
+-- the place of number k, kept beside k: its column j, and the start of its row in a matrix of n columns
+pub record AtPlace (c n k start j : ℕ) : Type 0 where
+  pub row : start ≡ k / c * n
+  pub column : j ≡ k % c
+
+pub place-first : (c n : ℕ) → AtPlace c n 0 0 0
+place-first c n = record { row = rw (zero-div c, zero-mul n); column = sym (zero-mod c) }
+
+place-at : {c n : ℕ} (i j k start : ℕ) → k ≡ i * c + j → start ≡ i * n → j < c → AtPlace c n k start j
+place-at {c} {n} i j k start e f h =
+    let p : placeOf c k ≡ (i, j) = rw e (place-of i c j h) in
+    record { row = f ∙ sym (ap (λ (t : Place). t .0 * n) p); column = sym (ap (λ (t : Place). t .1) p) }
+
+-- the next place: in the same row, and in the next one
+module _ {c n k start j : ℕ} (a : AtPlace c n k start j) where
+  pub place-right : j < c → (j + 1 ≡ c → ⊥) → AtPlace c n (k + 1) start (j + 1)
+  place-right h e = place-at (k / c) (j + 1) (k + 1) start (omega (arith, div-add-mod' k c, a .column)) (a .row) (omega (arith, h, e))
+
+  pub place-down : j + 1 ≡ c → AtPlace c n (k + 1) (start + n) 0
+  place-down h =
+      place-at (suc (k / c)) 0 (k + 1) (start + n) (omega (arith, div-add-mod' k c, a .column)) (omega (arith, a .row)) (omega arith)
 
 -- one row
 row-of : (i c s n : ℕ) → s + n ≤ c → map {B = Place} (λ j. (i, j)) (from s n) ≡ map (placeOf c) (from (i * c + s) n)

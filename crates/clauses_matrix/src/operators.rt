@@ -1,5 +1,7 @@
 // Expressions, operator by operator: cells in row order (document 01, "Clauses", the last list).
+ghost use mathlib.Core.Bool.{true};
 ghost use mathlib.Core.List.{List};
+ghost use mathlib.Core.Path.{_≡_};
 ghost use Prim.Native.Nat.{_*_};
 ghost use lib.IntN.{ℤ};
 ghost use Rattle.relational.specs.Trees.{join, product, inverse, closure};
@@ -100,7 +102,7 @@ fn join_cell(
     or(list, after, &mut middles[..n])
 }
 
-// The cells of a join, place by place.
+// The cells of a join, place by place: cell k stands in column j, and its row starts at `start` in the left operand.
 fn join_cells(list: &mut [i32], tape: Tape, p: Literals, q: Literals) -> MadeCells
     requires { ⌜ Bounded tape ⌝ }
     requires { ⌜ Operand (tape .next) p ⌝ }
@@ -116,14 +118,20 @@ fn join_cells(list: &mut [i32], tape: Tape, p: Literals, q: Literals) -> MadeCel
     let mut cells = [-1; 64];
     let mut after = tape;
     let mut k: usize = 0;
+    let mut start: usize = 0;
+    let mut j: usize = 0;
     while k < size {
-        let start = k / columns * n;
         let end = start + n;
-        let made = join_cell(list, after, &left[start..end], &right, columns, k % columns);
+        let made = join_cell(list, after, &left[start..end], &right, columns, j);
         let l = made.literal;
         cells[k] = l;
         after = made.tape;
         k += 1;
+        j += 1;
+        if j == columns {
+            start = end;
+            j = 0;
+        }
     }
     MadeCells { cells, tape: after }
 }
@@ -233,6 +241,22 @@ fn round(list: &mut [i32], tape: Tape, p: Literals) -> MadeMatrix
     matched(list, after, Pairing::Either, p, joined)
 }
 
+// Whether p and q hold the same words.
+fn same_words(p: &[i32], q: &[i32]) -> bool
+    requires { do ⌜ (← ⟦p.len()⟧) ≡ (← ⟦q.len()⟧) ⌝ }
+    ensures { λ r. ⌜ (r ≡ true → now (p .entry) ≡ now (q .entry)) ⌝ }
+{
+    let mut k: usize = 0;
+    while k < p.len() {
+        if p[k] != q[k] {
+            return false;
+        }
+        k += 1;
+    }
+    true
+}
+
+// After a round that takes no variable and leaves the cells as they were, the others would change nothing: they are not worked out.
 pub fn closure(list: &mut [i32], tape: Tape, p: Literals) -> MadeMatrix
     requires { ⌜ Bounded tape ⌝ }
     requires { ⌜ Operand (tape .next) p ⌝ }
@@ -244,8 +268,17 @@ pub fn closure(list: &mut [i32], tape: Tape, p: Literals) -> MadeMatrix
     let mut k: usize = 0;
     while k < n {
         let made = round(list, after, matrix);
-        matrix = made.matrix;
-        after = made.tape;
+        let next = made.matrix;
+        let later = made.tape;
+        if later.next == after.next {
+            let old = matrix.cells;
+            let new = next.cells;
+            if same_words(&old, &new) {
+                return made;
+            }
+        }
+        matrix = next;
+        after = later;
         k += 1;
     }
     MadeMatrix {

@@ -1,16 +1,15 @@
--- `operators::closure` meets its contract. The loop's invariant: the rounds passed are worked out.
+-- `operators::closure` meets its contract. The loop's invariant: the rounds passed are worked out. Where a round changed nothing, all are.
 use borrow.Author.Needs.{needs}
-use mathlib.Core.Path.{_≡_}
-use native.Mathlib.Numerals.{add-one-le}
+use mathlib.Core.Path.{_≡_, sym, subst, _∙_}
+use Prim.Native.Nat.{ℕ, _-_, _≤_}
+use native.Mathlib.Numerals.{add-one, add-one-le}
 use native.Mathlib.Omega.{arith}
 use Rattle.relational.specs.Matrices.{rounds}
 use Rattle.clauses_rules.specs.Translation.{roundOf, afterRounds}
-use Rattle.clauses_matrix.specs.Matrices.{matrixOf, EmitsMatrix}
 use Rattle.clauses_emission.proofs.Steps.{emits-return, emits-bind}
-use mathlib.Core.Path.{subst}
-use Prim.Native.Nat.{ℕ, _-_, _≤_}
-use native.Mathlib.Numerals.{add-one}
+use Rattle.clauses_matrix.specs.Matrices.{matrixOf, EmitsMatrix}
 use Rattle.clauses_matrix.proofs.Regulars.{regular-round, regular-rounds}
+use Rattle.clauses_matrix.proofs.Rounds.{rounds-done}
 use Rattle.clauses_matrix.proofs.operators.closure.Statement.{statement}
 use Rattle.clauses_matrix.proofs.operators.closure.Tie as tie
 
@@ -33,6 +32,33 @@ loop-holds c =
 round-requires : tie.Need-round-requires Inv-loop μ-loop
 round-requires c κs = (c .before .before .loop .inv .1 .bounded, c .before .before .loop .inv .1 .fine)
 
+slice-aggregate-same-words : tie.Need-slice-aggregate-same-words Inv-loop μ-loop
+slice-aggregate-same-words c =
+    sym (c .before .before .before .before .before .before .before .before .before .before .before .before .loop .inv .1 .fine .cells .room)
+
+slice-aggregate-same-words-2 : tie.Need-slice-aggregate-same-words-2 Inv-loop μ-loop
+slice-aggregate-same-words-2 c =
+    sym (c .before .before .before .before .before .before .before .before .before .before .round .ensures .fine .cells .room)
+
+same-words-requires : tie.Need-same-words-requires Inv-loop μ-loop
+same-words-requires c κs = sym (slice-aggregate-same-words (c .before)) ∙ slice-aggregate-same-words-2 c
+
+-- the round that changed nothing
+abbrev last : tie.Then2 Inv-loop μ-loop → tie.After-round Inv-loop μ-loop
+last c = c .before .before .before .before .before .before .before .before .before .before .before .before
+
+same-length : tie.Need-same-length Inv-loop μ-loop
+same-length c = let call = last c in call .round .ensures .kept ∙ call .before .before .before .loop .inv .1 .kept
+
+returns : tie.Need-returns Inv-loop μ-loop
+returns c =
+    let call = last c in
+    let loop = call .before .before .before .loop in
+    let p = matrixOf (call .before .before .before .before .before .args .p) in
+    rounds-done (loop .k) p (loop .inv .1) (call .round .ensures) (c .before .before .before .before .before .before .if1 .taken)
+    (c .before .same-words .ensures (c .if2 .taken)) (rounds (p .rows))
+    (omega (arith, call .before .before .loop-test .taken, call .before .before .before .before .rounds .ensures))
+
 add-k : tie.Need-add-k Inv-loop μ-loop
 add-k c = search needs
 
@@ -42,20 +68,20 @@ loop-less c = omega arith
 loop-again : tie.Need-loop-again Inv-loop μ-loop
 unfolding afterRounds
 loop-again c =
-    let start = c .before .before .before .before .before .before .before .before in
-    let loop = c .before .before .before .before .before .before .loop in
-    let p = matrixOf (start .args .p) in
+    let call = c .before .before .before .before .before .before in
+    let loop = call .before .before .before .loop in
+    let p = matrixOf (call .before .before .before .before .before .args .p) in
     let k = loop .k in (
-      add-one-le (c .before .before .before .before .before .loop-test .taken),
+      add-one-le (call .before .before .loop-test .taken),
       rw (add-one k)
-          (emits-bind (afterRounds k p) roundOf (regular-rounds k p) regular-round (loop .inv .1) (c .before .before .before .round .ensures)),
+          (emits-bind (afterRounds k p) roundOf (regular-rounds k p) regular-round (loop .inv .1) (call .round .ensures)),
     )
 
-same-length : tie.Need-same-length Inv-loop μ-loop
-same-length c = c .before .loop .inv .1 .kept
+same-length-2 : tie.Need-same-length-2 Inv-loop μ-loop
+same-length-2 c = c .before .loop .inv .1 .kept
 
-returns : tie.Need-returns Inv-loop μ-loop
-returns c =
+returns-2 : tie.Need-returns-2 Inv-loop μ-loop
+returns-2 c =
     let start = c .before .before .before in
     let loop = c .before .loop in
     let e : loop .k ≡ rounds (start .args .p .rows) = omega (arith, c .before .before .rounds .ensures, loop .inv .0, c .loop-test .left) in
@@ -67,4 +93,5 @@ returns c =
 pub closure-spec : {M : Type 1} → statement M
 closure-spec =
     tie.close
-    (tie.spec Inv-loop μ-loop rounds-requires loop-holds round-requires add-k loop-less loop-again same-length returns)
+    (tie.spec Inv-loop μ-loop rounds-requires loop-holds round-requires slice-aggregate-same-words slice-aggregate-same-words-2
+    same-words-requires same-length returns add-k loop-less loop-again same-length-2 returns-2)
