@@ -180,9 +180,10 @@ impl Translation<'_> {
     fn join(&mut self, p: &Matrix, q: &Matrix) -> Matrix {
         let columns = if q.arity == 1 { 1 } else { q.columns };
         let mut made = Matrix::new(2, p.rows, columns);
-        for k in 0..p.rows * columns {
-            let start = k / columns * p.columns;
-            made.cells[k] = self.join_cell(&p.cells[start..start + p.columns], &q.cells, columns, k % columns);
+        for (i, left) in p.cells[..p.size()].chunks(p.columns.max(1)).enumerate() {
+            for j in 0..columns {
+                made.cells[i * columns + j] = self.join_cell(left, &q.cells, columns, j);
+            }
         }
         if p.arity + q.arity < 4 {
             (made.arity, made.rows, made.columns) = (1, 1, p.rows * columns);
@@ -198,11 +199,17 @@ impl Translation<'_> {
         made
     }
 
+    /// The rounds up to one that takes no variable and leaves the cells as they were.
     fn closure(&mut self, p: &Matrix) -> Matrix {
         let mut made = *p;
         for _ in 0..p.rows.next_power_of_two().trailing_zeros() {
+            let next = self.next;
             let joined = self.join(&made, &made);
-            made = self.union(&made, &joined);
+            let closer = self.union(&made, &joined);
+            if self.next == next && closer.cells == made.cells {
+                break;
+            }
+            made = closer;
         }
         made
     }
