@@ -15,8 +15,8 @@ pub struct Tape {
 }
 
 pub struct Made {
-    pub literal: i32,
     pub tape: Tape,
+    pub literal: i32,
 }
 
 // What is made of two literals: OR(p, q), AND(p, q), AND(p, -q), OR(-p, q), IFF(p, q), OR(-p, -q).
