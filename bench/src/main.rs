@@ -10,7 +10,7 @@ mod worked;
 
 use reference::clauses::{translate, Clauses};
 use reference::random::Source;
-use reference::random_sheet::{closures, gates_of, sheet, style};
+use reference::random_sheet::{closures, gates_of, sheet, style, Style};
 use reference::sheet::{read, Sheet};
 use std::hint::black_box;
 use std::time::{Duration, Instant};
@@ -51,7 +51,7 @@ fn sheets(number: usize) -> Vec<(Vec<u8>, Clauses)> {
             break;
         }
         let source = &mut Source::new(SEED, "bench", case);
-        let style = style(source);
+        let style = Style { rich: false, ..style(source) };
         let bytes = sheet(source, style).bytes();
         if let Ok(clauses) = read(&bytes).and_then(|sheet| translate(&sheet)) {
             sheets.push((bytes, clauses));

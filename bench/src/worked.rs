@@ -49,16 +49,17 @@ fn bytes(file: &std::path::Path) -> Vec<u8> {
     digits.chunks(2).map(|pair| 16 * pair[0] + pair[1]).collect()
 }
 
+/// A line for each example: variables, words, end and steps before and now, and the times of the searches.
 pub fn table() {
     for (name, sheet) in examples() {
         let (mut before, mut now) = (Listed::new(&sheet, plain), Listed::new(&sheet, translate));
-        let (was, is) = (before.search(), now.search());
-        let shown = |listed: &Listed, answer: Answer| {
+        assert_eq!(library::count(&sheet.bytes()), Ok(now.size));
+        let shown = |listed: &mut Listed| {
+            let Answer { end, steps } = listed.search();
             let Size { variables, words, .. } = listed.size;
-            format!("{variables} variables, {words} words, {:?} after {} steps", answer.end, answer.steps)
+            format!("{variables} variables, {words} words, {end:?} after {steps} steps")
         };
-        println!("{name}, before: {}", shown(&before, was));
-        println!("{name}, now: {}", shown(&now, is));
+        let (was, is) = (shown(&mut before), shown(&mut now));
         let (new, old) = best(
             || {
                 black_box(now.search());
@@ -68,6 +69,6 @@ pub fn table() {
             },
         );
         let (new, old) = (new.as_secs_f64() * 1e6, old.as_secs_f64() * 1e6);
-        println!("{name}, search: {new:.1} µs now, {old:.1} µs before, ratio {:.3}", new / old);
+        println!("{name}: before {was}; now {is}; search {new:.1} µs, before {old:.1} µs, ratio {:.2}", new / old);
     }
 }
