@@ -2,9 +2,11 @@
 //! counts.
 //! Before anything is timed, both sides are held to the same answers.
 
+mod idle;
 mod resuming;
 mod search;
 mod translation;
+mod worked;
 
 use reference::clauses::{translate, Clauses};
 use reference::random::Source;
@@ -15,6 +17,9 @@ use std::time::{Duration, Instant};
 
 const SEED: u64 = 1;
 const ROUNDS: usize = 5;
+
+/// The finder's budget.
+const BUDGET: u64 = 1_000_000;
 
 /// The best time of both sides, taken in turns.
 fn best(mut one: impl FnMut(), mut other: impl FnMut()) -> (Duration, Duration) {
@@ -153,7 +158,7 @@ fn giving_up() {
             let _ = black_box(library::count(&far));
         },
     );
-    println!("number 10: {} µs at 16,001 variables, {} µs at 1,494,220,800 gates", just.as_micros(), far.as_micros());
+    println!("number 10: {} µs at 16,001 variables, {} µs at 1,475,543,040 gates", just.as_micros(), far.as_micros());
 }
 
 fn main() {
@@ -172,4 +177,6 @@ fn main() {
     resuming::number_14("a state of K1", &[k1.expect("a list")], 5_000, 20_000);
     translations(&sheets);
     giving_up();
+    idle::walks();
+    worked::table();
 }

@@ -1,5 +1,5 @@
-//! The translation of the library once more, in Rust: the same walk over matrices of at most 64 literals, the same
-//! giving up past 16,000 variables. It gets the sheet already read.
+//! The translation of the library once more, in Rust: the same walk over matrices of at most 64 literals, OR in place over
+//! a list that is lent, the same giving up past 16,000 variables. It gets the sheet already read.
 
 use reference::clauses::Size;
 use reference::sheet::{Node, Sheet};
@@ -32,10 +32,21 @@ struct Translation<'a> {
     clauses: usize,
     words: usize,
     list: &'a mut [i32],
+    /// OR makes a gate of every list of two or more, constants or not: the rule before Change 2
+    plain: bool,
 }
 
 /// The numbers of a sheet's clauses, and the clauses in the list as far as it reaches.
 pub fn translate(sheet: &Sheet, list: &mut [i32]) -> Result<Size, u32> {
+    translate_by(sheet, list, false)
+}
+
+/// The same by the rule before Change 2.
+pub fn plain(sheet: &Sheet, list: &mut [i32]) -> Result<Size, u32> {
+    translate_by(sheet, list, true)
+}
+
+fn translate_by(sheet: &Sheet, list: &mut [i32], plain: bool) -> Result<Size, u32> {
     let mut starts = [0; 16];
     let mut cells = 0;
     for r in 0..sheet.relations.len() {
@@ -43,7 +54,7 @@ pub fn translate(sheet: &Sheet, list: &mut [i32]) -> Result<Size, u32> {
         let (rows, columns) = dimensions(sheet, r);
         cells += rows * columns;
     }
-    let mut walk = Translation { sheet, starts, next: 2 + cells, clauses: 0, words: 0, list };
+    let mut walk = Translation { sheet, starts, next: 2 + cells, clauses: 0, words: 0, list, plain };
     walk.clause(1, &[]);
     walk.marks();
     let root = walk.formula(sheet.nodes.len() - 1, [0; 4]);
@@ -63,6 +74,33 @@ fn dimensions(sheet: &Sheet, r: usize) -> (usize, usize) {
     }
 }
 
+/// Moves what remains of a list to the front and gives its number; 1 alone where the list holds 1 or opposites.
+fn settle(inputs: &mut [i32]) -> usize {
+    let mut remaining = 0;
+    'inputs: for k in 0..inputs.len() {
+        let l = inputs[k];
+        if l == -1 {
+            continue;
+        }
+        if l == 1 {
+            inputs[0] = 1;
+            return 1;
+        }
+        for m in 0..remaining {
+            if inputs[m] == l {
+                continue 'inputs;
+            }
+            if inputs[m] == -l {
+                inputs[0] = 1;
+                return 1;
+            }
+        }
+        inputs[remaining] = l;
+        remaining += 1;
+    }
+    remaining
+}
+
 impl Translation<'_> {
     fn clause(&mut self, first: i32, others: &[i32]) {
         if let Some(rest) = self.list.get_mut(self.words..) {
@@ -73,34 +111,48 @@ impl Translation<'_> {
         self.words += 2 + others.len();
     }
 
-    fn or(&mut self, inputs: &[i32]) -> i32 {
-        match inputs {
+    fn gate(&mut self, inputs: &[i32]) -> i32 {
+        if self.next > LIMIT {
+            return 1;
+        }
+        let g = self.next as i32;
+        inputs.iter().for_each(|&l| self.clause(g, &[-l]));
+        self.clause(-g, inputs);
+        self.next += 1;
+        g
+    }
+
+    fn or(&mut self, inputs: &mut [i32]) -> i32 {
+        let remaining = if self.plain { inputs.len() } else { settle(inputs) };
+        match &inputs[..remaining] {
             [] => -1,
             &[l] => l,
-            _ if self.next > LIMIT => 1,
-            _ => {
-                let g = self.next as i32;
-                inputs.iter().for_each(|&l| self.clause(g, &[-l]));
-                self.clause(-g, inputs);
-                self.next += 1;
-                g
-            }
+            several => self.gate(several),
         }
     }
 
-    fn and(&mut self, inputs: &[i32]) -> i32 {
-        let mut opposites = [-1; 2016];
-        opposites.iter_mut().zip(inputs).for_each(|(o, &l)| *o = -l);
-        -self.or(&opposites[..inputs.len()])
+    fn and(&mut self, inputs: &mut [i32]) -> i32 {
+        inputs.iter_mut().for_each(|l| *l = -*l);
+        -self.or(inputs)
+    }
+
+    fn either(&mut self, p: i32, q: i32) -> i32 {
+        match (p, q) {
+            _ if self.plain => self.gate(&[p, q]),
+            (-1, l) | (l, -1) => l,
+            _ if p == q => p,
+            _ if p == 1 || q == 1 || p == -q => 1,
+            _ => self.gate(&[p, q]),
+        }
     }
 
     fn both(&mut self, p: i32, q: i32) -> i32 {
-        -self.or(&[-p, -q])
+        -self.either(-p, -q)
     }
 
     fn same(&mut self, p: i32, q: i32) -> i32 {
-        let x = self.or(&[-p, q]);
-        let y = self.or(&[-q, p]);
+        let x = self.either(-p, q);
+        let y = self.either(-q, p);
         self.both(x, y)
     }
 
@@ -113,19 +165,25 @@ impl Translation<'_> {
     }
 
     fn union(&mut self, p: &Matrix, q: &Matrix) -> Matrix {
-        self.matched(p, q, |walk, l, k| walk.or(&[l, k]))
+        self.matched(p, q, |walk, l, k| walk.either(l, k))
+    }
+
+    /// A row of the left operand, and a column of the right one.
+    fn join_cell(&mut self, left: &[i32], right: &[i32], columns: usize, j: usize) -> i32 {
+        let mut middles = [-1; 8];
+        for (m, &l) in left.iter().enumerate() {
+            middles[m] = self.both(l, right[m * columns + j]);
+        }
+        self.or(&mut middles[..left.len()])
     }
 
     fn join(&mut self, p: &Matrix, q: &Matrix) -> Matrix {
         let columns = if q.arity == 1 { 1 } else { q.columns };
         let mut made = Matrix::new(2, p.rows, columns);
-        for k in 0..p.rows * columns {
-            let mut middles = [-1; 64];
-            for m in 0..p.columns {
-                let left = p.cells[k / columns * p.columns + m];
-                middles[m] = self.both(left, q.cells[m * columns + k % columns]);
+        for (i, left) in p.cells[..p.size()].chunks(p.columns.max(1)).enumerate() {
+            for j in 0..columns {
+                made.cells[i * columns + j] = self.join_cell(left, &q.cells, columns, j);
             }
-            made.cells[k] = self.or(&middles[..p.columns]);
         }
         if p.arity + q.arity < 4 {
             (made.arity, made.rows, made.columns) = (1, 1, p.rows * columns);
@@ -141,11 +199,17 @@ impl Translation<'_> {
         made
     }
 
+    /// The rounds up to one that takes no variable and leaves the cells as they were.
     fn closure(&mut self, p: &Matrix) -> Matrix {
         let mut made = *p;
         for _ in 0..p.rows.next_power_of_two().trailing_zeros() {
+            let next = self.next;
             let joined = self.join(&made, &made);
-            made = self.union(&made, &joined);
+            let closer = self.union(&made, &joined);
+            if self.next == next && closer.cells == made.cells {
+                break;
+            }
+            made = closer;
         }
         made
     }
@@ -225,11 +289,11 @@ impl Translation<'_> {
         let (mut pairs, mut count) = ([-1; 2016], 0);
         for i in 0..p.size() {
             for j in i + 1..p.size() {
-                pairs[count] = self.or(&[-p.cells[i], -p.cells[j]]);
+                pairs[count] = self.both(p.cells[i], p.cells[j]);
                 count += 1;
             }
         }
-        self.and(&pairs[..count])
+        -self.or(&mut pairs[..count])
     }
 
     fn formula(&mut self, v: usize, env: [usize; 4]) -> i32 {
@@ -241,17 +305,18 @@ impl Translation<'_> {
         match node.kind {
             20 | 21 => {
                 let (p, q) = (self.expression(a, env), self.expression(b, env));
-                let made = match node.kind {
+                let mut made = match node.kind {
                     20 => self.matched(&p, &q, |walk, l, k| walk.same(l, k)),
-                    _ => self.matched(&p, &q, |walk, l, k| walk.or(&[-l, k])),
+                    _ => self.matched(&p, &q, |walk, l, k| walk.either(-l, k)),
                 };
-                self.and(&made.cells[..made.size()])
+                self.and(&mut made.cells[..p.size()])
             }
             22..=24 => {
-                let p = self.expression(a, env);
+                let mut p = self.expression(a, env);
+                let size = p.size();
                 match node.kind {
-                    22 => self.or(&p.cells[..p.size()]),
-                    23 => -self.or(&p.cells[..p.size()]),
+                    22 => self.or(&mut p.cells[..size]),
+                    23 => -self.or(&mut p.cells[..size]),
                     _ => self.lone(&p),
                 }
             }
@@ -260,14 +325,14 @@ impl Translation<'_> {
                 let (p, q) = (self.formula(a, env), self.formula(b, env));
                 match node.kind {
                     31 => self.both(p, q),
-                    32 => self.or(&[p, q]),
-                    33 => self.or(&[-p, q]),
+                    32 => self.either(p, q),
+                    33 => self.either(-p, q),
                     _ => self.same(p, q),
                 }
             }
             _ => {
-                let made = self.bodies(a, b, env);
-                let literals = &made.cells[..made.columns];
+                let mut made = self.bodies(a, b, env);
+                let literals = &mut made.cells[..made.columns];
                 if node.kind == 40 {
                     self.and(literals)
                 } else {

@@ -157,6 +157,9 @@ fn sizes() {
         let variables = count(&gates_of(gates).bytes()).map(|size| size.variables as usize);
         assert_eq!(variables, if gates + 4 <= 16_000 { Ok(gates + 4) } else { Err(SIZE) });
     }
+    // the constant, the cells, the closure and "some": a sheet of `closures` without its binders
+    let closure = one(8, 2, 0, &[node(1, 0, 0), node(11, 0, 0), node(22, 1, 0)]);
+    assert_eq!(count(&closure.bytes()).map(|size| size.variables), Ok(1 + 64 + 1_896 + 1));
 }
 
 #[test]
@@ -183,8 +186,9 @@ fn three_rounds_at_scope_5() {
     let sheet = one(5, 2, 0, &nodes);
     assert_eq!(check(&sheet.bytes(), &cells), Ok(true));
     let mut clauses = translate(&sheet).unwrap();
-    let gates = |n: u32| n * n * (n + 1) + n * n;
-    assert_eq!(clauses.variables, 1 + 25 + 3 * gates(5) + 25 + 1);
+    // a cell of the diagonal has itself twice as a middle, which makes no gate; within the identity makes one gate of five
+    let gates = |n: u32| n * n * (n + 1) - n + n * n;
+    assert_eq!(clauses.variables, 1 + 25 + 3 * gates(5) + 1);
     // the same by clauses: with the ring's cells as units the list is satisfiable
     let unit = |cell: usize| vec![if ring(cell) { cell as i32 + 2 } else { -(cell as i32 + 2) }];
     clauses.clauses.extend((0..25).map(unit));

@@ -1,6 +1,7 @@
-//! The clause list of a sheet (document 01, "Clauses", numbers 1 to 10 and 13).
+//! The clause list of a sheet (document 01, "Clauses", numbers 1 to 10 and 13; OR as Change 2 has it).
 
 use crate::sheet::{self, Shape, Sheet, SHORT, SIZE};
+use std::collections::BTreeMap;
 
 /// The most variables that a list may have.
 pub const VARIABLES: usize = 16_000;
@@ -13,11 +14,24 @@ pub struct Size {
     pub words: u32,
 }
 
+/// What OR meets in a list, for a suite that wants to have met each; the last three where something was struck out.
+pub const MET: [&str; 7] = [
+    "a -1 struck out",
+    "a repeat struck out",
+    "a list that holds 1",
+    "a literal and its opposite",
+    "nothing that remains",
+    "one literal that remains",
+    "several literals that remain",
+];
+
 /// A clause list before it is laid out in words.
 #[derive(Clone, Debug, PartialEq, Eq)]
 pub struct Clauses {
     pub variables: u32,
     pub clauses: Vec<Vec<i32>>,
+    /// How often each of `MET` came up.
+    pub met: [usize; MET.len()],
 }
 
 impl Clauses {
@@ -47,20 +61,21 @@ struct Translation<'s> {
     /// The highest variable so far.
     last: usize,
     clauses: Vec<Vec<i32>>,
+    met: [usize; MET.len()],
 }
 
 /// The whole list of an accepted sheet, or number 10.
 pub fn translate(sheet: &Sheet) -> Result<Clauses, u32> {
     let shapes = sheet::shapes(sheet).expect("an accepted sheet");
     let last = 1 + sheet.cells();
-    let mut translation = Translation { sheet, shapes, last, clauses: vec![vec![1]] };
+    let mut translation = Translation { sheet, shapes, last, clauses: vec![vec![1]], met: [0; MET.len()] };
     for relation in 0..sheet.relations.len() {
         translation.mark(relation);
     }
     let root = sheet.nodes.len() - 1;
     let literal = translation.formula(root as u8, [0; 4])?;
     translation.clauses.push(vec![literal]);
-    Ok(Clauses { variables: translation.last as u32, clauses: translation.clauses })
+    Ok(Clauses { variables: translation.last as u32, clauses: translation.clauses, met: translation.met })
 }
 
 impl Translation<'_> {
@@ -86,21 +101,42 @@ impl Translation<'_> {
         }
     }
 
-    fn or(&mut self, literals: &[i32]) -> Result<i32, u32> {
-        match literals {
+    /// OR of a list: -1 and every repeat are struck out; 1, or a literal and its opposite, make it 1.
+    fn or(&mut self, list: &[i32]) -> Result<i32, u32> {
+        let mut places = first_places(list);
+        let repeats = places.len() < list.len();
+        let falsity = places.remove(&-1).is_some();
+        let truth = places.contains_key(&1);
+        let opposites = places.keys().any(|literal| places.contains_key(&-literal));
+        let mut remaining: Vec<i32> = places.keys().copied().collect();
+        remaining.sort_by_key(|literal| places[literal]);
+        self.meet(falsity, repeats, truth, opposites, remaining.len());
+        match remaining.as_slice() {
+            _ if truth || opposites => Ok(1),
             [] => Ok(-1),
             [literal] => Ok(*literal),
-            _ => {
-                self.last += 1;
-                if self.last > VARIABLES {
-                    return Err(SIZE);
-                }
-                let gate = self.last as i32;
-                self.clauses.extend(literals.iter().map(|&literal| vec![gate, -literal]));
-                self.clauses.push([&[-gate], literals].concat());
-                Ok(gate)
-            }
+            _ => self.gate(&remaining),
         }
+    }
+
+    /// The next variable, and its clauses.
+    fn gate(&mut self, literals: &[i32]) -> Result<i32, u32> {
+        self.last += 1;
+        if self.last > VARIABLES {
+            return Err(SIZE);
+        }
+        let gate = self.last as i32;
+        self.clauses.extend(literals.iter().map(|&literal| vec![gate, -literal]));
+        self.clauses.push([&[-gate], literals].concat());
+        Ok(gate)
+    }
+
+    /// Counts what came up in a list.
+    fn meet(&mut self, falsity: bool, repeats: bool, truth: bool, opposites: bool, remaining: usize) {
+        let struck = (falsity || repeats) && !truth && !opposites;
+        let remains = [remaining == 0, remaining == 1, remaining > 1].map(|met| struck && met);
+        let met = [&[falsity, repeats, truth, opposites], &remains[..]].concat();
+        self.met.iter_mut().zip(met).for_each(|(times, met)| *times += usize::from(met));
     }
 
     fn and(&mut self, literals: &[i32]) -> Result<i32, u32> {
@@ -271,6 +307,15 @@ impl Translation<'_> {
         }
         Ok(literals)
     }
+}
+
+/// The literals of a list, each with the place where it stands first.
+fn first_places(list: &[i32]) -> BTreeMap<i32, usize> {
+    let mut places = BTreeMap::new();
+    for (place, &literal) in list.iter().enumerate() {
+        places.entry(literal).or_insert(place);
+    }
+    places
 }
 
 /// A matrix of 1 and -1.

@@ -1,7 +1,7 @@
 //! The implementation held to itself: by meaning and by clauses, the same instances satisfy.
 
 use crate::brute::{assignments, holds, instances};
-use crate::clauses::translate;
+use crate::clauses::{translate, MET};
 use crate::finder::finder;
 use crate::random::Source;
 use crate::random_sheet::{sheet, Style, SMALL};
@@ -13,11 +13,13 @@ const SEED: u64 = 1;
 /// All satisfying instances are all satisfying assignments cut to the cells, one to one and in order.
 #[test]
 fn instances_and_assignments_match() {
-    let styles = [SMALL, Style { sorts: 1, scope: 3, relations: 1, depth: 4 }];
+    let rich = Style { rich: true, ..SMALL };
+    let styles = [SMALL, Style { sorts: 1, scope: 3, relations: 1, ..SMALL }, rich, rich];
     let (mut compared, mut kinds, mut satisfiable) = (0, std::collections::BTreeMap::new(), 0);
+    let mut met = [0; MET.len()];
     for case in 0..3_000 {
         let source = &mut Source::new(SEED, "counts", case);
-        let sheet = sheet(source, styles[case as usize % 2]);
+        let sheet = sheet(source, styles[case as usize % 4]);
         if sheet.cells() > 9 || read(&sheet.bytes()).is_err() {
             continue;
         }
@@ -29,10 +31,12 @@ fn instances_and_assignments_match() {
         compared += 1;
         satisfiable += usize::from(!by_meaning.is_empty());
         sheet.nodes.iter().for_each(|node| *kinds.entry(node.kind).or_insert(0) += 1);
+        met.iter_mut().zip(clauses.met).for_each(|(sheets, times)| *sheets += usize::from(times > 0));
     }
-    println!("{compared} sheets, {satisfiable} satisfiable, kinds {kinds:?}");
-    assert!(compared > 2_000 && satisfiable > 1_000 && satisfiable < compared - 300);
+    println!("{compared} sheets, {satisfiable} satisfiable, kinds {kinds:?}, met {met:?}");
+    assert!(compared > 2_990 && satisfiable > 1_000 && satisfiable < compared - 300);
     assert!(kinds.len() == 24 && kinds.values().all(|&times| times > 100));
+    assert!(met.iter().all(|&sheets| sheets > 100));
 }
 
 /// The search finds the first of all satisfying assignments, or none where there is none.

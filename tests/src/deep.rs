@@ -4,8 +4,8 @@ use crate::sheet::{Node, Relation, Sheet};
 
 const NODES: usize = 200;
 
-/// First nodes, and one node after the other over the last, up to the most that a sheet has. The one relation is over a
-/// sort of scope 1, 2 or 8.
+/// First nodes, and one node after the other over the last, up to the most that a sheet has. The two relations are over
+/// a sort of scope 1, 2 or 8.
 fn chain(sort: u8, first: &[Node], next: impl Fn(usize, u8) -> Node, root: Option<u8>) -> Sheet {
     let relation = Relation { columns: 2, mark: 0, first: sort, second: sort };
     let mut nodes = first.to_vec();
@@ -13,7 +13,7 @@ fn chain(sort: u8, first: &[Node], next: impl Fn(usize, u8) -> Node, root: Optio
         nodes.push(next(nodes.len(), (nodes.len() - 1) as u8));
     }
     nodes.extend(root.map(|kind| Node { kind, a: (NODES - 2) as u8, b: 0 }));
-    Sheet { scopes: vec![1, 2, 8], variables: vec![0], relations: vec![relation], nodes }
+    Sheet { scopes: vec![1, 2, 8], variables: vec![0], relations: vec![relation; 2], nodes }
 }
 
 /// Every way down, with its name: through one operand, through the first or the second of two, and through binders,
@@ -21,6 +21,8 @@ fn chain(sort: u8, first: &[Node], next: impl Fn(usize, u8) -> Node, root: Optio
 pub fn sheets() -> Vec<(&'static str, Sheet)> {
     let node = |kind, a, b| Node { kind, a, b };
     let expression = [node(1, 0, 0)];
+    // the union of a relation with itself makes no gate, so that the first union is of two relations
+    let expressions = [node(1, 0, 0), node(1, 1, 0)];
     let some = [node(1, 0, 0), node(22, 0, 0)];
     let lone = [node(1, 0, 0), node(24, 0, 0)];
     let set_or_test = |at, below| if at % 2 == 0 { node(12, 0, below) } else { node(22, below, 0) };
@@ -28,8 +30,8 @@ pub fn sheets() -> Vec<(&'static str, Sheet)> {
         ("inverse", chain(2, &expression, |_, below| node(10, below, 0), Some(22))),
         ("closure", chain(0, &expression, |_, below| node(11, below, 0), Some(22))),
         ("closure at scope 8", chain(2, &expression, |_, below| node(11, below, 0), Some(22))),
-        ("union", chain(2, &expression, |_, below| node(5, below, 0), Some(22))),
-        ("union, second", chain(2, &expression, |_, below| node(5, 0, below), Some(22))),
+        ("union", chain(2, &expressions, |_, below| node(5, below, 0), Some(22))),
+        ("union, second", chain(2, &expressions, |_, below| node(5, 0, below), Some(22))),
         ("join", chain(1, &expression, |_, below| node(8, below, 0), Some(22))),
         ("join, second", chain(1, &expression, |_, below| node(8, 0, below), Some(22))),
         ("not", chain(2, &some, |_, below| node(30, below, 0), None)),

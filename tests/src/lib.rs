@@ -8,17 +8,20 @@ pub mod deep;
 pub mod dimacs;
 pub mod every_kind;
 pub mod finder;
+pub mod idle_walks;
 pub mod long_search;
 pub mod meaning;
 pub mod random;
 pub mod random_damage;
 pub mod random_list;
+pub mod random_rich;
 pub mod random_sheet;
 pub mod random_state;
 pub mod resume;
 pub mod search;
 pub mod shadows;
 pub mod sheet;
+pub mod struck;
 
 #[cfg(test)]
 mod cases;

@@ -1,30 +1,33 @@
 //! Random sheets: well-formed ones grown by shape, loose ones, long walks, and damage.
 
 use crate::random::Source;
+use crate::random_rich::rich;
 use crate::sheet::{fields, Field, Node, Relation, Shape, Sheet};
 use std::collections::BTreeSet;
 
-/// How large a sheet is to be.
+/// How large a sheet is to be, and whether it is to be rich in what OR strikes out (`random_rich.rs`).
 #[derive(Clone, Copy, Debug)]
 pub struct Style {
     pub sorts: usize,
     pub scope: usize,
     pub relations: usize,
     pub depth: usize,
+    pub rich: bool,
 }
 
 /// Few cells, for brute force.
-pub const SMALL: Style = Style { sorts: 2, scope: 2, relations: 2, depth: 4 };
-pub const USUAL: Style = Style { sorts: 3, scope: 4, relations: 4, depth: 5 };
-pub const LARGE: Style = Style { sorts: 8, scope: 8, relations: 16, depth: 5 };
+pub const SMALL: Style = Style { sorts: 2, scope: 2, relations: 2, depth: 4, rich: false };
+pub const USUAL: Style = Style { sorts: 3, scope: 4, relations: 4, depth: 5, rich: false };
+pub const LARGE: Style = Style { sorts: 8, scope: 8, relations: 16, depth: 5, rich: false };
 
-/// One of the styles, mostly the usual one.
+/// One of the styles, mostly the usual one; some are rich.
 pub fn style(source: &mut Source) -> Style {
-    match source.below(8) {
+    let style = match source.below(8) {
         0..=2 => SMALL,
         3..=6 => USUAL,
         _ => LARGE,
-    }
+    };
+    Style { rich: source.chance(1, 3), ..style }
 }
 
 /// No more nodes are begun past this number; what is under way still finishes below 200.
@@ -40,6 +43,9 @@ struct Growth<'s> {
 
 /// A well-formed sheet. Few are refused, namely those whose walk is too long.
 pub fn sheet(source: &mut Source, style: Style) -> Sheet {
+    if style.rich {
+        return rich(source, style.scope);
+    }
     let sheet = declarations(source, style);
     let mut growth = Growth { source, sheet, shapes: Vec::new(), free: Vec::new() };
     for _ in 0..growth.source.below(3) {
@@ -342,7 +348,7 @@ pub fn gates_of(gates: usize) -> Sheet {
     Sheet { scopes: vec![1, 2], variables: vec![], relations: vec![relation(0), relation(1)], nodes }
 }
 
-/// A tower of closures at scope 8 under four binders: 1,920 gates for each closure in each of 4,096 walks.
+/// A tower of closures at scope 8 under four binders: 1,896 gates for each closure in each of 4,096 walks.
 pub fn closures(tower: usize) -> Sheet {
     let relation = Relation { columns: 2, mark: 0, first: 0, second: 0 };
     let mut nodes = vec![Node { kind: 1, a: 0, b: 0 }];

@@ -1,20 +1,20 @@
 //! Counting and writing: the three figures, and the list word for word in slices that are exact, one
-//! word short, and longer with a known filling behind.
+//! word short, and longer with a known filling behind. What OR strikes out, and where it is 1, must have come up.
 
 use super::{agree, covered, hex};
 use crate::{Outcome, Run};
-use reference::clauses::{count, write, Size};
+use reference::clauses::{translate, write, Clauses, Size, MET};
 use reference::every_kind;
 use reference::random::Source;
 use reference::random_damage::any;
 use reference::random_sheet::{closures, gates_of, long_walk, sheet, style};
-use reference::shadows;
-use reference::sheet::Sheet;
+use reference::sheet::{read, Sheet};
+use reference::{idle_walks, shadows, struck};
 
 /// What stands in the slice before the call.
 const FILLING: i32 = 0x5eed;
 
-/// K1, K2, K5, K6 and "r equal r": the sheet, and its clauses by hand.
+/// K1, K2, K5, K6 and "r equal r": the sheet, its variables, and its clauses by hand.
 type Marked = (&'static [u8], u32, &'static [&'static [i32]]);
 
 const fn small(mark: u8, kind: u8, b: u8) -> [u8; 20] {
@@ -23,22 +23,17 @@ const fn small(mark: u8, kind: u8, b: u8) -> [u8; 20] {
 
 const K6: &[u8] = &[1, 0, 1, 1, 0, 0, 0, 4, 2, 0, 0, 0, 0, 9, 1, 0, 0, 11, 0, 0, 22, 1, 0];
 
-#[rustfmt::skip]
 const MARKED: [Marked; 5] = [
     (&small(0, 22, 0), 4, &[&[1], &[4, -2], &[4, -3], &[-4, 2, 3], &[4]]),
     (&small(2, 22, 0), 4, &[&[1], &[-2, -3], &[2, 3], &[4, -2], &[4, -3], &[-4, 2, 3], &[4]]),
     // AND over the one pair of OR(-2, -3), which is the gate 4 itself
     (&small(0, 24, 0), 4, &[&[1], &[4, 2], &[4, 3], &[-4, -2, -3], &[4]]),
     (K6, 2, &[&[1], &[2]]),
-    (&small(0, 20, 0), 10, &[
-        &[1],
-        &[4, 2], &[4, -2], &[-4, -2, 2], &[5, 2], &[5, -2], &[-5, -2, 2], &[6, 4], &[6, 5], &[-6, -4, -5],
-        &[7, 3], &[7, -3], &[-7, -3, 3], &[8, 3], &[8, -3], &[-8, -3, 3], &[9, 7], &[9, 8], &[-9, -7, -8],
-        &[10, -6], &[10, -9], &[-10, 6, 9], &[-10],
-    ]),
+    // OR(-2, 2) is 1, so that IFF(2, 2) is 1, and the whole is
+    (&small(0, 20, 0), 3, &[&[1], &[1]]),
 ];
 
-fn compare_marked(&(sheet, variables, clauses): &Marked) -> Result<(), String> {
+fn compare_marked(sheet: &[u8], variables: u32, clauses: &[&[i32]]) -> Result<(), String> {
     let words: Vec<i32> = clauses.iter().flat_map(|clause| [&[clause.len() as i32], *clause].concat()).collect();
     let size = Size { variables, clauses: clauses.len() as u32, words: words.len() as u32 };
     let asked = || format!("marked, sheet {}", hex(sheet));
@@ -48,28 +43,32 @@ fn compare_marked(&(sheet, variables, clauses): &Marked) -> Result<(), String> {
     agree(list, [words, vec![FILLING]].concat(), asked)
 }
 
+/// The lists that were worked out by hand.
+fn by_hand() -> Result<(), String> {
+    MARKED.iter().try_for_each(|&(sheet, variables, clauses)| compare_marked(sheet, variables, clauses))?;
+    struck::cases().iter().try_for_each(|case| compare_marked(&case.sheet.bytes(), case.variables, case.clauses))
+}
+
 pub fn run(run: &Run) -> Outcome {
-    MARKED.iter().try_for_each(compare_marked)?;
+    by_hand()?;
     let mut tally = [("a list", 0), ("number 10", 0), ("number 13", 0), ("a refused sheet", 0)];
+    let mut met = MET.map(|what| (what, 0));
     let kinds = known();
     let mut words = 0;
     for case in run.cases(2_500) {
         let source = &mut Source::new(run.seed, "count", case);
-        let style = style(source);
-        let bytes = match source.below(60) {
-            _ if (case as usize) < kinds.len() => kinds[case as usize].bytes(),
-            0..=8 => any(source),
-            9 => gates_of(15_990 + source.below(20)).bytes(),
-            10..=12 => long_walk(source.between(1, 8) as u8, source.between(1, 150)).bytes(),
-            _ => sheet(source, style).bytes(),
+        let bytes = match kinds.get(case as usize) {
+            Some(sheet) => sheet.bytes(),
+            None => some_sheet(source),
         };
+        let list = read(&bytes).and_then(|sheet| translate(&sheet));
         let asked = || format!("case {case}, sheet {}", hex(&bytes));
-        let counted = count(&bytes);
-        agree(library::count(&bytes), counted, asked)?;
-        match counted {
-            Ok(size) => {
-                let size = size.words as usize;
+        agree(library::count(&bytes), list.as_ref().map(Clauses::size).map_err(|&number| number), asked)?;
+        match list {
+            Ok(list) => {
+                let size = list.size().words as usize;
                 words += size;
+                met.iter_mut().zip(list.met).for_each(|(what, times)| what.1 += usize::from(times > 0));
                 let lengths = [size, size - 1, size + 1 + source.below(9), source.below(size)];
                 lengths.iter().try_for_each(|&length| compare(&bytes, length, case, &mut tally))?;
             }
@@ -77,16 +76,32 @@ pub fn run(run: &Run) -> Outcome {
         }
     }
     covered(&tally, 20)?;
+    covered(&met, 30)?;
     let [(_, lists), (_, size), (_, short), (_, refused)] = tally;
     let writes = lists + size + short + refused;
+    let met: Vec<String> = met.iter().map(|(what, sheets)| format!("{what} in {sheets}")).collect();
     Ok(format!(
-        "{writes} writes and their counts agree: {lists} lists, {words} words, {size} number 10, {short} number 13"
+        "{writes} writes and their counts agree: {lists} lists, {words} words, {size} number 10, {short} number 13; {}",
+        met.join(", ")
     ))
 }
 
-/// Each kind at each scope, each pair of binders of one variable, and far more gates than fit.
+/// A random sheet, damaged at times; one near the limit of number 10; a long walk.
+fn some_sheet(source: &mut Source) -> Vec<u8> {
+    let style = style(source);
+    match source.below(60) {
+        0..=8 => any(source),
+        9..=10 => gates_of(15_990 + source.below(20)).bytes(),
+        11..=12 => long_walk(source.between(1, 8) as u8, source.between(1, 150)).bytes(),
+        _ => sheet(source, style).bytes(),
+    }
+}
+
+/// Each kind at each scope, each pair of binders of one variable, walks without gates, and far more gates than fit.
 fn known() -> Vec<Sheet> {
-    every_kind::accepted().into_iter().chain(shadows::sheets(3)).chain([closures(1), closures(190)]).collect()
+    let idle = idle_walks::sheets(2, 60).into_iter().map(|(_, sheet)| sheet);
+    let sheets = every_kind::accepted().into_iter().chain(shadows::sheets(3)).chain(idle);
+    sheets.chain([closures(1), closures(190)]).collect()
 }
 
 /// Writing into a slice of so many words, the whole slice compared.
