@@ -1,18 +1,23 @@
 -- OR of two literals where it is told without a list, and where it is a gate.
-use mathlib.Core.Path.{_≡_, sym, ap, _∙_}
+use mathlib.Core.Path.{_≡_, refl, sym, ap, _∙_}
 use mathlib.Core.Bool.{true, false, _||_, true≢false}
 use mathlib.Core.List.{List, [], _∷_}
 use mathlib.Core.Logic.{_⊎_, inl, inr, ⊎-elim}
 use Prim.Native.Nat.{ℕ}
+use lib.IntN.{ℤ}
 use Rattle.prelude.specs.Tests.{any}
 use Rattle.prelude.proofs.Laws.{decided, or-left, or-right}
-use Rattle.literal.specs.Literals.{Literal, positive, opposite, isSame}
+use Rattle.literal.specs.Literals.{Literal, positive, opposite, isSame, literalOf}
 use Rattle.literal.proofs.Same.{same-is, same-self, opposite-twice}
-use Rattle.clauses_rules.specs.Builder.{return}
+use Rattle.clauses_rules.specs.Builder.{Built, Builder, return, _<$>_}
 use Rattle.clauses_rules.specs.Gates.{gateOf, givesTrue, orOf, or}
-use Rattle.clauses_rules.specs.Translation.{absent}
+use Rattle.clauses_rules.specs.Translation.{Two, absent, either, both}
+use Rattle.clauses_emission.specs.declared.Tape.{Tape}
 use Rattle.clauses_emission.specs.declared.Seen.the-variants.{Nothing, Itself}
-use Rattle.clauses_emission.specs.Settling.{seenIn, settledBy, settled}
+use Rattle.clauses_emission.specs.Emission.{Inside, Bounded, EmitsTwo}
+use Rattle.clauses_emission.specs.Settling.{seenIn, settledBy, settled, Apart, Told}
+use Rattle.clauses_emission.proofs.Ranges.{inside-opposite}
+use Rattle.clauses_emission.proofs.Steps.{emits-return, emits-as}
 use Rattle.clauses_emission.proofs.Settled.{or-settled, gives-true}
 use Rattle.clauses_emission.proofs.Looks.{seen-itself, seen-past}
 
@@ -76,16 +81,7 @@ module _ (p q : Literal) (g : ℕ) where
       sym (first-only p q g n seen) ∙ or-settled (p ∷ q ∷ []) g)
       (told p (positive 1))
 
-  -- two that are no constants, not the same and no opposites
-  pub record Apart : Type 0 where
-    pub first-absent : p ≡ absent → ⊥
-    pub second-absent : q ≡ absent → ⊥
-    pub repeat : p ≡ q → ⊥
-    pub first-one : p ≡ positive 1 → ⊥
-    pub second-one : q ≡ positive 1 → ⊥
-    pub opposites : p ≡ opposite q → ⊥
-
-  pub or-gate : Apart → gateOf (p ∷ q ∷ []) g ≡ or (p ∷ q ∷ []) g
+  pub or-gate : Apart p q → gateOf (p ∷ q ∷ []) g ≡ or (p ∷ q ∷ []) g
   unfolding settledBy seenIn
   or-gate a = ap (λ (ks : List Literal). orOf ks g) (sym both-kept) ∙ or-settled (p ∷ q ∷ []) g
     where
@@ -96,3 +92,22 @@ module _ (p q : Literal) (g : ℕ) where
 
       both-kept : settled (p ∷ q ∷ []) ≡ p ∷ q ∷ []
       both-kept = rw (past p [] (a .first-absent) (a .first-one), second)
+
+-- ---- words that tell what a step over two gives
+pub emits-told : (step : Two → Builder Literal) {p q r : ℤ} → Told step p q r → (list : List ℤ) (tape : Tape) → Bounded tape
+    → Inside (tape .next) (literalOf p) → Inside (tape .next) (literalOf q) → EmitsTwo step p q list tape r list tape
+emits-told step {p} {q} {r} t list tape b i j =
+    emits-as (t .value (tape .next)) refl (emits-return (literalOf r) list tape b (t .inside (b .first) i j))
+
+-- AND by OR of the opposites
+pub told-turned : {p q r u v w : ℤ} → literalOf u ≡ opposite (literalOf p) → literalOf v ≡ opposite (literalOf q)
+    → literalOf w ≡ opposite (literalOf r) → Told either u v r → Told both p q w
+told-turned {p} {q} {r} {u} {v} {w} e f h t = record {
+  value = λ g.
+      let x : return (literalOf r) g ≡ or (opposite (literalOf p) ∷ opposite (literalOf q) ∷ []) g = rw (e, f) at (t .value g) in
+      rw h (ap (λ (y : Built Literal). (opposite <$> (λ k. y)) g) x);
+  inside = λ m i j.
+      rw h
+      (inside-opposite (literalOf r)
+      (t .inside m (rw e (inside-opposite (literalOf p) i)) (rw f (inside-opposite (literalOf q) j))));
+}

@@ -6,6 +6,7 @@ ghost use Rattle.clauses_rules.specs.Gates as spec;
 ghost use Rattle.clauses_rules.specs.Gates.{gateOf, inputClauses};
 ghost use Rattle.clauses_rules.specs.Translation as two;
 ghost use Rattle.clauses_emission.specs.Emission.{literalsOf, Inside, Inputs, Appends, Bounded, Within, EmitsList, EmitsTwo, pairing};
+ghost use Rattle.clauses_emission.specs.Settling.{Told, Tells};
 use super::LIMIT;
 use super::Made;
 use super::Pairing;
@@ -97,30 +98,52 @@ pub fn and(list: &mut [i32], tape: Tape, inputs: &mut [i32]) -> Made
     negate(made)
 }
 
-// OR(p, q): constants, a repeat and opposites are told without a list.
+// OR(p, q) where constants, a repeat or opposites tell it; where it is a gate, 0, which is no literal.
+fn told(p: i32, q: i32) -> i32
+    requires { ⌜ Inside 16002 (literalOf p) ⌝ }
+    requires { ⌜ Inside 16002 (literalOf q) ⌝ }
+    ensures { λ r. ⌜ Tells p q r ⌝ }
+{
+    if p == -1 {
+        return q;
+    }
+    if q == -1 {
+        return p;
+    }
+    if p == q {
+        return p;
+    }
+    if p == 1 {
+        return 1;
+    }
+    if q == 1 {
+        return 1;
+    }
+    if p == literal::opposite(q) {
+        return 1;
+    }
+    0
+}
+
+// The same of AND(p, q).
+pub fn told_both(p: i32, q: i32) -> i32
+    requires { ⌜ Inside 16002 (literalOf p) ⌝ }
+    requires { ⌜ Inside 16002 (literalOf q) ⌝ }
+    ensures { λ r. ⌜ ((r ≡ pos 0 → ⊥) → Told two.both p q r) ⌝ }
+{
+    literal::opposite(told(literal::opposite(p), literal::opposite(q)))
+}
+
+// OR(p, q): a gate is made only where nothing tells it.
 pub fn either(list: &mut [i32], tape: Tape, p: i32, q: i32) -> Made
     requires { ⌜ Bounded tape ⌝ }
     requires { ⌜ Inside (tape .next) (literalOf p) ⌝ }
     requires { ⌜ Inside (tape .next) (literalOf q) ⌝ }
     ensures { λ r. ⌜ EmitsTwo two.either p q (now (list .entry)) tape (r .literal) (now (list .exit)) (r .tape) ⌝ }
 {
-    if p == -1 {
-        return Made { literal: q, tape };
-    }
-    if q == -1 {
-        return Made { literal: p, tape };
-    }
-    if p == q {
-        return Made { literal: p, tape };
-    }
-    if p == 1 {
-        return Made { literal: 1, tape };
-    }
-    if q == 1 {
-        return Made { literal: 1, tape };
-    }
-    if p == literal::opposite(q) {
-        return Made { literal: 1, tape };
+    let l = told(p, q);
+    if l != 0 {
+        return Made { literal: l, tape };
     }
     let inputs = [p, q];
     gate(list, tape, &inputs)

@@ -13,6 +13,7 @@ use clauses_emission::gates::and;
 use clauses_emission::gates::both;
 use clauses_emission::gates::negate;
 use clauses_emission::gates::or;
+use clauses_emission::gates::told_both;
 
 // Equal (Same) and within (Implies): AND over the cells.
 pub fn all_matched(list: &mut [i32], tape: Tape, kind: Pairing, p: Literals, q: Literals) -> Made
@@ -60,6 +61,7 @@ pub fn none(list: &mut [i32], tape: Tape, p: Literals) -> Made
 }
 
 // At most one: AND over pairs, in order, of OR(-p, -q). It is made as the opposite of OR over pairs of AND(p, q): the same gates.
+// Of a pair that is told (not 0) no gate is made: list and tape stay.
 pub fn lone(list: &mut [i32], tape: Tape, p: Literals) -> Made
     requires { ⌜ Bounded tape ⌝ }
     requires { ⌜ Operand (tape .next) p ⌝ }
@@ -72,10 +74,13 @@ pub fn lone(list: &mut [i32], tape: Tape, p: Literals) -> Made
     let mut i: usize = 0;
     let mut j: usize = 1;
     while j < n {
-        let made = both(list, after, p.cells[i], p.cells[j]);
-        let l = made.literal;
+        let mut l = told_both(p.cells[i], p.cells[j]);
+        if l == 0 {
+            let made = both(list, after, p.cells[i], p.cells[j]);
+            l = made.literal;
+            after = made.tape;
+        }
         pairs[t] = l;
-        after = made.tape;
         t += 1;
         j += 1;
         if j == n {
