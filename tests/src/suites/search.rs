@@ -12,6 +12,9 @@ use reference::random_sheet::{gates_of, pigeonhole, sheet, style};
 use reference::search::{search, Answer, End};
 use reference::sheet::read;
 
+/// Up to so many variables every search ends soon.
+pub const FEW: u32 = 16;
+
 const ENDS: [&str; 5] = ["found", "none", "spent", "number 12", "number 13"];
 
 /// A case: a list, its variables, the lengths of values and trail, a budget.
@@ -105,8 +108,9 @@ pub fn some_list(source: &mut Source, number: u64) -> (Vec<i32>, u32) {
 fn some_case(source: &mut Source, number: u64) -> Case {
     let (mut list, mut v) = some_list(source, number);
     let mut budget = budget(source);
-    if list.len() > 400 {
-        budget = budget.min(400_000 / list.len() as u64);
+    // a list can be short and its search long
+    if list.len() > 400 || v > FEW {
+        budget = budget.min(400_000 / list.len().max(1) as u64);
     }
     if source.chance(1, 4) {
         damage(source, &mut list, &mut v);

@@ -1,5 +1,6 @@
 //! Read-back and the whole run over lent slices, each slice compared to its end.
 
+use super::search::FEW;
 use super::{agree, covered, hex};
 use crate::{Outcome, Run};
 use reference::clauses::count;
@@ -59,7 +60,8 @@ fn figures(bytes: &[u8]) -> (usize, usize, usize) {
 fn compare_find(source: &mut Source, bytes: &[u8], case: u64) -> Result<usize, String> {
     let (words, variables, cells) = figures(bytes);
     let mut budget = budget(source);
-    if words > 300 {
+    // a list can be short and its search long
+    if words > 300 || variables > FEW as usize {
         budget = budget.min(100_000 / words as u64);
     }
     let mut list = vec![0x5eed; length(source, words)];
