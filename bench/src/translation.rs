@@ -296,6 +296,25 @@ impl Translation<'_> {
         -self.or(&mut pairs[..count])
     }
 
+    /// A formula over expressions.
+    fn comparison(&mut self, node: Node, env: [usize; 4]) -> i32 {
+        let mut p = self.expression(node.a as usize, env);
+        let size = p.size();
+        match node.kind {
+            20 | 21 => {
+                let q = self.expression(node.b as usize, env);
+                let mut made = match node.kind {
+                    20 => self.matched(&p, &q, |walk, l, k| walk.same(l, k)),
+                    _ => self.matched(&p, &q, |walk, l, k| walk.either(-l, k)),
+                };
+                self.and(&mut made.cells[..size])
+            }
+            22 => self.or(&mut p.cells[..size]),
+            23 => -self.or(&mut p.cells[..size]),
+            _ => self.lone(&p),
+        }
+    }
+
     fn formula(&mut self, v: usize, env: [usize; 4]) -> i32 {
         if self.next > LIMIT {
             return -1;
@@ -303,23 +322,7 @@ impl Translation<'_> {
         let node = self.sheet.nodes[v];
         let (a, b) = (node.a as usize, node.b as usize);
         match node.kind {
-            20 | 21 => {
-                let (p, q) = (self.expression(a, env), self.expression(b, env));
-                let mut made = match node.kind {
-                    20 => self.matched(&p, &q, |walk, l, k| walk.same(l, k)),
-                    _ => self.matched(&p, &q, |walk, l, k| walk.either(-l, k)),
-                };
-                self.and(&mut made.cells[..p.size()])
-            }
-            22..=24 => {
-                let mut p = self.expression(a, env);
-                let size = p.size();
-                match node.kind {
-                    22 => self.or(&mut p.cells[..size]),
-                    23 => -self.or(&mut p.cells[..size]),
-                    _ => self.lone(&p),
-                }
-            }
+            20..=24 => self.comparison(node, env),
             30 => -self.formula(a, env),
             31..=34 => {
                 let (p, q) = (self.formula(a, env), self.formula(b, env));
