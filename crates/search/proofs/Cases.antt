@@ -1,4 +1,4 @@
--- Calls on K1 to K4 of document 01, and refusals, computed by the definitions: one theorem over all rows.
+-- Calls on K1 to K4 of document 01 with their counters, and refusals, computed by the definitions: one theorem over all rows.
 use mathlib.Core.Path.{_≡_, refl}
 use mathlib.Core.List.{List, [], _∷_, map}
 use Prim.Native.Nat.{ℕ}
@@ -8,7 +8,7 @@ use Rattle.clause_list.specs.ClauseList.{cut, wellCut, isList}
 use Rattle.clause_list.specs.Marked.{k1, k2}
 use Rattle.search_rules.specs.Rules.{truthOf, negated, literal, isFalsified, isSatisfied, conflict, openOf, sameLiteral, only, unitOf}
 use Rattle.search_rules.specs.Rules.{firstUnit, lowestOpen, wordOf, byteOf, placeOf, valuesOf, trailOf, turn, decide, next}
-use Rattle.search_rules.specs.Run.{total, count, run}
+use Rattle.search_rules.specs.Run.{tally, count, run}
 use Rattle.search.specs.Answers.{Answer, found, none, spent, refused, answerAt, valuesAt, trailAt, outcome}
 
 -- what is lent is one byte and one word longer than v asks for
@@ -32,7 +32,7 @@ rows =
       list = k1;
       v = 4;
       budget = 1000000;
-      answer = found 4;
+      answer = found (tally 3 1 0);
       values = 1 ∷ 0 ∷ 1 ∷ 1 ∷ 9 ∷ [];
       trail = pos 1 ∷ pos 4 ∷ negsuc 1 ∷ pos 3 ∷ pos 9 ∷ [];
     }
@@ -40,7 +40,7 @@ rows =
       list = k2 (pos 4);
       v = 4;
       budget = 1000000;
-      answer = found 4;
+      answer = found (tally 3 1 0);
       values = 1 ∷ 0 ∷ 1 ∷ 1 ∷ 9 ∷ [];
       trail = pos 1 ∷ pos 4 ∷ negsuc 1 ∷ pos 3 ∷ pos 9 ∷ [];
     }
@@ -48,7 +48,7 @@ rows =
       list = k2 (negsuc 3);
       v = 4;
       budget = 1000000;
-      answer = none 4;
+      answer = none (tally 4 0 0);
       values = 2 ∷ 2 ∷ 2 ∷ 2 ∷ 9 ∷ [];
       trail = pos 0 ∷ pos 0 ∷ pos 0 ∷ pos 0 ∷ pos 9 ∷ [];
     }
@@ -56,9 +56,18 @@ rows =
       list = k1;
       v = 4;
       budget = 3;
-      answer = spent 3;
+      answer = spent (tally 2 1 0);
       values = 1 ∷ 3 ∷ 2 ∷ 1 ∷ 9 ∷ [];
       trail = pos 1 ∷ pos 4 ∷ negsuc 1 ∷ pos 0 ∷ pos 9 ∷ [];
+    }
+    -- (1 2) (1 -2): two choices, a force and a turn
+    ∷ record {
+      list = pos 2 ∷ pos 1 ∷ pos 2 ∷ pos 2 ∷ pos 1 ∷ negsuc 1 ∷ [];
+      v = 2;
+      budget = 4;
+      answer = found (tally 1 2 1);
+      values = 1 ∷ 0 ∷ 7 ∷ 7 ∷ 9 ∷ [];
+      trail = pos 1 ∷ negsuc 1 ∷ pos 7 ∷ pos 7 ∷ pos 9 ∷ [];
     }
     -- 12: v of 0 and past 16,000, a count past the end, a literal 0 and one beyond v; 13: a slice of 5 where 6 are needed
     ∷ record { list = []; v = 0; budget = 1; answer = refused 12; values = lentValues; trail = lentTrail }
@@ -74,5 +83,5 @@ rows =
 pub cases : map (λ row. outcome (row .list) (row .v) lentValues lentTrail (row .budget)) rows
     ≡ map (λ row. record { answer = row .answer; values = row .values; trail = row .trail }) rows
 unfolding truthOf negated literal isFalsified isSatisfied conflict openOf sameLiteral only unitOf firstUnit lowestOpen wordOf byteOf placeOf
-    valuesOf trailOf turn decide next total count run answerAt valuesAt trailAt outcome all any cut wellCut isList
+    valuesOf trailOf turn decide next count run answerAt valuesAt trailAt outcome all any cut wellCut isList
 cases = refl

@@ -29,9 +29,9 @@ use denote.Triple.Spec.{tripleOf}
 use denote.Exit.{yes}
 use denote.Struct.Laws as structs
 use denote.Enum.Laws as enums
-use Rattle.search.specs.declared.answer.Position.{Position}
-use Rattle.search.proofs.answer.Position as T
-use Rattle.search.proofs.answer.Position.Laws as T′
+use Rattle.search_rules.specs.declared.Position.{Position}
+use Rattle.search_rules.proofs.Position as T
+use Rattle.search_rules.proofs.Position.Laws as T′
 use Rattle.search.proofs.answer.Search as X
 use Rattle.search.proofs.answer.Search.Laws as X′
 use Rattle.search.proofs.answer.Resumed as R

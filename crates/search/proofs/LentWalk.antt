@@ -42,9 +42,9 @@ use denote.Triple.Spec.{Meets}
 use denote.Triple.Walked.{Stays, stay-ref, stay-none, stay-none-slice, gave-slice, walkOf, Walks, ends-at, walked, walk-meets}
 use denote.Triple.Walked.{goes-none, goes-none-slice, goes-gave-slice, goes-ref}
 use denote.Exit.{yes}
-use Rattle.search.specs.declared.answer.Position.{Position}
-use Rattle.search.proofs.answer.Position as T
-use Rattle.search.proofs.answer.Position.Laws as T′
+use Rattle.search_rules.specs.declared.Position.{Position}
+use Rattle.search_rules.proofs.Position as T
+use Rattle.search_rules.proofs.Position.Laws as T′
 use Rattle.search.proofs.Lent.{Answers, Ensures, result-mir, code, core-signature, signature, core-ended, ended, core-clauses, clauses, Core}
 
 -- what is had of the parameters at exit: the core has spent values and trail, and position is owned at its last value

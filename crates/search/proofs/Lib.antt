@@ -6,6 +6,7 @@ pub mod Resumptions
 pub mod ResumedCalls
 pub mod Resuming
 pub mod ResumedTheorems
+pub mod Counters
 pub mod MoreSteps
 pub mod OpenSlices
 mod Settled

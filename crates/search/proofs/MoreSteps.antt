@@ -9,18 +9,19 @@ use lib.IntN.{ℤ}
 use lib.ListN.{length, take}
 use borrow.Author.Tests.{leb-true, leb-false}
 use Rattle.clause_list.specs.ClauseList.{clausesOf, isList}
-use Rattle.search_rules.specs.Run.{zeros, End, wasNone, wasFound, wasSpent}
-use Rattle.search_rules.specs.Held.{noState, stepLimit}
+use Rattle.search_rules.specs.declared.Steps.{Steps}
+use Rattle.search_rules.specs.declared.Position.{Position}
+use Rattle.search_rules.specs.Run.{zeros, total, End, wasNone, wasFound, wasSpent}
+use Rattle.search_rules.specs.Held.{stepsOf, noState, stepLimit}
 use Rattle.search_rules.proofs.Theorems.{again, resume}
-use Rattle.search.specs.declared.answer.Position.{Position}
 use Rattle.search.specs.Answers.{Answer, spent, answerAt, Outcome, finish, searchRun, outcome}
-use Rattle.search.specs.Resumed.{Resumption, addSteps, finishAfter, startOf, resumedRun, resumption}
+use Rattle.search.specs.Resumed.{Resumption, finishAt, startOf, resumedRun, resumption}
 use Rattle.search.proofs.Outcomes as search
 use Rattle.search.proofs.Resumptions.{no-list, short-values, short-trail, no-state, runs}
 
 -- an answer is not "spent"
 abbrev pub Unspent : Answer → Type 0
-Unspent a = (steps : ℕ) → a ≡ spent steps → ⊥
+Unspent a = (steps : Steps) → a ≡ spent steps → ⊥
 
 -- an end that is not "spent" is the end
 stays : (list : List ℤ) (v n : ℕ) (end : End) → Unspent (answerAt end) → again (clausesOf list) v n end ≡ end
@@ -29,32 +30,28 @@ stays list v n (wasNone t) h = refl
 stays list v n (wasFound t s) h = refl
 stays list v n (wasSpent t s) h = absurd (h _ refl)
 
--- the steps done before do not make it so
-still-unspent : (done : ℕ) (a : Answer) → Unspent (addSteps done a) → Unspent a
-still-unspent done a h steps e = h (done + steps) (ap (addSteps done) e)
-
 -- a resumed call
-module _ (list : List ℤ) (v : ℕ) (values : List ℕ) (trail : List ℤ) (p : Position) (m n : ℕ) (few : p .steps + (m + n) ≤ stepLimit)
+module _ (list : List ℤ) (v : ℕ) (values : List ℕ) (trail : List ℤ) (p : Position) (m n : ℕ) (few : total (stepsOf p) + (m + n) ≤ stepLimit)
     (unspent : Unspent (resumption list v values trail p m .outcome .answer)) where
   abbrev call : ℕ → Resumption
   call = resumption list v values trail p
 
   abbrev ending : ℕ → End
-  ending = resumedRun list v (startOf v values trail p)
+  ending = resumedRun list v (stepsOf p) (startOf v values trail p)
 
   -- where no call is refused
   module _ (is : isList v list ≡ true) (wide : v ≤ length values) (deep : v ≤ length trail)
       (holds : noState v (take v values) (take v trail) (p .length) ≡ false) where
-    ends : call m ≡ finishAfter (p .steps) v values trail (ending m)
+    ends : call m ≡ finishAt v values trail (ending m)
     ends = runs list v values trail p m is wide deep holds (omega arith)
 
     ends-alike : ending (m + n) ≡ ending m
     ends-alike =
-        resume (clausesOf list) v m n zeros (startOf v values trail p)
-        ∙ stays list v n (ending m) (still-unspent (p .steps) _ λ steps e. unspent steps (ap (λ r. r .outcome .answer) ends ∙ e))
+        resume (clausesOf list) v m n (stepsOf p) (startOf v values trail p)
+        ∙ stays list v n (ending m) (λ steps e. unspent steps (ap (λ r. r .outcome .answer) ends ∙ e))
 
     runs-alike : call (m + n) ≡ call m
-    runs-alike = runs list v values trail p (m + n) is wide deep holds few ∙ ap (finishAfter (p .steps) v values trail) ends-alike ∙ sym ends
+    runs-alike = runs list v values trail p (m + n) is wide deep holds few ∙ ap (finishAt v values trail) ends-alike ∙ sym ends
 
   by-tests : (a b c d : Bool) → isList v list ≡ a → leb v (length values) ≡ b → leb v (length trail) ≡ c
       → noState v (take v values) (take v trail) (p .length) ≡ d → call (m + n) ≡ call m

@@ -8,6 +8,7 @@ use lib.IntN.{ℤ}
 use lib.ListN.{length, take, drop, length-append}
 use lib.Seq.{take-at, drop-at}
 use Rattle.clause_list.specs.ClauseList.{clausesOf, isList}
+use Rattle.search_rules.specs.declared.Steps.{Steps}
 use Rattle.search_rules.specs.Rules.{valuesOf, trailOf, Next, endNone, endFound, step, next}
 use Rattle.search_rules.specs.Run.{zeros, End, wasNone, wasFound, wasSpent, run}
 use Rattle.search_rules.specs.Held.{stepLimit}
@@ -20,7 +21,7 @@ use Rattle.search.proofs.Outcomes.{runs}
 use Rattle.search.proofs.Resuming.{fresh-start}
 
 module _ (list : List ℤ) (v : ℕ) (values : List ℕ) (trail : List ℤ) (is : isList v list ≡ true) (wide : v ≤ length values) (deep : v ≤ length trail)
-    (steps : ℕ) (spends : outcome list v values trail 0 .answer ≡ spent steps) where
+    (steps : Steps) (spends : outcome list v values trail 0 .answer ≡ spent steps) where
   abbrev first : Outcome
   first = outcome list v values trail 0
 

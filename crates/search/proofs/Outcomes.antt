@@ -4,7 +4,6 @@ use mathlib.Core.Bool.{Bool, true, false, cond, _&&_}
 use mathlib.Core.List.{List, _++_, map}
 use Prim.Native.Nat.{ℕ, _+_, _<_, _≤_}
 use native.Mathlib.Omega.{arith}
-use native.Mathlib.Nat.{zero-add}
 use lib.Dec.{leb}
 use lib.IntN.{ℤ}
 use lib.ListN.{length, take, drop, length-map}
@@ -13,18 +12,20 @@ use borrow.Author.Tests.{le-leb, lt-leb}
 use Rattle.prelude.proofs.Laws.{and-both, and-not-left, and-not-right}
 use Rattle.clause_list.specs.ClauseList.{isList}
 use Rattle.search_rules.specs.Rules.{State, valuesOf, settle}
-use Rattle.search_rules.specs.Run.{Tally, total, End, wasNone, wasFound, wasSpent, run}
+use Rattle.search_rules.specs.declared.Steps.{Steps}
+use Rattle.search_rules.specs.Run.{total, End, wasNone, wasFound, wasSpent, run}
+use Rattle.search_rules.specs.Held.{stepsOf, positionOf}
+use Rattle.search_rules.specs.Counting.{stepsAt}
 use Rattle.search_rules.proofs.Invariant.{length-values}
 use Rattle.search_rules.proofs.StepView.{Ends, run-ends}
 use Rattle.search_core.specs.declared.run.End.the-variants as core
 use Rattle.search_core.specs.declared.run.Ran.{Ran}
-use Rattle.search_core.specs.Inner.{tallyOf, tallyAt, Ended}
+use Rattle.search_core.specs.Inner.{stateAt, Ended}
 use Rattle.search.specs.Answers.{Answer, found, none, spent, refused, answerAt, valuesAt, trailAt, Outcome, refuse, finish}
 use Rattle.search.specs.Answers.{searchRun, outcome}
 use Rattle.search.specs.declared.answer.Search.{Search}
 use Rattle.search.specs.declared.answer.Search.the-variants.{None, Found, Spent}
 use Rattle.search.specs.declared.answer.Resumed.{Resumed}
-use Rattle.search.specs.Resumed.{addSteps}
 use Rattle.search.specs.Inner.{Finished}
 
 module _ (list : List ℤ) (v : ℕ) (values : List ℕ) (trail : List ℤ) (budget : ℕ) where
@@ -64,100 +65,92 @@ pub finishes : (v : ℕ) (end : End) (values vs : List ℕ) (trail ts : List ℤ
 finishes v end values vs trail ts a o e p q r = rw (e, p, q, r) (refl, (refl, refl))
 
 -- a run counts at most its budget
-within : (clauses : List (List ℤ)) (v b : ℕ) (end : End) → Ends (λ t state. Unit {0}) clauses v b end → total (tallyAt end) ≤ b
+within : (clauses : List (List ℤ)) (v b : ℕ) (end : End) → Ends (λ t state. Unit {0}) clauses v b end → total (stepsAt end) ≤ b
 unfolding Ends
 within clauses v b (wasNone t) h = h .3
 within clauses v b (wasFound t s) h = h .2
 within clauses v b (wasSpent t s) h = let e = h .2 in omega arith
 
-pub figure-within : (clauses : List (List ℤ)) (v n : ℕ) (t : Tally) (state : State) → total (tallyAt (run clauses v n t state)) ≤ total t + n
+pub figure-within : (clauses : List (List ℤ)) (v n : ℕ) (t : Steps) (state : State) → total (stepsAt (run clauses v n t state)) ≤ total t + n
 figure-within clauses v n t state =
     within clauses v (total t + n) (run clauses v n t state)
     (run-ends clauses v (λ t state. Unit {0}) (λ t state kind s p e. tt) n t state (run clauses v n t state) tt refl)
 
--- the end of a run, as `go_on` ensures it, after so many steps
-abbrev figure : ℕ → Ran → ℕ
-figure done r = done + total (tallyOf (r .progress))
+-- the end of a run, as `go_on` ensures it
+abbrev finished : Ran → (Steps → Search) → Resumed
+finished r answer = record { answer = answer (stepsOf (r .position)); position = r .position }
 
-abbrev finished : ℕ → Ran → Search → Resumed
-finished done r answer = record { answer = answer; position = record { length = r .progress .used; steps = figure done r } }
+at-end : (v : ℕ) (end : End) (r : Ran) (values : List ℕ) (trail : List ℤ) → Ended v end r values trail
+    → r .position ≡ positionOf (length (stateAt end)) (stepsAt end)
+at-end v end r values trail h = λ i. positionOf (h .stored .used-is i) (h .steps-are i)
 
-pub finish-none : (v done : ℕ) (end : End) (r : Ran) (values : List ℕ) (trail : List ℤ) → Ended v end r values trail → r .end ≡ core.None
-    → Finished v done end (finished done r (None (figure done r))) values trail
+pub finish-none : (v : ℕ) (end : End) (r : Ran) (values : List ℕ) (trail : List ℤ) → Ended v end r values trail → r .end ≡ core.None
+    → Finished v end (finished r None) values trail
 unfolding answerAt valuesAt trailAt
-finish-none v done (wasNone t) r values trail h e = record {
-  answer-is = ap (λ u. none (done + total u)) (h .tally-is);
+finish-none v (wasNone t) r values trail h e = record {
+  answer-is = ap none (h .steps-are);
   values-are = h .stored .values-are;
   trail-is = h .stored .trail-is;
-  position-is = rw (h .tally-is, h .stored .used-is) refl;
+  position-is = at-end v (wasNone t) r values trail h;
 }
-finish-none v done (wasFound t s) r values trail h e =
+finish-none v (wasFound t s) r values trail h e =
     absurd (let d : r .end ≡ core.Found = h .end-is in let z : _≡_ {A = ℕ} 0 1 = cc in omega arith)
-finish-none v done (wasSpent t s) r values trail h e =
+finish-none v (wasSpent t s) r values trail h e =
     absurd (let d : r .end ≡ core.Spent = h .end-is in let z : _≡_ {A = ℕ} 0 1 = cc in omega arith)
 
-pub finish-found : (v done : ℕ) (end : End) (r : Ran) (values : List ℕ) (trail : List ℤ) → Ended v end r values trail → r .end ≡ core.Found
-    → Finished v done end (finished done r (Found (figure done r))) (map settle values) trail
+pub finish-found : (v : ℕ) (end : End) (r : Ran) (values : List ℕ) (trail : List ℤ) → Ended v end r values trail → r .end ≡ core.Found
+    → Finished v end (finished r Found) (map settle values) trail
 unfolding answerAt valuesAt trailAt
-finish-found v done (wasNone t) r values trail h e =
+finish-found v (wasNone t) r values trail h e =
     absurd (let d : r .end ≡ core.None = h .end-is in let z : _≡_ {A = ℕ} 0 1 = cc in omega arith)
-finish-found v done (wasFound t s) r values trail h e = record {
-  answer-is = ap (λ u. found (done + total u)) (h .tally-is);
+finish-found v (wasFound t s) r values trail h e = record {
+  answer-is = ap found (h .steps-are);
   values-are = ap (map settle) (h .stored .values-are);
   trail-is = h .stored .trail-is;
-  position-is = rw (h .tally-is, h .stored .used-is) refl;
+  position-is = at-end v (wasFound t s) r values trail h;
 }
-finish-found v done (wasSpent t s) r values trail h e =
+finish-found v (wasSpent t s) r values trail h e =
     absurd (let d : r .end ≡ core.Spent = h .end-is in let z : _≡_ {A = ℕ} 0 1 = cc in omega arith)
 
-pub finish-spent : (v done : ℕ) (end : End) (r : Ran) (values : List ℕ) (trail : List ℤ) → Ended v end r values trail → r .end ≡ core.Spent
-    → Finished v done end (finished done r (Spent (figure done r))) values trail
+pub finish-spent : (v : ℕ) (end : End) (r : Ran) (values : List ℕ) (trail : List ℤ) → Ended v end r values trail → r .end ≡ core.Spent
+    → Finished v end (finished r Spent) values trail
 unfolding answerAt valuesAt trailAt
-finish-spent v done (wasNone t) r values trail h e =
+finish-spent v (wasNone t) r values trail h e =
     absurd (let d : r .end ≡ core.None = h .end-is in let z : _≡_ {A = ℕ} 0 1 = cc in omega arith)
-finish-spent v done (wasFound t s) r values trail h e =
+finish-spent v (wasFound t s) r values trail h e =
     absurd (let d : r .end ≡ core.Found = h .end-is in let z : _≡_ {A = ℕ} 0 1 = cc in omega arith)
-finish-spent v done (wasSpent t s) r values trail h e = record {
-  answer-is = ap (λ u. spent (done + total u)) (h .tally-is);
+finish-spent v (wasSpent t s) r values trail h e = record {
+  answer-is = ap spent (h .steps-are);
   values-are = h .stored .values-are;
   trail-is = h .stored .trail-is;
-  position-is = rw (h .tally-is, h .stored .used-is) refl;
+  position-is = at-end v (wasSpent t s) r values trail h;
 }
 
--- no steps before
-pub adds-zero : (end : End) → addSteps 0 (answerAt end) ≡ answerAt end
+-- the end of a run, told by its answer
+pub was-none : (end : End) (t : Steps) → answerAt end ≡ none t → end ≡ wasNone t
 unfolding answerAt
-adds-zero (wasNone t) = ap none (zero-add (total t))
-adds-zero (wasFound t state) = ap found (zero-add (total t))
-adds-zero (wasSpent t state) = ap spent (zero-add (total t))
+was-none (wasNone t) u e = let d : t ≡ u = cc in ap wasNone d
+was-none (wasFound t s) u e = absurd (let z : _≡_ {A = ℕ} 0 1 = cc in omega arith)
+was-none (wasSpent t s) u e = absurd (let z : _≡_ {A = ℕ} 0 1 = cc in omega arith)
 
--- the end of a run, told by the answer after so many steps
-module _ (done : ℕ) where
-  pub was-none : (end : End) (steps : ℕ) → addSteps done (answerAt end) ≡ none steps → (t : Tally) × (end ≡ wasNone t)
-  unfolding answerAt
-  was-none (wasNone t) steps e = (t, refl)
-  was-none (wasFound t s) steps e = absurd (let z : _≡_ {A = ℕ} 0 1 = cc in omega arith)
-  was-none (wasSpent t s) steps e = absurd (let z : _≡_ {A = ℕ} 0 1 = cc in omega arith)
+pub was-found : (end : End) (t : Steps) → answerAt end ≡ found t → (s : State) × (end ≡ wasFound t s)
+unfolding answerAt
+was-found (wasNone t) u e = absurd (let z : _≡_ {A = ℕ} 0 1 = cc in omega arith)
+was-found (wasFound t s) u e = let d : t ≡ u = cc in (s, ap (λ x. wasFound x s) d)
+was-found (wasSpent t s) u e = absurd (let z : _≡_ {A = ℕ} 0 1 = cc in omega arith)
 
-  pub was-found : (end : End) (steps : ℕ) → addSteps done (answerAt end) ≡ found steps → (t : Tally) × (s : State) × (end ≡ wasFound t s)
-  unfolding answerAt
-  was-found (wasNone t) steps e = absurd (let z : _≡_ {A = ℕ} 0 1 = cc in omega arith)
-  was-found (wasFound t s) steps e = (t, s, refl)
-  was-found (wasSpent t s) steps e = absurd (let z : _≡_ {A = ℕ} 0 1 = cc in omega arith)
+pub was-spent : (end : End) (t : Steps) → answerAt end ≡ spent t → (s : State) × (end ≡ wasSpent t s)
+unfolding answerAt
+was-spent (wasNone t) u e = absurd (let z : _≡_ {A = ℕ} 0 1 = cc in omega arith)
+was-spent (wasFound t s) u e = absurd (let z : _≡_ {A = ℕ} 0 1 = cc in omega arith)
+was-spent (wasSpent t s) u e = let d : t ≡ u = cc in (s, ap (λ x. wasSpent x s) d)
 
-  pub was-spent : (end : End) (steps : ℕ) → addSteps done (answerAt end) ≡ spent steps
-      → (t : Tally) × (s : State) × (end ≡ wasSpent t s) × (done + total t ≡ steps)
-  unfolding answerAt
-  was-spent (wasNone t) steps e = absurd (let z : _≡_ {A = ℕ} 0 1 = cc in omega arith)
-  was-spent (wasFound t s) steps e = absurd (let z : _≡_ {A = ℕ} 0 1 = cc in omega arith)
-  was-spent (wasSpent t s) steps e = (t, s, refl, cc)
-
-  -- it is no refusal
-  pub was-taken : (end : End) (number : ℕ) → addSteps done (answerAt end) ≡ refused number → ⊥
-  unfolding answerAt
-  was-taken (wasNone t) number e = let z : _≡_ {A = ℕ} 0 1 = cc in omega arith
-  was-taken (wasFound t s) number e = let z : _≡_ {A = ℕ} 0 1 = cc in omega arith
-  was-taken (wasSpent t s) number e = let z : _≡_ {A = ℕ} 0 1 = cc in omega arith
+-- it is no refusal
+pub was-taken : (end : End) (number : ℕ) → answerAt end ≡ refused number → ⊥
+unfolding answerAt
+was-taken (wasNone t) number e = let z : _≡_ {A = ℕ} 0 1 = cc in omega arith
+was-taken (wasFound t s) number e = let z : _≡_ {A = ℕ} 0 1 = cc in omega arith
+was-taken (wasSpent t s) number e = let z : _≡_ {A = ℕ} 0 1 = cc in omega arith
 
 -- what "found" leaves in the first v values
 pub found-values : (v : ℕ) (state : State) (values : List ℕ)

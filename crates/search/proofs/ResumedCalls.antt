@@ -11,10 +11,11 @@ use lib.Seq.{length-take-le}
 use borrow.Author.Tests.{leb-true, leb-false, ltb-true, ltb-false}
 use Rattle.clause_list.specs.ClauseList.{isList}
 use Rattle.search_rules.specs.Rules.{State}
-use Rattle.search_rules.specs.Held.{noState, stepLimit, tooMany, Stored}
+use Rattle.search_rules.specs.Run.{total}
+use Rattle.search_rules.specs.Held.{stepsOf, noState, stepLimit, tooMany, Stored}
 use Rattle.search_rules.proofs.StateHeld.{holds-state}
-use Rattle.search.specs.declared.answer.Position.{Position}
-use Rattle.search.specs.Resumed.{decline, finishAfter, startOf, resumedRun, resumption}
+use Rattle.search_rules.specs.declared.Position.{Position}
+use Rattle.search.specs.Resumed.{decline, finishAt, startOf, resumedRun, resumption}
 use Rattle.search.proofs.Resumptions.{no-list, short-values, short-trail, no-state, too-many, runs}
 
 module _ (list : List ℤ) (v : ℕ) (values : List ℕ) (trail : List ℤ) (p : Position) (budget : ℕ) where
@@ -26,8 +27,8 @@ module _ (list : List ℤ) (v : ℕ) (values : List ℕ) (trail : List ℤ) (p :
     pub wide : v ≤ length values
     pub deep : v ≤ length trail
     pub holds : noState v (take v values) (take v trail) (p .length) ≡ false
-    pub few : p .steps + budget ≤ stepLimit
-    pub ends : resumption list v values trail p budget ≡ finishAfter (p .steps) v values trail (resumedRun list v begin budget)
+    pub few : total (stepsOf p) + budget ≤ stepLimit
+    pub ends : resumption list v values trail p budget ≡ finishAt v values trail (resumedRun list v (stepsOf p) begin budget)
 
   abbrev Called : Type 0
   Called = ((n : ℕ) × (resumption list v values trail p budget ≡ decline n values trail p)) ⊎ Runs
@@ -35,10 +36,10 @@ module _ (list : List ℤ) (v : ℕ) (values : List ℕ) (trail : List ℤ) (p :
   pub called : Called
   called =
       by (isList v list) (leb v (length values)) (leb v (length trail)) (noState v (take v values) (take v trail) (p .length))
-      (tooMany (p .steps) budget) refl refl refl refl refl
+      (tooMany (stepsOf p) budget) refl refl refl refl refl
     where
       by : (a b c d e : Bool) → isList v list ≡ a → leb v (length values) ≡ b → leb v (length trail) ≡ c
-          → noState v (take v values) (take v trail) (p .length) ≡ d → tooMany (p .steps) budget ≡ e → Called
+          → noState v (take v values) (take v trail) (p .length) ≡ d → tooMany (stepsOf p) budget ≡ e → Called
       by false b c d e f g h i j = inl (12, no-list list v values trail p budget f)
       by true false c d e f g h i j = inl (13, short-values list v values trail p budget f (leb-false _ _ g))
       by true true false d e f g h i j = inl (13, short-trail list v values trail p budget f (leb-false _ _ h))

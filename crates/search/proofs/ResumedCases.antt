@@ -1,4 +1,4 @@
--- Resumed calls on K1, K3 and one more list, computed by the definition: ends, totals, records and the order of the refusals.
+-- Resumed calls on K1, K3 and two more lists, computed by the definition: ends, counters, records and the order of the refusals.
 use mathlib.Core.Path.{_≡_, refl}
 use mathlib.Core.List.{List, [], _∷_, map}
 use Prim.Native.Nat.{ℕ}
@@ -6,11 +6,11 @@ use lib.IntN.{ℤ, pos, negsuc}
 use Rattle.prelude.specs.Tests.{each, all, any}
 use Rattle.clause_list.specs.ClauseList.{cut, wellCut, isList}
 use Rattle.clause_list.specs.Marked.{k1, k2}
+use Rattle.search_rules.specs.declared.Steps.{Steps}
 use Rattle.search_rules.specs.Rules.{truthOf, negated, literal, isFalsified, isSatisfied, conflict, openOf, sameLiteral, only, unitOf}
 use Rattle.search_rules.specs.Rules.{firstUnit, lowestOpen, wordOf, byteOf, placeOf, valuesOf, trailOf, turn, decide, next}
-use Rattle.search_rules.specs.Run.{total, count, run}
-use Rattle.search_rules.specs.Held.{repeats, goesWith, noState, entryOf, stateIn}
-use Rattle.search.specs.declared.answer.Position.{Position}
+use Rattle.search_rules.specs.Run.{tally, zeros, total, count, run}
+use Rattle.search_rules.specs.Held.{positionOf, repeats, goesWith, noState, entryOf, stateIn}
 use Rattle.search.specs.Answers.{Answer, found, none, spent, refused, answerAt, valuesAt, trailAt}
 use Rattle.search.specs.Resumed.{left, resumption}
 
@@ -19,7 +19,7 @@ record Held : Type 0 where
   values : List ℕ
   trail : List ℤ
   length : ℕ
-  steps : ℕ
+  steps : Steps
 
 record Row : Type 0 where
   list : List ℤ
@@ -29,80 +29,113 @@ record Row : Type 0 where
   answer : Answer
   after : Held
 
-abbrev held : List ℕ → List ℤ → ℕ → ℕ → Held
+abbrev held : List ℕ → List ℤ → ℕ → Steps → Held
 held values trail length steps = record { values = values; trail = trail; length = length; steps = steps }
 
 -- what is lent is one byte and one word longer than K1 and K3 ask for: all open, with so many steps done
-abbrev fresh : ℕ → Held
+abbrev fresh : Steps → Held
 fresh steps = held (2 ∷ 2 ∷ 2 ∷ 2 ∷ 9 ∷ []) (pos 0 ∷ pos 0 ∷ pos 0 ∷ pos 0 ∷ pos 9 ∷ []) 0 steps
 
 -- K1 after two steps, after three and at its end
 abbrev two : Held
-two = held (1 ∷ 2 ∷ 2 ∷ 1 ∷ 9 ∷ []) (pos 1 ∷ pos 4 ∷ pos 0 ∷ pos 0 ∷ pos 9 ∷ []) 2 2
+two = held (1 ∷ 2 ∷ 2 ∷ 1 ∷ 9 ∷ []) (pos 1 ∷ pos 4 ∷ pos 0 ∷ pos 0 ∷ pos 9 ∷ []) 2 (tally 2 0 0)
 
-abbrev three : ℕ → Held
+abbrev three : Steps → Held
 three steps = held (1 ∷ 3 ∷ 2 ∷ 1 ∷ 9 ∷ []) (pos 1 ∷ pos 4 ∷ negsuc 1 ∷ pos 0 ∷ pos 9 ∷ []) 3 steps
 
-abbrev end : ℕ → Held
+abbrev end : Steps → Held
 end steps = held (1 ∷ 0 ∷ 1 ∷ 1 ∷ 9 ∷ []) (pos 1 ∷ pos 4 ∷ negsuc 1 ∷ pos 3 ∷ pos 9 ∷ []) 4 steps
 
 -- K3 after three steps
 abbrev third : Held
-third = held (1 ∷ 0 ∷ 2 ∷ 0 ∷ 9 ∷ []) (pos 1 ∷ negsuc 3 ∷ negsuc 1 ∷ pos 0 ∷ pos 9 ∷ []) 3 3
+third = held (1 ∷ 0 ∷ 2 ∷ 0 ∷ 9 ∷ []) (pos 1 ∷ negsuc 3 ∷ negsuc 1 ∷ pos 0 ∷ pos 9 ∷ []) 3 (tally 3 0 0)
 
 -- no state: the length passes v
 abbrev long : Held
-long = held (1 ∷ 0 ∷ 1 ∷ 1 ∷ 9 ∷ []) (pos 1 ∷ pos 4 ∷ negsuc 1 ∷ pos 3 ∷ pos 9 ∷ []) 5 4
+long = held (1 ∷ 0 ∷ 1 ∷ 1 ∷ 9 ∷ []) (pos 1 ∷ pos 4 ∷ negsuc 1 ∷ pos 3 ∷ pos 9 ∷ []) 5 (tally 3 1 0)
+
+-- (1 2) (1 -2), after the choice -1 and the force 2, which clash, after the turn, and at its end
+abbrev all-kinds : List ℤ
+all-kinds = pos 2 ∷ pos 1 ∷ pos 2 ∷ pos 2 ∷ pos 1 ∷ negsuc 1 ∷ []
+
+abbrev clashing : Steps → Held
+clashing steps = held (3 ∷ 1 ∷ []) (negsuc 0 ∷ pos 2 ∷ []) 2 steps
+
+abbrev turned : Steps → Held
+turned steps = held (1 ∷ 2 ∷ []) (pos 1 ∷ pos 0 ∷ []) 1 steps
+
+abbrev settled : Steps → Held
+settled steps = held (1 ∷ 0 ∷ []) (pos 1 ∷ negsuc 1 ∷ []) 2 steps
 
 abbrev rows : List Row
 rows =
     -- K1 in one call, and in calls of 2 steps, 1 step, no step and many; at its end no step is left
-    record { list = k1; v = 4; lent = fresh 0; budget = 1000000; answer = found 4; after = end 4 }
-    ∷ record { list = k1; v = 4; lent = fresh 0; budget = 2; answer = spent 2; after = two }
-    ∷ record { list = k1; v = 4; lent = two; budget = 1; answer = spent 3; after = three 3 }
-    ∷ record { list = k1; v = 4; lent = three 3; budget = 0; answer = spent 3; after = three 3 }
-    ∷ record { list = k1; v = 4; lent = three 3; budget = 1000000; answer = found 4; after = end 4 }
-    ∷ record { list = k1; v = 4; lent = end 4; budget = 1000000; answer = found 4; after = end 4 }
-    -- K3: none has length 0 and the total; taken up again there, the search starts anew and goes on counting
-    ∷ record { list = k2 (negsuc 3); v = 4; lent = fresh 0; budget = 3; answer = spent 3; after = third }
-    ∷ record { list = k2 (negsuc 3); v = 4; lent = third; budget = 1; answer = none 4; after = fresh 4 }
-    ∷ record { list = k2 (negsuc 3); v = 4; lent = fresh 4; budget = 4; answer = none 8; after = fresh 8 }
+    record { list = k1; v = 4; lent = fresh zeros; budget = 1000000; answer = found (tally 3 1 0); after = end (tally 3 1 0) }
+    ∷ record { list = k1; v = 4; lent = fresh zeros; budget = 2; answer = spent (tally 2 0 0); after = two }
+    ∷ record { list = k1; v = 4; lent = two; budget = 1; answer = spent (tally 2 1 0); after = three (tally 2 1 0) }
+    ∷ record { list = k1; v = 4; lent = three (tally 2 1 0); budget = 0; answer = spent (tally 2 1 0); after = three (tally 2 1 0) }
+    ∷ record { list = k1; v = 4; lent = three (tally 2 1 0); budget = 1000000; answer = found (tally 3 1 0); after = end (tally 3 1 0) }
+    ∷ record { list = k1; v = 4; lent = end (tally 3 1 0); budget = 1000000; answer = found (tally 3 1 0); after = end (tally 3 1 0) }
+    -- K3: none has length 0 and the totals; taken up again there, the search starts anew and goes on counting
+    ∷ record { list = k2 (negsuc 3); v = 4; lent = fresh zeros; budget = 3; answer = spent (tally 3 0 0); after = third }
+    ∷ record { list = k2 (negsuc 3); v = 4; lent = third; budget = 1; answer = none (tally 4 0 0); after = fresh (tally 4 0 0) }
+    ∷ record { list = k2 (negsuc 3); v = 4; lent = fresh (tally 4 0 0); budget = 4; answer = none (tally 8 0 0); after = fresh (tally 8 0 0) }
+    -- each counter goes on from the one handed in: a force; a turn; a choice after it
+    ∷ record { list = k1; v = 4; lent = three (tally 7 5 3); budget = 1; answer = found (tally 8 5 3); after = end (tally 8 5 3) }
+    ∷ record { list = all-kinds; v = 2; lent = clashing (tally 7 5 3); budget = 1; answer = spent (tally 7 5 4); after = turned (tally 7 5 4) }
+    ∷ record { list = all-kinds; v = 2; lent = turned (tally 7 5 4); budget = 1; answer = found (tally 7 6 4); after = settled (tally 7 6 4) }
     -- a state that no run from a fresh start leaves: "none", though (1 2) has an assignment
     ∷ record {
       list = pos 2 ∷ pos 1 ∷ pos 2 ∷ [];
       v = 2;
-      lent = held (0 ∷ 0 ∷ []) (negsuc 0 ∷ negsuc 1 ∷ []) 2 0;
+      lent = held (0 ∷ 0 ∷ []) (negsuc 0 ∷ negsuc 1 ∷ []) 2 zeros;
       budget = 1;
-      answer = none 0;
-      after = held (2 ∷ 2 ∷ []) (pos 0 ∷ pos 0 ∷ []) 0 0;
+      answer = none zeros;
+      after = held (2 ∷ 2 ∷ []) (pos 0 ∷ pos 0 ∷ []) 0 zeros;
     }
     -- 12, then 13, then 14: the list, then a slice of 5 where 6 are needed, then the state, then the steps
     ∷ record { list = negsuc 0 ∷ []; v = 6; lent = long; budget = 1; answer = refused 12; after = long }
     ∷ record { list = k1; v = 6; lent = long; budget = 18446744073709551615; answer = refused 13; after = long }
     ∷ record { list = k1; v = 4; lent = long; budget = 1; answer = refused 14; after = long }
+    -- the three come to 2^64 - 2; and to 2^64 - 1, with one of them alone; and to 2^64, which is 0 in 64 bits
     ∷ record {
       list = k1;
       v = 4;
-      lent = three 18446744073709551614;
+      lent = three (tally 9223372036854775807 9223372036854775800 7);
       budget = 1;
-      answer = found 18446744073709551615;
-      after = end 18446744073709551615;
+      answer = found (tally 9223372036854775808 9223372036854775800 7);
+      after = end (tally 9223372036854775808 9223372036854775800 7);
     }
     ∷ record {
       list = k1;
       v = 4;
-      lent = three 18446744073709551614;
+      lent = three (tally 9223372036854775807 9223372036854775800 7);
       budget = 2;
       answer = refused 14;
-      after = three 18446744073709551614;
+      after = three (tally 9223372036854775807 9223372036854775800 7);
+    }
+    ∷ record {
+      list = k1;
+      v = 4;
+      lent = three (tally 0 0 18446744073709551615);
+      budget = 0;
+      answer = spent (tally 0 0 18446744073709551615);
+      after = three (tally 0 0 18446744073709551615);
+    }
+    ∷ record {
+      list = k1;
+      v = 4;
+      lent = three (tally 9223372036854775808 0 9223372036854775808);
+      budget = 0;
+      answer = refused 14;
+      after = three (tally 9223372036854775808 0 9223372036854775808);
     }
     ∷ []
 
-abbrev recordOf : Held → Position
-recordOf h = record { length = h .length; steps = h .steps }
-
-pub cases : map (λ row. resumption (row .list) (row .v) (row .lent .values) (row .lent .trail) (recordOf (row .lent)) (row .budget)) rows
-    ≡ map (λ row. left (row .answer) (row .after .values) (row .after .trail) (recordOf (row .after))) rows
+pub cases :
+    map (λ row. resumption (row .list) (row .v) (row .lent .values) (row .lent .trail) (positionOf (row .lent .length) (row .lent .steps))
+    (row .budget)) rows
+    ≡ map (λ row. left (row .answer) (row .after .values) (row .after .trail) (positionOf (row .after .length) (row .after .steps))) rows
 unfolding truthOf negated literal isFalsified isSatisfied conflict openOf sameLiteral only unitOf firstUnit lowestOpen wordOf byteOf placeOf
     valuesOf trailOf turn decide next total count run answerAt valuesAt trailAt all any each cut wellCut isList repeats goesWith noState entryOf
     stateIn resumption

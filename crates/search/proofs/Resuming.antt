@@ -5,28 +5,28 @@ use mathlib.Core.Logic.{⊎-elim}
 use mathlib.Core.List.{List, [], _++_}
 use Prim.Native.Nat.{ℕ, _+_, _≤_}
 use native.Mathlib.Omega.{arith}
-use native.Mathlib.Nat.{zero-add}
 use lib.Dec.{leb}
 use lib.IntN.{ℤ}
 use lib.ListN.{length, take, drop, length-append}
 use lib.Seq.{take-at, drop-at}
 use borrow.Author.Tests.{leb-true, leb-false}
 use Rattle.clause_list.specs.ClauseList.{clausesOf, isList}
+use Rattle.search_rules.specs.declared.Steps.{Steps}
+use Rattle.search_rules.specs.declared.Position.{Position}
 use Rattle.search_rules.specs.Rules.{State, valuesOf, trailOf}
-use Rattle.search_rules.specs.Run.{Tally, zeros, total, End, wasNone, wasFound, wasSpent}
-use Rattle.search_rules.specs.Held.{stepLimit, stateIn, WasOpen, Stored}
+use Rattle.search_rules.specs.Run.{total, End, wasSpent}
+use Rattle.search_rules.specs.Held.{stepsOf, positionOf, stepLimit, stateIn, WasOpen, Stored}
 use Rattle.search_rules.proofs.Invariant.{length-values}
 use Rattle.search_rules.proofs.Trails.{length-trail}
 use Rattle.search_rules.proofs.Ranges.{fine-list, ranged}
 use Rattle.search_rules.proofs.StateHeld.{read-stored, stored-passes}
-use Rattle.search_rules.proofs.Theorems.{spent-state}
-use Rattle.search_rules.proofs.Again.{plus, later, total-plus, spent-open, run-again}
-use Rattle.search.specs.declared.answer.Position.{Position}
-use Rattle.search.specs.Answers.{spent, refused, answerAt, valuesAt, trailAt, outcome, finish, searchRun}
-use Rattle.search.specs.Resumed.{Resumption, finishAfter, resumedRun, resumption}
+use Rattle.search_rules.proofs.Theorems.{spent-state, again, resume}
+use Rattle.search_rules.proofs.Again.{spent-open}
+use Rattle.search.specs.Answers.{spent, refused, valuesAt, trailAt, outcome, finish, searchRun}
+use Rattle.search.specs.Resumed.{Resumption, finishAt, resumedRun, resumption}
 use Rattle.search.specs.Resuming.{start, FreshStart, last, spends, SameAsOne}
 use Rattle.search.proofs.Outcomes as searched
-use Rattle.search.proofs.Outcomes.{adds-zero, was-spent}
+use Rattle.search.proofs.Outcomes.{was-spent}
 use Rattle.search.proofs.Resumptions as resumed
 use Rattle.search.proofs.ResumedCalls.{Runs, begin, called, held}
 
@@ -43,10 +43,14 @@ module _ (list : List ℤ) (v : ℕ) (values : List ℕ) (trail : List ℤ) (bud
   unfolding WasOpen
   empty = stored v [] tt values trail vs ts
 
-  ends-alike : finishAfter 0 v values trail (resumedRun list v (begin list v values trail start budget) budget) .outcome
+  ends-alike : finishAt v values trail (resumedRun list v (stepsOf start) (begin list v values trail start budget) budget) .outcome
       ≡ finish v values trail (searchRun list v budget)
   unfolding stateIn
-  ends-alike = rw (adds-zero (searchRun list v budget)) refl
+  ends-alike = refl
+
+  none-done : total (stepsOf start) + budget ≤ stepLimit
+  unfolding total
+  none-done = omega arith
 
   by-tests : (a b c : Bool) → isList v list ≡ a → leb v (length values) ≡ b → leb v (length trail) ≡ c
       → resumption list v values trail start budget .outcome ≡ outcome list v values trail budget
@@ -60,7 +64,7 @@ module _ (list : List ℤ) (v : ℕ) (values : List ℕ) (trail : List ℤ) (bud
       ∙ sym (searched.short-trail list v values trail budget d (leb-false _ _ f))
   by-tests true true true d e f =
       ap (λ o. o .outcome) (resumed.runs list v values trail start budget d (leb-true _ _ e) (leb-true _ _ f)
-      (stored-passes v [] _ _ 0 empty) (omega arith))
+      (stored-passes v [] _ _ 0 empty) none-done)
       ∙ ends-alike
       ∙ sym (searched.runs list v values trail budget d (leb-true _ _ e) (leb-true _ _ f))
 
@@ -69,8 +73,8 @@ fresh-start list v values trail budget vs ts few =
     by-tests list v values trail budget vs ts few (isList v list) (leb v (length values)) (leb v (length trail)) refl refl refl
 
 -- one call is spent, and another takes up what it left
-module _ (list : List ℤ) (v : ℕ) (values : List ℕ) (trail : List ℤ) (p : Position) (m steps : ℕ)
-    (answers : resumption list v values trail p m .outcome .answer ≡ spent steps) where
+module _ (list : List ℤ) (v : ℕ) (values : List ℕ) (trail : List ℤ) (p : Position) (m : ℕ) (t : Steps)
+    (answers : resumption list v values trail p m .outcome .answer ≡ spent t) where
   abbrev first : Resumption
   first = resumption list v values trail p m
 
@@ -78,31 +82,21 @@ module _ (list : List ℤ) (v : ℕ) (values : List ℕ) (trail : List ℤ) (p :
   ran =
       ⊎-elim
       (λ d.
-      absurd (let e : refused (d .0) ≡ spent steps = sym (ap (λ o. o .outcome .answer) (d .1)) ∙ answers in
+      absurd (let e : refused (d .0) ≡ spent t = sym (ap (λ o. o .outcome .answer) (d .1)) ∙ answers in
       let z : _≡_ {A = ℕ} 0 1 = cc in omega arith))
       (λ r. r) (called list v values trail p m)
 
   abbrev from : State
   from = begin list v values trail p m
 
-  record Left : Type 0 where
-    tally : Tally
-    state : State
-    was : resumedRun list v from m ≡ wasSpent tally state
-
-  spending : Left
-  spending =
-      let e = was-spent (p .steps) (resumedRun list v from m) steps (sym (ap (λ o. o .outcome .answer) (ran .ends)) ∙ answers) in
-      record { tally = e .0; state = e .1; was = e .2 }
-
-  abbrev t : Tally
-  t = spending .tally
+  spending : (s : State) × (resumedRun list v (stepsOf p) from m ≡ wasSpent t s)
+  spending = was-spent (resumedRun list v (stepsOf p) from m) t (sym (ap (λ o. o .outcome .answer) (ran .ends)) ∙ answers)
 
   abbrev s : State
-  s = spending .state
+  s = spending .0
 
-  left-is : first ≡ finishAfter (p .steps) v values trail (wasSpent t s)
-  left-is = ran .ends ∙ ap (finishAfter (p .steps) v values trail) (spending .was)
+  left-is : first ≡ finishAt v values trail (wasSpent t s)
+  left-is = ran .ends ∙ ap (finishAt v values trail) (spending .1)
 
   values-left : first .outcome .values ≡ valuesOf v s ++ drop v values
   unfolding valuesAt
@@ -112,14 +106,14 @@ module _ (list : List ℤ) (v : ℕ) (values : List ℕ) (trail : List ℤ) (p :
   unfolding trailAt
   trail-left = ap (λ o. o .outcome .trail) left-is
 
-  position-left : first .position ≡ record { length = length s; steps = p .steps + total t }
+  position-left : first .position ≡ positionOf (length s) t
   position-left = ap (λ o. o .position) left-is
 
-  steps-left : first .position .steps ≡ p .steps + m
-  unfolding total
-  steps-left =
-      let e = spent-state (clausesOf list) v m zeros t from s (spending .was) .1 in
-      ap (λ q. q .steps) position-left ∙ ap (λ x. p .steps + x) (e ∙ zero-add m)
+  all-done : total t ≡ total (stepsOf p) + m
+  all-done = spent-state (clausesOf list) v m (stepsOf p) t from s (spending .1) .1
+
+  steps-left : total (stepsOf (first .position)) ≡ total (stepsOf p) + m
+  steps-left = ap (λ q. total (stepsOf q)) position-left ∙ all-done
 
   -- what was left, and the state that it holds
   abbrev values′ : List ℕ
@@ -129,13 +123,13 @@ module _ (list : List ℤ) (v : ℕ) (values : List ℕ) (trail : List ℤ) (p :
   trail′ = trailOf v s ++ drop v trail
 
   abbrev position′ : Position
-  position′ = record { length = length s; steps = p .steps + total t }
+  position′ = positionOf (length s) t
 
   holds-left : Stored v s (take v values′) (take v trail′) (length s)
   holds-left =
       stored v s
-      (spent-open v (clausesOf list) (ranged v list (fine-list v list (ran .is-list))) m zeros t from s (held list v values trail p m ran .was-open)
-      (spending .was))
+      (spent-open v (clausesOf list) (ranged v list (fine-list v list (ran .is-list))) m (stepsOf p) t from s (held list v values trail p m ran .was-open)
+      (spending .1))
       values′ trail′
       (take-at (valuesOf v s) (drop v values) v (length-values v s))
       (take-at (trailOf v s) (drop v trail) v (length-trail v s))
@@ -146,37 +140,31 @@ module _ (list : List ℤ) (v : ℕ) (values : List ℕ) (trail : List ℤ) (p :
   trail-behind : drop v trail′ ≡ drop v trail
   trail-behind = drop-at (trailOf v s) (drop v trail) v (length-trail v s)
 
-  figure : (u : Tally) → p .steps + total t + total u ≡ p .steps + total (plus t u)
-  figure u = omega (arith, total-plus t u)
-
   -- the end of a later call, over what was left, is that of one call from the start
-  finish-later : (end : End) → finishAfter (p .steps + total t) v values′ trail′ end ≡ finishAfter (p .steps) v values trail (later t end)
-  unfolding answerAt valuesAt trailAt
-  finish-later (wasNone u) = rw (values-behind, trail-behind, figure u) refl
-  finish-later (wasFound u state) = rw (values-behind, trail-behind, figure u) refl
-  finish-later (wasSpent u state) = rw (values-behind, trail-behind, figure u) refl
+  finish-later : (end : End) → finishAt v values′ trail′ end ≡ finishAt v values trail end
+  finish-later end = rw (values-behind, trail-behind) refl
 
-  module _ (n : ℕ) (few : p .steps + (m + n) ≤ stepLimit) where
-    few-left : p .steps + total t + n ≤ stepLimit
-    few-left = let e : p .steps + total t ≡ p .steps + m = sym (ap (λ q. q .steps) position-left) ∙ steps-left in omega arith
-
-    goes-on : resumption list v values′ trail′ position′ n
-        ≡ finishAfter (p .steps + total t) v values′ trail′ (resumedRun list v (begin list v values′ trail′ position′ n) n)
+  module _ (n : ℕ) (few : total (stepsOf p) + (m + n) ≤ stepLimit) where
+    goes-on : resumption list v values′ trail′ position′ n ≡ finishAt v values′ trail′ (resumedRun list v t (begin list v values′ trail′ position′ n) n)
     goes-on =
         resumed.runs list v values′ trail′ position′ n (ran .is-list)
         (omega (arith, length-append (valuesOf v s) (drop v values), length-values v s))
         (omega (arith, length-append (trailOf v s) (drop v trail), length-trail v s))
-        (stored-passes v s _ _ _ holds-left) few-left
+        (stored-passes v s _ _ _ holds-left) (omega (arith, all-done))
 
-    at-once : resumption list v values trail p (m + n) ≡ finishAfter (p .steps) v values trail (resumedRun list v from (m + n))
+    at-once : resumption list v values trail p (m + n) ≡ finishAt v values trail (resumedRun list v (stepsOf p) from (m + n))
     at-once = resumed.runs list v values trail p (m + n) (ran .is-list) (ran .wide) (ran .deep) (ran .holds) few
+
+    one-run : resumedRun list v (stepsOf p) from (m + n) ≡ resumedRun list v t s n
+    unfolding again
+    one-run = resume (clausesOf list) v m n (stepsOf p) from ∙ ap (again (clausesOf list) v n) (spending .1)
 
     same-left : resumption list v values′ trail′ position′ n ≡ resumption list v values trail p (m + n)
     same-left =
         goes-on
-        ∙ ap (λ x. finishAfter (p .steps + total t) v values′ trail′ (resumedRun list v x n)) (read-stored v s _ _ _ holds-left)
-        ∙ finish-later (resumedRun list v s n)
-        ∙ sym (at-once ∙ ap (finishAfter (p .steps) v values trail) (run-again (clausesOf list) v m n t from s (spending .was)))
+        ∙ ap (λ x. finishAt v values′ trail′ (resumedRun list v t x n)) (read-stored v s _ _ _ holds-left)
+        ∙ finish-later (resumedRun list v t s n)
+        ∙ sym (at-once ∙ ap (finishAt v values trail) one-run)
 
     -- m steps that are spent and n more are m + n steps
     pub taken-up : resumption list v (first .outcome .values) (first .outcome .trail) (first .position) n ≡ resumption list v values trail p (m + n)

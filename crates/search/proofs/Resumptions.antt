@@ -11,13 +11,13 @@ use Rattle.prelude.proofs.Laws.{and-both, and-not-left, and-not-right, or-left,
 use Rattle.refusal.specs.declared.Refusal.{Refusal}
 use Rattle.refusal.specs.Refusals.{numberOf}
 use Rattle.clause_list.specs.ClauseList.{isList}
-use Rattle.search_rules.specs.Held.{noState, stepLimit}
-use Rattle.search_rules.specs.Run.{End}
+use Rattle.search_rules.specs.Run.{total, End}
+use Rattle.search_rules.specs.Held.{stepsOf, noState, stepLimit}
 use Rattle.search.specs.declared.answer.Search.the-variants.{Refused}
-use Rattle.search.specs.declared.answer.Position.{Position}
+use Rattle.search_rules.specs.declared.Position.{Position}
 use Rattle.search.specs.declared.answer.Resumed.{Resumed}
 use Rattle.search.specs.Answers.{answerOf}
-use Rattle.search.specs.Resumed.{Resumption, left, decline, finishAfter, startOf, declinesState, resumedRun, resumption}
+use Rattle.search.specs.Resumed.{Resumption, left, decline, finishAt, startOf, declinesState, resumedRun, resumption}
 use Rattle.search.specs.Inner.{Finished}
 
 module _ (list : List ℤ) (v : ℕ) (values : List ℕ) (trail : List ℤ) (p : Position) (budget : ℕ) where
@@ -31,7 +31,7 @@ module _ (list : List ℤ) (v : ℕ) (values : List ℕ) (trail : List ℤ) (p :
   stopped = declinesState v values trail p budget
 
   abbrev ended : Resumption
-  ended = finishAfter (p .steps) v values trail (resumedRun list v (startOf v values trail p) budget)
+  ended = finishAt v values trail (resumedRun list v (stepsOf p) (startOf v values trail p) budget)
 
   abbrev by-state : Bool → Resumption
   by-state d = cond d (decline 14 values trail p) ended
@@ -64,13 +64,13 @@ module _ (list : List ℤ) (v : ℕ) (values : List ℕ) (trail : List ℤ) (p :
       pub no-state : noState v (take v values) (take v trail) (p .length) ≡ true → call ≡ decline 14 values trail p
       no-state h = by-tests true true true is room (or-left _ _ h)
 
-      pub too-many : stepLimit < p .steps + budget → call ≡ decline 14 values trail p
+      pub too-many : stepLimit < total (stepsOf p) + budget → call ≡ decline 14 values trail p
       too-many h = by-tests true true true is room (or-right (noState v (take v values) (take v trail) (p .length)) _ (lt-ltb _ _ h))
 
       pub takes : stopped ≡ false → call ≡ ended
       takes h = by-tests true true false is room h
 
-      pub runs : noState v (take v values) (take v trail) (p .length) ≡ false → p .steps + budget ≤ stepLimit → call ≡ ended
+      pub runs : noState v (take v values) (take v trail) (p .length) ≡ false → total (stepsOf p) + budget ≤ stepLimit → call ≡ ended
       runs h k = takes (or-rest _ _ h ∙ le-ltb _ _ k)
 
 pub denied : (b : Bool) → not b ≡ false → b ≡ true
@@ -95,7 +95,7 @@ declines-back n refusal values trail p r o e q d =
     rw (take-append-drop n values, take-append-drop n trail) (declines refusal values trail p r o e q d)
 
 -- the end of a run, as `resumed` ensures it
-pub finishes : (v done : ℕ) (end : End) (r : Resumed) (values vs : List ℕ) (trail ts : List ℤ) (o : Resumption)
-    → o ≡ finishAfter done v values trail end → Finished v done end r vs ts
+pub finishes : (v : ℕ) (end : End) (r : Resumed) (values vs : List ℕ) (trail ts : List ℤ) (o : Resumption)
+    → o ≡ finishAt v values trail end → Finished v end r vs ts
     → left (answerOf (r .answer)) (vs ++ drop v values) (ts ++ drop v trail) (r .position) ≡ o
-finishes v done end r values vs trail ts o e f = rw (e, f .answer-is, f .values-are, f .trail-is, f .position-is) refl
+finishes v end r values vs trail ts o e f = rw (e, f .answer-is, f .values-are, f .trail-is, f .position-is) refl

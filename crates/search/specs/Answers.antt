@@ -1,4 +1,5 @@
--- What a call of `search` answers, and what it leaves in the lent slices (document 01, "Search" and "Answers that decline").
+-- What a call of `search` answers, and what it leaves in the lent slices (document 01, "Search" and "Answers that decline"; document 02,
+-- Change 3).
 use mathlib.Core.Bool.{cond, _&&_}
 use mathlib.Core.List.{List, [], _++_, map}
 use Prim.Native.Nat.{ℕ}
@@ -9,12 +10,15 @@ use Rattle.refusal.specs.Refusals.{numberOf}
 use Rattle.clause_list.specs.ClauseList.{clausesOf, isList}
 use Rattle.search.specs.declared.answer.Search.{Search}
 use Rattle.search.specs.declared.answer.Search.the-variants.{Found, None, Spent, Refused}
+use Rattle.search_rules.specs.declared.Steps.{Steps}
 use Rattle.search_rules.specs.Rules.{valuesOf, trailOf, settle}
-use Rattle.search_rules.specs.Run.{zeros, total, End, wasNone, wasFound, wasSpent, run}
+use Rattle.search_rules.specs.Run.{zeros, End, wasNone, wasFound, wasSpent, run}
 
--- the paper's answers: "found", "none" or "spent" with the steps done, or a number
+-- the paper's answers: "found", "none" or "spent" with the steps done, or a number; "The search answer .. show[s] forces, choices and
+-- turns, each by itself"
 pub data Answer : Type 0 where
-  found none spent refused : ℕ → Answer
+  found none spent : Steps → Answer
+  refused : ℕ → Answer
 
 -- the paper's answer of each case of the enum
 abbrev pub answerOf : Search → Answer
@@ -25,9 +29,9 @@ answerOf (Refused refusal) = refused (numberOf refusal)
 
 -- "The answer gives the steps done."
 unfoldable pub answerAt : End → Answer
-answerAt (wasNone t) = none (total t)
-answerAt (wasFound t state) = found (total t)
-answerAt (wasSpent t state) = spent (total t)
+answerAt (wasNone t) = none t
+answerAt (wasFound t state) = found t
+answerAt (wasSpent t state) = spent t
 
 -- ""none", with values all 2 and trail all 0"; "found", where "3s become 0"; "spent", where "the state stays"
 unfoldable pub valuesAt : ℕ → End → List ℕ

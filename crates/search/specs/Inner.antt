@@ -7,11 +7,11 @@ use lib.IntN.{ℤ}
 use Rattle.search_rules.specs.Run.{End}
 use Rattle.search.specs.declared.answer.Resumed.{Resumed}
 use Rattle.search.specs.Answers.{answerOf, answerAt, valuesAt, trailAt}
-use Rattle.search.specs.Resumed.{addSteps, positionAt}
+use Rattle.search.specs.Resumed.{positionAt}
 
--- what `go_on` answers and leaves: the end of a run over v variables, after so many steps
-pub record Finished (v done : ℕ) (end : End) (r : Resumed) (values : List ℕ) (trail : List ℤ) : Type 0 where
-  pub answer-is : answerOf (r .answer) ≡ addSteps done (answerAt end)
+-- what `go_on` answers and leaves: the end of a run over v variables
+pub record Finished (v : ℕ) (end : End) (r : Resumed) (values : List ℕ) (trail : List ℤ) : Type 0 where
+  pub answer-is : answerOf (r .answer) ≡ answerAt end
   pub values-are : values ≡ valuesAt v end
   pub trail-is : trail ≡ trailAt v end
-  pub position-is : r .position ≡ positionAt done end
+  pub position-is : r .position ≡ positionAt end

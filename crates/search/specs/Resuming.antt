@@ -1,18 +1,23 @@
--- What is promised of resumed calls (document 02, Change 1): a fresh start, and a chain of calls that comes to one.
+-- What is promised of resumed calls (document 02, Changes 1 and 3): a fresh start, a chain of calls that comes to one, and each counter.
 use mathlib.Core.Path.{_≡_}
 use mathlib.Core.List.{List, []}
+use mathlib.Core.Option.{Option, none as nothing, some}
 use Prim.Native.Nat.{ℕ, _+_, _≤_}
 use lib.IntN.{ℤ}
 use lib.ListN.{length, take}
-use Rattle.search_rules.specs.Rules.{valuesOf, trailOf}
-use Rattle.search_rules.specs.Held.{stepLimit}
-use Rattle.search.specs.declared.answer.Position.{Position}
-use Rattle.search.specs.Answers.{spent, outcome}
-use Rattle.search.specs.Resumed.{Resumption, resumption}
+use Rattle.clause_list.specs.ClauseList.{clausesOf}
+use Rattle.search_rules.specs.declared.Steps.{Steps}
+use Rattle.search_rules.specs.declared.Position.{Position}
+use Rattle.search_rules.specs.Rules.{Kind, valuesOf, trailOf}
+use Rattle.search_rules.specs.Run.{total}
+use Rattle.search_rules.specs.Held.{stepsOf, stepLimit}
+use Rattle.search_rules.specs.Counting.{counter, kindsTaken, ofKind}
+use Rattle.search.specs.Answers.{Answer, found, none, spent, refused, outcome}
+use Rattle.search.specs.Resumed.{startOf, Resumption, resumption}
 
 -- "A record of zeros"
 abbrev pub start : Position
-start = record { length = 0; steps = 0 }
+start = record { length = 0; propagations = 0; decisions = 0; backtracks = 0 }
 
 -- "A record of zeros over open slices is a fresh start": it answers and leaves what `search` does
 abbrev pub FreshStart : Type 0
@@ -23,7 +28,7 @@ FreshStart = (list : List ℤ) (v : ℕ) (values : List ℕ) (trail : List ℤ) 
 -- n steps are allowed in all, and the last call comes to r
 pub data Chain (list : List ℤ) (v : ℕ) : List ℕ → List ℤ → Position → ℕ → Resumption → Type 0 where
   last : {values : List ℕ} {trail : List ℤ} {p : Position} (n : ℕ) → Chain list v values trail p n (resumption list v values trail p n)
-  spends : {values : List ℕ} {trail : List ℤ} {p : Position} {n steps : ℕ} {r : Resumption} (m : ℕ)
+  spends : {values : List ℕ} {trail : List ℤ} {p : Position} {n : ℕ} {steps : Steps} {r : Resumption} (m : ℕ)
       → resumption list v values trail p m .outcome .answer ≡ spent steps
       → Chain list v (resumption list v values trail p m .outcome .values) (resumption list v values trail p m .outcome .trail)
       (resumption list v values trail p m .position) n r
@@ -33,4 +38,25 @@ pub data Chain (list : List ℤ) (v : ℕ) : List ℕ → List ℤ → Position 
 -- start, provided the clause list and v are the same and record and slices are those the search left": and so for any number of calls
 abbrev pub SameAsOne : Type 0
 SameAsOne = (list : List ℤ) (v : ℕ) (values : List ℕ) (trail : List ℤ) (p : Position) (n : ℕ) (r : Resumption) → Chain list v values trail p n r
-    → p .steps + n ≤ stepLimit → r ≡ resumption list v values trail p n
+    → total (stepsOf p) + n ≤ stepLimit → r ≡ resumption list v values trail p n
+
+-- the counters of an answer
+abbrev pub stepsIn : Answer → Option Steps
+stepsIn (found steps) = some steps
+stepsIn (none steps) = some steps
+stepsIn (spent steps) = some steps
+stepsIn (refused number) = nothing
+
+-- "Each counter equals the one handed in (0 at the start) plus the steps of its kind that the rules' run takes in the call": of a call from
+-- the start, and of a resumed call, whose record has the answer's counters
+pub record EachCounter : Type 0 where
+  pub searched : (list : List ℤ) (v : ℕ) (values : List ℕ) (trail : List ℤ) (budget : ℕ) (steps : Steps)
+      → stepsIn (outcome list v values trail budget .answer) ≡ some steps
+      → (kind : Kind) → counter kind steps ≡ ofKind kind (kindsTaken (clausesOf list) v budget [])
+  pub resumed : (list : List ℤ) (v : ℕ) (values : List ℕ) (trail : List ℤ) (p : Position) (budget : ℕ) (steps : Steps)
+      → stepsIn (resumption list v values trail p budget .outcome .answer) ≡ some steps
+      → (kind : Kind)
+      → counter kind steps ≡ counter kind (stepsOf p) + ofKind kind (kindsTaken (clausesOf list) v budget (startOf v values trail p))
+  pub recorded : (list : List ℤ) (v : ℕ) (values : List ℕ) (trail : List ℤ) (p : Position) (budget : ℕ) (steps : Steps)
+      → stepsIn (resumption list v values trail p budget .outcome .answer) ≡ some steps
+      → stepsOf (resumption list v values trail p budget .position) ≡ steps

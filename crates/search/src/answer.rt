@@ -1,16 +1,12 @@
-// What a search answers, and where it stands.
-pub enum Search {
-    Found(u64),
-    None(u64),
-    Spent(u64),
-    Refused(refusal::Refusal),
-}
+// What a search answers.
+use search_rules::Position;
+use search_rules::Steps;
 
-// The position of a stopped search: the trail's length, and the steps done so far. A caller in C lends it by its address.
-#[repr(C)]
-pub struct Position {
-    pub length: usize,
-    pub steps: u64,
+pub enum Search {
+    Found(Steps),
+    None(Steps),
+    Spent(Steps),
+    Refused(refusal::Refusal),
 }
 
 // What a resumed call answers, and the position that it leaves.

@@ -1,22 +1,20 @@
-// The search (document 01, "Search"; document 02, Change 1): the rules' run over lent slices, from a fresh start or taken up again.
+// The search (document 01, "Search"; document 02, Changes 1 and 3): the rules' run over lent slices, from a fresh start or taken up again.
 ghost use mathlib.Core.Path.{_≡_};
 ghost use Rattle.search.specs.declared.answer.Search.the-variants.{Refused};
 ghost use Rattle.search.specs.Answers.{answerOf, outcome};
 ghost use Rattle.search.specs.Resumed.{left, resumption};
-use answer::Position;
 use answer::Resumed;
 use answer::Search;
 use refusal::Refusal;
 use runs::fresh;
 use runs::go_on;
+use search_rules::Position;
 use search_state::is_state;
+use search_state::too_many;
 
-pub mod answer; // answer.rt: what a search answers, and where it stands
+pub mod answer; // answer.rt: what a search answers
 mod fills; // fills.rt: slices, filled
 mod runs; // runs.rt: the run over slices that fit
-
-// The steps that are counted at most.
-const STEP_LIMIT: u64 = 18446744073709551615;
 
 // The search from a fresh start within a budget. Its answer and all that it leaves are those of the definition `outcome`.
 pub fn search(list: &[i32], v: u32, values: &mut [u8], trail: &mut [i32], budget: u64) -> Search
@@ -75,7 +73,7 @@ pub fn resumed(
     if !is_state(vs, ts, position.length) {
         return refused(Refusal::State, position);
     }
-    if STEP_LIMIT - position.steps < budget {
+    if too_many(position, budget) {
         return refused(Refusal::State, position);
     }
     go_on(list, vs, ts, position, budget)

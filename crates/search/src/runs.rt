@@ -4,21 +4,22 @@ ghost use Prim.Native.Nat.{_+_, _≤_};
 ghost use lib.ListN.{length};
 ghost use Rattle.literal.specs.Literals.{lastVariable};
 ghost use Rattle.search_rules.specs.Rules.{State};
-ghost use Rattle.search_rules.specs.Held.{stepLimit, Stored};
+ghost use Rattle.search_rules.specs.Run.{total};
+ghost use Rattle.search_rules.specs.Held.{stepsOf, stepLimit, Stored};
 ghost use Rattle.search_rules.specs.Inner.{Fine};
 ghost use Rattle.search_core.specs.Inner.{SomeStored};
 ghost use Rattle.search.specs.Answers.{answerOf, answerAt, valuesAt, trailAt, searchRun};
 ghost use Rattle.search.specs.Resumed.{resumedRun};
 ghost use Rattle.search.specs.Inner.{Finished};
-use super::answer::Position;
 use super::answer::Resumed;
 use super::answer::Search;
 use super::fills::clear_all;
 use super::fills::open_all;
 use super::fills::settle_all;
 use search_core::run::End;
-use search_core::run::Progress;
 use search_core::run::run;
+use search_rules::Position;
+use search_rules::Steps;
 
 // The run from the state that the slices hold.
 pub(crate) fn go_on(
@@ -31,23 +32,17 @@ pub(crate) fn go_on(
     requires { ⌜ Fine (length (now values)) (now list) ⌝ }
     requires { ⌜ length (now values) ≤ lastVariable ⌝ }
     requires { ⌜ SomeStored (length (now values)) (now values) (now trail) (position .length) ⌝ }
-    requires { ⌜ position .steps + budget ≤ stepLimit ⌝ }
+    requires { ⌜ total (stepsOf position) + budget ≤ stepLimit ⌝ }
     ensures { λ r. ⌜ ((state : State) → Stored (length (now (values .entry))) state (now (values .entry)) (now (trail .entry)) (position .length)
-        → Finished (length (now (values .entry))) (position .steps)
-        (resumedRun (now (list .entry)) (length (now (values .entry))) state budget) r (now (values .exit)) (now (trail .exit))) ⌝ }
+        → Finished (length (now (values .entry)))
+        (resumedRun (now (list .entry)) (length (now (values .entry))) (stepsOf position) state budget) r (now (values .exit)) (now (trail .exit))) ⌝ }
 {
-    let start = Progress {
-        used: position.length,
-        propagations: 0,
-        decisions: 0,
-        backtracks: 0,
-    };
-    let ran = run(list, values, trail, start, budget);
-    let p = ran.progress;
-    let steps = position.steps + (p.propagations + p.decisions + p.backtracks);
-    let position = Position {
-        length: p.used,
-        steps,
+    let ran = run(list, values, trail, position, budget);
+    let position = ran.position;
+    let steps = Steps {
+        propagations: position.propagations,
+        decisions: position.decisions,
+        backtracks: position.backtracks,
     };
     let end = ran.end;
     match end {
@@ -82,7 +77,9 @@ pub(crate) fn fresh(list: &[i32], values: &mut [u8], trail: &mut [i32], budget: 
     clear_all(trail);
     let start = Position {
         length: 0,
-        steps: 0,
+        propagations: 0,
+        decisions: 0,
+        backtracks: 0,
     };
     let ended = go_on(list, values, trail, start, budget);
     ended.answer

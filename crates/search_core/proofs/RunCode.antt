@@ -16,14 +16,15 @@ use Rattle.prelude.specs.Tests.{any}
 use Rattle.prelude.proofs.Laws.{clash, or-left, or-right, or-rest}
 use Rattle.search_core.specs.declared.steps.StepKind.{StepKind}
 use Rattle.search_core.specs.declared.steps.Moved.the-variants.{NoneLeft, AllSet, To}
-use Rattle.search_core.specs.declared.run.Progress.{Progress}
+use Rattle.search_rules.specs.declared.Steps.{Steps}
+use Rattle.search_rules.specs.declared.Position.{Position}
 use Rattle.search_core.specs.declared.run.End.the-variants.{None, Found, Spent}
-use Rattle.search_rules.specs.Held.{WasOpen, Stored}
+use Rattle.search_rules.specs.Held.{stepsOf, positionOf, WasOpen, Stored}
 use Rattle.search_scan.specs.Seen.{conflicting, unit, neither, seen}
-use Rattle.search_core.specs.Inner.{Turned, kindAs, kindOf, Stepped, tallyOf, Advanced, endAfter, Ended}
+use Rattle.search_core.specs.Inner.{Turned, kindAs, kindOf, Stepped, endAfter, Ended}
 use Rattle.search_rules.specs.Rules.{lowestOpen, propagated, decided, State, wordOf, byteOf, placeOf, valuesOf, Kind, propagation}
 use Rattle.search_rules.specs.Rules.{decision, backtrack, Next, endNone, endFound, step, turn, decide, next}
-use Rattle.search_rules.specs.Run.{Tally, total, count, wasNone, wasFound, wasSpent, run}
+use Rattle.search_rules.specs.Run.{total, count, wasNone, wasFound, wasSpent, run}
 use Rattle.search_rules.proofs.Found.{place-below}
 use Rattle.search_rules.proofs.Invariant.{length-values}
 use Rattle.search_core.proofs.StepCode.{next-conflict, next-unit, next-neither, low-full, low-open}
@@ -127,21 +128,21 @@ module _ (clauses : List (List ℤ)) (v : ℕ) (state : State) (values : List �
   ends-open r s b z = rw (next-neither clauses v state values here s ∙ ap (decide state) (low-open values r b z .1)) refl
 
 module _ (clauses : List (List ℤ)) (v : ℕ) where
-  run-none : (n : ℕ) (t : Tally) (state : State) → next clauses v state ≡ endNone → run clauses v n t state ≡ wasNone t
+  run-none : (n : ℕ) (t : Steps) (state : State) → next clauses v state ≡ endNone → run clauses v n t state ≡ wasNone t
   unfolding run
   run-none zero t state e = rw (e, run)
   run-none (suc n) t state e = rw (e, run)
 
-  run-found : (n : ℕ) (t : Tally) (state : State) → next clauses v state ≡ endFound → run clauses v n t state ≡ wasFound t state
+  run-found : (n : ℕ) (t : Steps) (state : State) → next clauses v state ≡ endFound → run clauses v n t state ≡ wasFound t state
   unfolding run
   run-found zero t state e = rw (e, run)
   run-found (suc n) t state e = rw (e, run)
 
-  run-spent : (t : Tally) (state : State) (kind : Kind) (s : State) → next clauses v state ≡ step kind s → run clauses v 0 t state ≡ wasSpent t state
+  run-spent : (t : Steps) (state : State) (kind : Kind) (s : State) → next clauses v state ≡ step kind s → run clauses v 0 t state ≡ wasSpent t state
   unfolding run
   run-spent t state kind s e = rw (e, run)
 
-  run-step : (n : ℕ) (t : Tally) (state : State) (kind : Kind) (s : State) → next clauses v state ≡ step kind s
+  run-step : (n : ℕ) (t : Steps) (state : State) (kind : Kind) (s : State) → next clauses v state ≡ step kind s
       → run clauses v (suc n) t state ≡ run clauses v n (count kind t) s
   unfolding run
   run-step n t state kind s e = rw (e, run)
@@ -159,33 +160,33 @@ module _ (clauses : List (List ℤ)) (v : ℕ) where
   kind-back backtrack = refl
 
   -- how far the loop has come: what is left of the run is the run
-  pub record Far (budget : ℕ) (t : Tally) (state : State) (values : List ℕ) (trail : List ℤ) (p : Progress) (left : ℕ) : Type 0 where
+  pub record Far (budget : ℕ) (t : Steps) (state : State) (values : List ℕ) (trail : List ℤ) (p : Position) (left : ℕ) : Type 0 where
     pub at : State
-    pub stored : Stored v at values trail (p .used)
-    pub alike : run clauses v left (tallyOf p) at ≡ run clauses v budget t state
+    pub stored : Stored v at values trail (p .length)
+    pub alike : run clauses v left (stepsOf p) at ≡ run clauses v budget t state
 
-  module _ (budget : ℕ) (t : Tally) (state : State) (values : List ℕ) (trail : List ℤ) (p : Progress) (left : ℕ)
+  module _ (budget : ℕ) (t : Steps) (state : State) (values : List ℕ) (trail : List ℤ) (p : Position) (left : ℕ)
       (f : Far budget t state values trail p left) where
-    by-none : next clauses v (f .at) ≡ endNone → run clauses v budget t state ≡ wasNone (tallyOf p)
-    by-none e = sym (f .alike) ∙ run-none left (tallyOf p) (f .at) e
+    by-none : next clauses v (f .at) ≡ endNone → run clauses v budget t state ≡ wasNone (stepsOf p)
+    by-none e = sym (f .alike) ∙ run-none left (stepsOf p) (f .at) e
 
-    by-found : next clauses v (f .at) ≡ endFound → run clauses v budget t state ≡ wasFound (tallyOf p) (f .at)
-    by-found e = sym (f .alike) ∙ run-found left (tallyOf p) (f .at) e
+    by-found : next clauses v (f .at) ≡ endFound → run clauses v budget t state ≡ wasFound (stepsOf p) (f .at)
+    by-found e = sym (f .alike) ∙ run-found left (stepsOf p) (f .at) e
 
     module _ (values' : List ℕ) (trail' : List ℤ) where
-      pub far-none : (x : Next) (q : Progress) → next clauses v (f .at) ≡ x → q .used ≡ 0 → tallyOf q ≡ tallyOf p
-          → Stepped v (f .at) x NoneLeft values' trail' → Ended v (run clauses v budget t state) (record { end = None; progress = q }) values' trail'
-      far-none endNone q e l c s = rw (by-none e) (record { end-is = refl; tally-is = c; stored = rw l (s .1) })
-      far-none endFound q e l c s = absurd (let d : NoneLeft ≡ AllSet = s .0 in let z : _≡_ {A = ℕ} 0 1 = cc in omega arith)
-      far-none (step kind r) q e l c s = absurd (let d : NoneLeft ≡ To (kindAs kind) (length r) = s .0 in let z : _≡_ {A = ℕ} 0 1 = cc in omega arith)
+      pub far-none : (x : Next) (q : Position) → next clauses v (f .at) ≡ x → q ≡ positionOf 0 (stepsOf p)
+          → Stepped v (f .at) x NoneLeft values' trail' → Ended v (run clauses v budget t state) (record { end = None; position = q }) values' trail'
+      far-none endNone q e c s = rw (by-none e, c) (record { end-is = refl; steps-are = refl; stored = s .1 })
+      far-none endFound q e c s = absurd (let d : NoneLeft ≡ AllSet = s .0 in let z : _≡_ {A = ℕ} 0 1 = cc in omega arith)
+      far-none (step kind r) q e c s = absurd (let d : NoneLeft ≡ To (kindAs kind) (length r) = s .0 in let z : _≡_ {A = ℕ} 0 1 = cc in omega arith)
 
       pub far-found : (x : Next) → next clauses v (f .at) ≡ x → Stepped v (f .at) x AllSet values' trail'
-          → Ended v (run clauses v budget t state) (record { end = Found; progress = p }) values' trail'
+          → Ended v (run clauses v budget t state) (record { end = Found; position = p }) values' trail'
       far-found endNone e s = absurd (let d : AllSet ≡ NoneLeft = s .0 in let z : _≡_ {A = ℕ} 0 1 = cc in omega arith)
-      far-found endFound e s = rw (by-found e) (record { end-is = refl; tally-is = refl; stored = rw (f .stored .used-is) (s .1) })
+      far-found endFound e s = rw (by-found e) (record { end-is = refl; steps-are = refl; stored = rw (f .stored .used-is) (s .1) })
       far-found (step kind r) e s = absurd (let d : AllSet ≡ To (kindAs kind) (length r) = s .0 in let z : _≡_ {A = ℕ} 0 1 = cc in omega arith)
 
-      pub far-on : (k : StepKind) (m : ℕ) (q : Progress) → 0 < left → Advanced p k m q → (x : Next) → next clauses v (f .at) ≡ x
+      pub far-on : (k : StepKind) (m : ℕ) (q : Position) → 0 < left → q ≡ positionOf m (count (kindOf k) (stepsOf p)) → (x : Next) → next clauses v (f .at) ≡ x
           → Stepped v (f .at) x (To k m) values' trail' → Far budget t state values' trail' q (left - 1)
       far-on k m q h a endNone e s = absurd (let d : To k m ≡ NoneLeft = s .0 in let z : _≡_ {A = ℕ} 0 1 = cc in omega arith)
       far-on k m q h a endFound e s = absurd (let d : To k m ≡ AllSet = s .0 in let z : _≡_ {A = ℕ} 0 1 = cc in omega arith)
@@ -194,51 +195,51 @@ module _ (clauses : List (List ℤ)) (v : ℕ) where
           let y : k ≡ kindAs kind = cc in
           let w : m ≡ length r = cc in
           let g : left ≡ suc (left - 1) = omega arith in
-          let c : tallyOf q ≡ count kind (tallyOf p) = a .tally-is ∙ ap (λ i. count i (tallyOf p)) (ap kindOf y ∙ kind-back kind) in
+          let c : stepsOf q ≡ count kind (stepsOf p) = ap stepsOf a ∙ ap (λ i. count i (stepsOf p)) (ap kindOf y ∙ kind-back kind) in
           record {
             at = r;
-            stored = rw (a .used-is ∙ w) (s .1);
+            stored = rw (ap (λ i. i .length) a ∙ w) (s .1);
             alike =
-                ap (λ i. run clauses v (left - 1) i r) c ∙ sym (run-step (left - 1) (tallyOf p) (f .at) kind r e)
-                ∙ ap (λ i. run clauses v i (tallyOf p) (f .at)) (sym g) ∙ f .alike;
+                ap (λ i. run clauses v (left - 1) i r) c ∙ sym (run-step (left - 1) (stepsOf p) (f .at) kind r e)
+                ∙ ap (λ i. run clauses v i (stepsOf p) (f .at)) (sym g) ∙ f .alike;
           }
 
       -- no step is left
-      pub far-emptied : (x : Next) (n : ℕ) (q : Progress) → next clauses v (f .at) ≡ x → None ≡ endAfter x → q .used ≡ 0 → tallyOf q ≡ tallyOf p
-          → Turned v (turn (f .at)) n values' trail' → Ended v (run clauses v budget t state) (record { end = None; progress = q }) values' trail'
-      far-emptied endNone n q e d l c s =
-          rw (by-none e) (record { end-is = refl; tally-is = c; stored = rw l (fresh (rw (next-none (f .at) _ (view clauses v (f .at)) e) at s)) })
+      pub far-emptied : (x : Next) (n : ℕ) (q : Position) → next clauses v (f .at) ≡ x → None ≡ endAfter x → q ≡ positionOf 0 (stepsOf p)
+          → Turned v (turn (f .at)) n values' trail' → Ended v (run clauses v budget t state) (record { end = None; position = q }) values' trail'
+      far-emptied endNone n q e d c s =
+          rw (by-none e, c) (record { end-is = refl; steps-are = refl; stored = (fresh (rw (next-none (f .at) _ (view clauses v (f .at)) e) at s)) })
         where
           fresh : Stored v [] values' trail' n → Stored v [] values' trail' 0
           fresh i = rw (i .used-is) at i
-      far-emptied endFound n q e d l c s = absurd (let z : _≡_ {A = ℕ} 0 1 = cc in omega arith)
-      far-emptied (step kind r) n q e d l c s = absurd (let z : _≡_ {A = ℕ} 0 1 = cc in omega arith)
+      far-emptied endFound n q e d c s = absurd (let z : _≡_ {A = ℕ} 0 1 = cc in omega arith)
+      far-emptied (step kind r) n q e d c s = absurd (let z : _≡_ {A = ℕ} 0 1 = cc in omega arith)
 
     pub far-full : (x : Next) → next clauses v (f .at) ≡ x → Found ≡ endAfter x
-        → Ended v (run clauses v budget t state) (record { end = Found; progress = p }) values trail
+        → Ended v (run clauses v budget t state) (record { end = Found; position = p }) values trail
     far-full endNone e d = absurd (let z : _≡_ {A = ℕ} 0 1 = cc in omega arith)
-    far-full endFound e d = rw (by-found e) (record { end-is = refl; tally-is = refl; stored = f .stored })
+    far-full endFound e d = rw (by-found e) (record { end-is = refl; steps-are = refl; stored = f .stored })
     far-full (step kind r) e d = absurd (let z : _≡_ {A = ℕ} 0 1 = cc in omega arith)
 
     pub far-spent : (x : Next) → left ≤ 0 → next clauses v (f .at) ≡ x → Spent ≡ endAfter x
-        → Ended v (run clauses v budget t state) (record { end = Spent; progress = p }) values trail
+        → Ended v (run clauses v budget t state) (record { end = Spent; position = p }) values trail
     far-spent endNone h e d = absurd (let z : _≡_ {A = ℕ} 0 1 = cc in omega arith)
     far-spent endFound h e d = absurd (let z : _≡_ {A = ℕ} 0 1 = cc in omega arith)
     far-spent (step kind r) h e d =
         let g : left ≡ 0 = omega arith in
-        rw (sym (f .alike) ∙ ap (λ i. run clauses v i (tallyOf p) (f .at)) g ∙ run-spent (tallyOf p) (f .at) kind r e)
-        (record { end-is = refl; tally-is = refl; stored = f .stored })
+        rw (sym (f .alike) ∙ ap (λ i. run clauses v i (stepsOf p) (f .at)) g ∙ run-spent (stepsOf p) (f .at) kind r e)
+        (record { end-is = refl; steps-are = refl; stored = f .stored })
 
 -- the loop of `run`: the steps done and left, the slices' lengths, and how far it has come from every state that they held at first
-pub record Loop (clauses : List (List ℤ)) (budget : ℕ) (values₀ : List ℕ) (trail₀ : List ℤ) (p₀ : Progress)
-    (values : List ℕ) (trail : List ℤ) (p : Progress) (left : ℕ) : Type 0 where
-  pub figure : total (tallyOf p) + left ≡ total (tallyOf p₀) + budget
+pub record Loop (clauses : List (List ℤ)) (budget : ℕ) (values₀ : List ℕ) (trail₀ : List ℤ) (p₀ : Position)
+    (values : List ℕ) (trail : List ℤ) (p : Position) (left : ℕ) : Type 0 where
+  pub figure : total (stepsOf p) + left ≡ total (stepsOf p₀) + budget
   pub wide : length values ≡ length values₀
   pub deep : length trail ≡ length trail₀
-  pub far : (state : State) → Stored (length values₀) state values₀ trail₀ (p₀ .used)
-      → Far clauses (length values₀) budget (tallyOf p₀) state values trail p left
+  pub far : (state : State) → Stored (length values₀) state values₀ trail₀ (p₀ .length)
+      → Far clauses (length values₀) budget (stepsOf p₀) state values trail p left
 
 -- a step more is done, and one less is left
-pub figure-on : (p q : Progress) (kind : StepKind) (m left s : ℕ) → Advanced p kind m q → 0 < left → total (tallyOf p) + left ≡ s
-    → total (tallyOf q) + (left - 1) ≡ s
-figure-on p q kind m left s a h e = omega (arith, ap total (a .tally-is), total-count (kindOf kind) (tallyOf p))
+pub figure-on : (p q : Position) (kind : StepKind) (m left s : ℕ) → q ≡ positionOf m (count (kindOf kind) (stepsOf p)) → 0 < left → total (stepsOf p) + left ≡ s
+    → total (stepsOf q) + (left - 1) ≡ s
+figure-on p q kind m left s a h e = omega (arith, ap (λ i. total (stepsOf i)) a, total-count (kindOf kind) (stepsOf p))

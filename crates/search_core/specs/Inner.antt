@@ -9,14 +9,14 @@ use Rattle.search_core.specs.declared.steps.StepKind.{StepKind}
 use Rattle.search_core.specs.declared.steps.StepKind.the-variants.{Propagation, Decision, Backtrack}
 use Rattle.search_core.specs.declared.steps.Moved.{Moved}
 use Rattle.search_core.specs.declared.steps.Moved.the-variants.{NoneLeft, AllSet, To}
-use Rattle.search_core.specs.declared.run.Progress.{Progress}
 use Rattle.search_core.specs.declared.run.End.{End}
 use Rattle.search_core.specs.declared.run.End.the-variants.{None, Found, Spent}
 use Rattle.search_core.specs.declared.run.Ran.{Ran}
-use Rattle.search_rules.specs.Held.{Stored}
+use Rattle.search_rules.specs.Held.{stepsOf, Stored}
 use Rattle.search_rules.specs.Rules.{State, Kind, propagation, decision, backtrack, Next, endNone, endFound, step}
-use Rattle.search_rules.specs.Run.{Tally, count, wasNone, wasFound, wasSpent}
+use Rattle.search_rules.specs.Run.{wasNone, wasFound, wasSpent}
 use Rattle.search_rules.specs.Run.{End as RunEnd}
+use Rattle.search_rules.specs.Counting.{stepsAt}
 
 pub record SomeStored (v : ℕ) (values : List ℕ) (trail : List ℤ) (n : ℕ) : Type 0 where
   pub state : State
@@ -39,17 +39,10 @@ Stepped v state endNone moved values trail = (moved ≡ NoneLeft) × Stored v []
 Stepped v state endFound moved values trail = (moved ≡ AllSet) × Stored v state values trail (length state)
 Stepped v state (step kind s) moved values trail = (moved ≡ To (kindAs kind) (length s)) × Stored v s values trail (length s)
 
-abbrev pub tallyOf : Progress → Tally
-tallyOf p = record { propagations = p .propagations; decisions = p .decisions; backtracks = p .backtracks }
-
 abbrev pub kindOf : StepKind → Kind
 kindOf Propagation = propagation
 kindOf Decision = decision
 kindOf Backtrack = backtrack
-
-pub record Advanced (p : Progress) (kind : StepKind) (n : ℕ) (r : Progress) : Type 0 where
-  pub used-is : r .used ≡ n
-  pub tally-is : tallyOf r ≡ count (kindOf kind) (tallyOf p)
 
 -- how the rules stand: spent where they go on
 abbrev pub endAfter : Next → End
@@ -62,11 +55,6 @@ endOf (wasNone t) = None
 endOf (wasFound t state) = Found
 endOf (wasSpent t state) = Spent
 
-abbrev pub tallyAt : RunEnd → Tally
-tallyAt (wasNone t) = t
-tallyAt (wasFound t state) = t
-tallyAt (wasSpent t state) = t
-
 abbrev pub stateAt : RunEnd → State
 stateAt (wasNone t) = []
 stateAt (wasFound t state) = state
@@ -75,5 +63,5 @@ stateAt (wasSpent t state) = state
 -- what `run` answers and leaves
 pub record Ended (v : ℕ) (end : RunEnd) (r : Ran) (values : List ℕ) (trail : List ℤ) : Type 0 where
   pub end-is : r .end ≡ endOf end
-  pub tally-is : tallyOf (r .progress) ≡ tallyAt end
-  pub stored : Stored v (stateAt end) values trail (r .progress .used)
+  pub steps-are : stepsOf (r .position) ≡ stepsAt end
+  pub stored : Stored v (stateAt end) values trail (r .position .length)

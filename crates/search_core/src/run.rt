@@ -8,25 +8,18 @@ ghost use Rattle.prelude.specs.Tests.{any};
 ghost use Rattle.clause_list.specs.ClauseList.{clausesOf};
 ghost use Rattle.literal.specs.Literals.{lastVariable};
 ghost use Rattle.search_rules.specs.Rules.{State, valuesOf, next};
-ghost use Rattle.search_rules.specs.Run.{total, run};
-ghost use Rattle.search_rules.specs.Held.{WasOpen, Stored};
+ghost use Rattle.search_rules.specs.Run.{total, count, run};
+ghost use Rattle.search_rules.specs.Held.{stepsOf, positionOf, WasOpen, Stored};
 ghost use Rattle.search_rules.specs.Inner.{Fine};
-ghost use Rattle.search_core.specs.Inner.{SomeStored, tallyOf, Advanced, endAfter, Ended};
+ghost use Rattle.search_core.specs.Inner.{SomeStored, kindOf, endAfter, Ended};
 use crate::steps::Moved;
 use crate::steps::StepKind;
 use crate::steps::back;
 use crate::steps::lowest_open;
 use crate::steps::step;
+use search_rules::Position;
 use search_scan::Seen;
 use search_scan::scan;
-
-// Where a run stands: how much of the trail is in use, and the steps done by kind.
-pub struct Progress {
-    pub used: usize,
-    pub propagations: u64,
-    pub decisions: u64,
-    pub backtracks: u64,
-}
 
 pub enum End {
     None,
@@ -36,29 +29,29 @@ pub enum End {
 
 pub struct Ran {
     pub end: End,
-    pub progress: Progress,
+    pub position: Position,
 }
 
-// The progress after one step more.
-fn advance(p: Progress, kind: StepKind, used: usize) -> Progress
-    requires { ⌜ total (tallyOf p) + 1 < 2 ^ 64 ⌝ }
-    ensures { λ r. ⌜ Advanced p kind used r ⌝ }
+// The position after one step more, with so much of the trail in use.
+fn advance(p: Position, kind: StepKind, length: usize) -> Position
+    requires { ⌜ total (stepsOf p) + 1 < 2 ^ 64 ⌝ }
+    ensures { λ r. ⌜ r ≡ positionOf length (count (kindOf kind) (stepsOf p)) ⌝ }
 {
     match kind {
-        StepKind::Propagation => Progress {
-            used,
+        StepKind::Propagation => Position {
+            length,
             propagations: p.propagations + 1,
             decisions: p.decisions,
             backtracks: p.backtracks,
         },
-        StepKind::Decision => Progress {
-            used,
+        StepKind::Decision => Position {
+            length,
             propagations: p.propagations,
             decisions: p.decisions + 1,
             backtracks: p.backtracks,
         },
-        StepKind::Backtrack => Progress {
-            used,
+        StepKind::Backtrack => Position {
+            length,
             propagations: p.propagations,
             decisions: p.decisions,
             backtracks: p.backtracks + 1,
@@ -108,34 +101,34 @@ fn ends(list: &[i32], values: &[u8]) -> End
     }
 }
 
-// The run from the state that the slices and the progress hold.
-pub fn run(list: &[i32], values: &mut [u8], trail: &mut [i32], start: Progress, budget: u64) -> Ran
+// The run from the state that the slices and the position hold.
+pub fn run(list: &[i32], values: &mut [u8], trail: &mut [i32], start: Position, budget: u64) -> Ran
     requires { ⌜ Fine (length (now values)) (now list) ⌝ }
     requires { ⌜ length (now values) ≤ lastVariable ⌝ }
-    requires { ⌜ SomeStored (length (now values)) (now values) (now trail) (start .used) ⌝ }
-    requires { ⌜ total (tallyOf start) + budget < 2 ^ 64 ⌝ }
-    ensures { λ r. ⌜ ((state : State) → Stored (length (now (values .entry))) state (now (values .entry)) (now (trail .entry)) (start .used)
+    requires { ⌜ SomeStored (length (now values)) (now values) (now trail) (start .length) ⌝ }
+    requires { ⌜ total (stepsOf start) + budget < 2 ^ 64 ⌝ }
+    ensures { λ r. ⌜ ((state : State) → Stored (length (now (values .entry))) state (now (values .entry)) (now (trail .entry)) (start .length)
         → Ended (length (now (values .entry)))
-        (run (clausesOf (now (list .entry))) (length (now (values .entry))) budget (tallyOf start) state)
+        (run (clausesOf (now (list .entry))) (length (now (values .entry))) budget (stepsOf start) state)
         r (now (values .exit)) (now (trail .exit))) ⌝ }
 {
-    let mut progress = start;
+    let mut position = start;
     let mut left = budget;
     while left > 0 {
-        let used = progress.used;
+        let used = position.length;
         let moved = step(list, values, trail, used);
         match moved {
             Moved::NoneLeft => {
                 let end = End::None;
-                let progress = emptied(progress);
-                return Ran { end, progress };
+                let position = emptied(position);
+                return Ran { end, position };
             }
             Moved::AllSet => {
                 let end = End::Found;
-                return Ran { end, progress };
+                return Ran { end, position };
             }
             Moved::To(kind, n) => {
-                progress = advance(progress, kind, n);
+                position = advance(position, kind, n);
             }
         }
         left -= 1;
@@ -143,22 +136,22 @@ pub fn run(list: &[i32], values: &mut [u8], trail: &mut [i32], start: Progress, 
     let end = ends(list, values);
     match end {
         End::None => {
-            let used = progress.used;
+            let used = position.length;
             back(values, trail, used);
-            let progress = emptied(progress);
-            Ran { end, progress }
+            let position = emptied(position);
+            Ran { end, position }
         }
-        End::Found => Ran { end, progress },
-        End::Spent => Ran { end, progress },
+        End::Found => Ran { end, position },
+        End::Spent => Ran { end, position },
     }
 }
 
-// The progress of a fresh state, with the steps done.
-fn emptied(p: Progress) -> Progress
-    ensures { λ r. ⌜ (r .used ≡ 0) × (tallyOf r ≡ tallyOf p) ⌝ }
+// The position of a fresh state, with the steps done.
+fn emptied(p: Position) -> Position
+    ensures { λ r. ⌜ r ≡ positionOf 0 (stepsOf p) ⌝ }
 {
-    Progress {
-        used: 0,
+    Position {
+        length: 0,
         propagations: p.propagations,
         decisions: p.decisions,
         backtracks: p.backtracks,

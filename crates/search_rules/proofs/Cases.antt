@@ -9,7 +9,7 @@ use Rattle.clause_list.specs.Marked.{k1, k2}
 use Rattle.search_rules.specs.Rules.{truthOf, negated, literal, isFalsified, isSatisfied, conflict, openOf, sameLiteral, only, unitOf}
 use Rattle.search_rules.specs.Rules.{firstUnit, lowestOpen, wordOf, byteOf, placeOf, valuesOf, turn, decide, next, propagated}
 use Rattle.search_rules.specs.Rules.{decided}
-use Rattle.search_rules.specs.Run.{Tally, zeros, count, End, wasNone, wasFound, wasSpent, run}
+use Rattle.search_rules.specs.Run.{tally, zeros, count, End, wasNone, wasFound, wasSpent, run}
 
 -- clauses in 32-bit words, v, a budget, and how the run from a fresh start ends
 record Row : Type 0 where
@@ -17,9 +17,6 @@ record Row : Type 0 where
   v : ℕ
   budget : ℕ
   end : End
-
-abbrev tally : ℕ → ℕ → ℕ → Tally
-tally p d b = record { propagations = p; decisions = d; backtracks = b }
 
 abbrev rows : List Row
 rows =

@@ -7,6 +7,7 @@ pub mod Found
 pub mod Reached
 pub mod Theorems
 pub mod Again
+pub mod Counting
 pub mod Trails
 mod Conditions
 mod Decoding

@@ -7,8 +7,9 @@ use Prim.Native.Nat.{ℕ, zero, suc, _+_, _-_, _≤_}
 use native.Mathlib.Omega.{arith}
 use native.Mathlib.Nat.{zero-add, suc-add}
 use lib.IntN.{ℤ}
+use Rattle.search_rules.specs.declared.Steps.{Steps}
 use Rattle.search_rules.specs.Rules.{State, Kind, Next, endNone, endFound, step, next}
-use Rattle.search_rules.specs.Run.{Tally, total, count, End, wasNone, wasFound, wasSpent, run, after, EndedWithin}
+use Rattle.search_rules.specs.Run.{total, count, End, wasNone, wasFound, wasSpent, run, after, EndedWithin}
 use Rattle.search_rules.proofs.StepView.{Ends, run-ends, total-count}
 
 module _ (clauses : List (List ℤ)) (v : ℕ) where
@@ -38,16 +39,16 @@ module _ (clauses : List (List ℤ)) (v : ℕ) where
   after-end (suc n) state s (inr h) e = absurd (let d : none ≡ some s = rw (h, after) at e in let z : _≡_ {A = ℕ} 0 1 = cc in omega arith)
 
   -- so many steps from the start, all counted
-  pub record Reached (t₀ : Tally) (start : State) (t : Tally) (state : State) : Type 0 where
+  pub record Reached (t₀ : Steps) (start : State) (t : Steps) (state : State) : Type 0 where
     pub done : ℕ
     pub is-after : after clauses v done start ≡ some state
     pub figure : total t ≡ total t₀ + done
 
-  reached-start : (t : Tally) (start : State) → Reached t start t start
+  reached-start : (t : Steps) (start : State) → Reached t start t start
   unfolding after
   reached-start t start = record { done = 0; is-after = refl; figure = omega arith }
 
-  reached-step : (t₀ : Tally) (start : State) (t : Tally) (state : State) (kind : Kind) (s : State) → Reached t₀ start t state
+  reached-step : (t₀ : Steps) (start : State) (t : Steps) (state : State) (kind : Kind) (s : State) → Reached t₀ start t state
       → next clauses v state ≡ step kind s → Reached t₀ start (count kind t) s
   reached-step t₀ start t state kind s r e = record {
     done = r .done + 1;
@@ -56,19 +57,19 @@ module _ (clauses : List (List ℤ)) (v : ℕ) where
   }
 
   -- where a run ends, by the steps done in it
-  pub reached-ends : (n : ℕ) (t : Tally) (start : State) (end : End) → run clauses v n t start ≡ end
+  pub reached-ends : (n : ℕ) (t : Steps) (start : State) (end : End) → run clauses v n t start ≡ end
       → Ends (λ t' s. Reached t start t' s) clauses v (total t + n) end
   reached-ends n t start end e =
       run-ends clauses v (λ t' s. Reached t start t' s) (reached-step t start) n t start end (reached-start t start) e
 
-  pub ended-none : (n : ℕ) (t t' : Tally) (start : State) → run clauses v n t start ≡ wasNone t' → EndedWithin clauses v n start
+  pub ended-none : (n : ℕ) (t t' : Steps) (start : State) → run clauses v n t start ≡ wasNone t' → EndedWithin clauses v n start
   unfolding Ends
   ended-none n t t' start e =
       let p = reached-ends n t start (wasNone t') e in
       let l : p .1 .done ≤ n = (let f = p .1 .figure in let m = p .3 in omega arith) in
       record { steps = p .1 .done; within = l; state = p .0; reached = p .1 .is-after; ends = inl (p .2) }
 
-  pub ended-found : (n : ℕ) (t t' : Tally) (start s : State) → run clauses v n t start ≡ wasFound t' s → EndedWithin clauses v n start
+  pub ended-found : (n : ℕ) (t t' : Steps) (start s : State) → run clauses v n t start ≡ wasFound t' s → EndedWithin clauses v n start
   unfolding Ends
   ended-found n t t' start s e =
       let p = reached-ends n t start (wasFound t' s) e in
@@ -76,12 +77,12 @@ module _ (clauses : List (List ℤ)) (v : ℕ) where
       record { steps = p .0 .done; within = l; state = s; reached = p .0 .is-after; ends = inr (p .1) }
 
   -- a spent run: all steps are done, and another would follow
-  pub record Spending (n : ℕ) (t : Tally) (start : State) (t' : Tally) (s : State) : Type 0 where
+  pub record Spending (n : ℕ) (t : Steps) (start : State) (t' : Steps) (s : State) : Type 0 where
     pub is-after : after clauses v n start ≡ some s
     pub figure : total t' ≡ total t + n
     pub goes-on : (kind : Kind) × (s' : State) × (next clauses v s ≡ step kind s')
 
-  pub spending : (n : ℕ) (t t' : Tally) (start s : State) → run clauses v n t start ≡ wasSpent t' s → Spending n t start t' s
+  pub spending : (n : ℕ) (t t' : Steps) (start s : State) → run clauses v n t start ≡ wasSpent t' s → Spending n t start t' s
   unfolding Ends
   spending n t t' start s e =
       let p = reached-ends n t start (wasSpent t' s) e in
@@ -99,12 +100,12 @@ module _ (clauses : List (List ℤ)) (v : ℕ) where
       let x : (next clauses v s ≡ endNone) ⊎ (next clauses v s ≡ endFound) = rw q at (w .ends) in
       ⊎-elim (λ y. let z : _≡_ {A = ℕ} 0 1 = cc in omega arith) (λ y. let z : _≡_ {A = ℕ} 0 1 = cc in omega arith) x
 
-  pub spent-not-ended : (n : ℕ) (t t' : Tally) (start s : State) → run clauses v n t start ≡ wasSpent t' s → EndedWithin clauses v n start → ⊥
+  pub spent-not-ended : (n : ℕ) (t t' : Steps) (start s : State) → run clauses v n t start ≡ wasSpent t' s → EndedWithin clauses v n start → ⊥
   spent-not-ended n t t' start s e w =
       let p = spending n t t' start s e in goes-not-ended n start s (p .goes-on .0) (p .goes-on .1) (p .is-after) (p .goes-on .2) w
 
-  pub ended-or-spent : (n : ℕ) (t : Tally) (start : State) (end : End) → run clauses v n t start ≡ end
-      → EndedWithin clauses v n start ⊎ ((t' : Tally) × (s : State) × (run clauses v n t start ≡ wasSpent t' s))
+  pub ended-or-spent : (n : ℕ) (t : Steps) (start : State) (end : End) → run clauses v n t start ≡ end
+      → EndedWithin clauses v n start ⊎ ((t' : Steps) × (s : State) × (run clauses v n t start ≡ wasSpent t' s))
   ended-or-spent n t start (wasNone t') e = inl (ended-none n t t' start e)
   ended-or-spent n t start (wasFound t' s) e = inl (ended-found n t t' start s e)
   ended-or-spent n t start (wasSpent t' s) e = inr (t', s, e)

@@ -8,9 +8,10 @@ use lib.IntN.{ℤ, pos, negsuc}
 use lib.ListN.{take}
 use Rattle.prelude.specs.Tests.{each, all, any}
 use Rattle.clause_list.specs.ClauseList.{cut, clausesOf, Satisfying}
+use Rattle.search_rules.specs.declared.Steps.{Steps}
 use Rattle.search_rules.specs.Rules.{truthOf, negated, literal, isFalsified, conflict, sameLiteral, State, propagated, decided}
 use Rattle.search_rules.specs.Rules.{wordOf, byteOf, placeOf, valuesOf, turn, next}
-use Rattle.search_rules.specs.Run.{zeros, wasNone, run}
+use Rattle.search_rules.specs.Run.{tally, zeros, total, wasNone, run}
 use Rattle.search_rules.specs.Held.{tooLong, strays, repeats, goesWith, contradicts, setOutside, filledOutside, noState, tooMany}
 use Rattle.search_rules.specs.Held.{entryOf, stateIn}
 
@@ -126,23 +127,44 @@ pub state-cases : map verdictOf rows ≡ map (λ row. row .verdict) rows
 unfolding sameLiteral placeOf repeats goesWith noState entryOf stateIn each any
 state-cases = refl
 
--- steps done and steps allowed, and whether they pass 2^64 - 1 together
-record Steps : Type 0 where
-  done : ℕ
+-- steps done, by kind, and steps allowed, and whether they pass 2^64 - 1 together
+record Figures : Type 0 where
+  done : Steps
   allowed : ℕ
   passing : Bool
 
-abbrev figures : List Steps
-figures =
-    record { done = 0; allowed = 18446744073709551615; passing = false }
-    ∷ record { done = 1; allowed = 18446744073709551615; passing = true }
-    ∷ record { done = 18446744073709551615; allowed = 0; passing = false }
-    ∷ record { done = 18446744073709551615; allowed = 1; passing = true }
-    ∷ record { done = 9223372036854775808; allowed = 9223372036854775807; passing = false }
-    ∷ record { done = 18446744073709551615; allowed = 18446744073709551615; passing = true }
+abbrev figures : ℕ → ℕ → ℕ → ℕ → Bool → Figures
+figures p d b allowed passing = record { done = tally p d b; allowed = allowed; passing = passing }
+
+-- 2^64 - 1, its third, and 2^63
+abbrev most : ℕ
+most = 18446744073709551615
+
+abbrev third : ℕ
+third = 6148914691236517205
+
+abbrev half : ℕ
+half = 9223372036854775808
+
+abbrev sums : List Figures
+sums =
+    -- none done; one done, of each kind
+    figures 0 0 0 most false
+    ∷ figures 1 0 0 most true ∷ figures 0 1 0 most true ∷ figures 0 0 1 most true
+    -- all done, in one kind, in two, in three
+    ∷ figures most 0 0 0 false ∷ figures 0 most 0 0 false ∷ figures 0 0 most 0 false
+    ∷ figures half 0 9223372036854775807 0 false ∷ figures third third third 0 false
+    ∷ figures most 0 0 1 true ∷ figures 0 most 0 1 true ∷ figures 0 0 most 1 true
+    ∷ figures half 0 9223372036854775807 1 true ∷ figures third third third 1 true
+    -- half and half
+    ∷ figures 0 half 0 9223372036854775807 false ∷ figures 0 half 0 half true
+    -- the three alone pass it; in 64 bits they would come to 0, 0, half and 2^64 - 3
+    ∷ figures half half 0 0 true ∷ figures most 0 1 0 true ∷ figures half half half 0 true ∷ figures most most most 0 true
+    ∷ figures most most most most true
     ∷ []
 
-pub step-cases : map (λ row. tooMany (row .done) (row .allowed)) figures ≡ map (λ row. row .passing) figures
+pub step-cases : map (λ row. tooMany (row .done) (row .allowed)) sums ≡ map (λ row. row .passing) sums
+unfolding total
 step-cases = refl
 
 -- (1 2) with -1 and -2 on the trail: 14 lets the state pass, the rules end with "none" at once, and yet an assignment satisfies the clause.

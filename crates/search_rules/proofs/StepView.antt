@@ -9,10 +9,11 @@ use native.Mathlib.Omega.{arith}
 use native.Mathlib.Nat.{zero-add, add-zero, suc-add, add-suc}
 use lib.IntN.{ℤ, pos}
 use lib.ListN.{length, getD}
+use Rattle.search_rules.specs.declared.Steps.{Steps}
 use Rattle.search_rules.specs.Rules.{truthOf, conflict, firstUnit, lowestOpen}
 use Rattle.search_rules.specs.Rules.{propagated, decided, State, valuesOf, Kind, propagation, decision, backtrack, Next, endNone}
 use Rattle.search_rules.specs.Rules.{endFound, step, turn, decide, next}
-use Rattle.search_rules.specs.Run.{Tally, total, count, End, wasNone, wasFound, wasSpent, run}
+use Rattle.search_rules.specs.Run.{total, count, End, wasNone, wasFound, wasSpent, run}
 
 -- no value is open
 abbrev pub Full : List ℕ → Type 0
@@ -101,21 +102,21 @@ module _ (clauses : List (List ℤ)) (v : ℕ) where
       by true c = ⊎-elim (λ d. ends-none d c d) (λ d. backtracks (d .1) c (d .1)) (turns-of state)
       by false c = unit (firstUnit values clauses) refl c
 
-pub total-count : (kind : Kind) (t : Tally) → total (count kind t) ≡ suc (total t)
+pub total-count : (kind : Kind) (t : Steps) → total (count kind t) ≡ suc (total t)
 unfolding total count
 total-count propagation t = omega arith
 total-count decision t = omega arith
 total-count backtrack t = omega arith
 
 -- what a run ends with, of a fact that every step keeps; b is the step figure at which it is spent
-unfoldable pub Ends : (Tally → State → Type 0) → List (List ℤ) → ℕ → ℕ → End → Type 0
+unfoldable pub Ends : (Steps → State → Type 0) → List (List ℤ) → ℕ → ℕ → End → Type 0
 Ends P clauses v b (wasNone t) = (s : State) × P t s × (next clauses v s ≡ endNone) × (total t ≤ b)
 Ends P clauses v b (wasFound t s) = P t s × (next clauses v s ≡ endFound) × (total t ≤ b)
 Ends P clauses v b (wasSpent t s) = P t s × ((kind : Kind) × (s' : State) × (next clauses v s ≡ step kind s')) × (total t ≡ b)
 
-module _ (clauses : List (List ℤ)) (v : ℕ) (P : Tally → State → Type 0)
-    (keep : (t : Tally) (state : State) (kind : Kind) (s : State) → P t state → next clauses v state ≡ step kind s → P (count kind t) s) where
-  ends-here : (b n : ℕ) (t : Tally) (state : State) → P t state → b ≡ total t + n → (x : Next) → next clauses v state ≡ x
+module _ (clauses : List (List ℤ)) (v : ℕ) (P : Steps → State → Type 0)
+    (keep : (t : Steps) (state : State) (kind : Kind) (s : State) → P t state → next clauses v state ≡ step kind s → P (count kind t) s) where
+  ends-here : (b n : ℕ) (t : Steps) (state : State) → P t state → b ≡ total t + n → (x : Next) → next clauses v state ≡ x
       → ((kind : Kind) (s : State) → x ≡ step kind s → Ends P clauses v b (run clauses v n t state))
       → Ends P clauses v b (run clauses v n t state)
   unfolding run Ends
@@ -125,7 +126,7 @@ module _ (clauses : List (List ℤ)) (v : ℕ) (P : Tally → State → Type 0)
   ends-here b (suc n) t state p q endFound e h = rw (e, run) (p, e, omega arith)
   ends-here b n t state p q (step kind s) e h = h kind s refl
 
-  run-ends-at : (b n : ℕ) (t : Tally) (state : State) → P t state → b ≡ total t + n → Ends P clauses v b (run clauses v n t state)
+  run-ends-at : (b n : ℕ) (t : Steps) (state : State) → P t state → b ≡ total t + n → Ends P clauses v b (run clauses v n t state)
   unfolding run Ends
   run-ends-at b zero t state p q =
       ends-here b zero t state p q (next clauses v state) refl (λ kind s e. rw (e, run) (p, (kind, s, e), omega arith))
@@ -134,6 +135,6 @@ module _ (clauses : List (List ℤ)) (v : ℕ) (P : Tally → State → Type 0)
       (λ kind s e. rw (e, run) (run-ends-at b n (count kind t) s (keep t state kind s p e) (omega (arith, total-count kind t))))
 
   -- the one induction on the run
-  pub run-ends : (n : ℕ) (t : Tally) (state : State) (end : End) → P t state → run clauses v n t state ≡ end
+  pub run-ends : (n : ℕ) (t : Steps) (state : State) (end : End) → P t state → run clauses v n t state ≡ end
       → Ends P clauses v (total t + n) end
   run-ends n t state end p d = rw d at (run-ends-at (total t + n) n t state p refl)

@@ -9,8 +9,9 @@ use native.Mathlib.Omega.{arith}
 use native.Mathlib.Nat.{zero-add, suc-add}
 use lib.IntN.{ℤ}
 use Rattle.clause_list.specs.ClauseList.{Satisfying}
+use Rattle.search_rules.specs.declared.Steps.{Steps}
 use Rattle.search_rules.specs.Rules.{State, Kind, Next, endNone, endFound, step, valuesOf, next}
-use Rattle.search_rules.specs.Run.{Tally, zeros, total, count, End, wasNone, wasFound, wasSpent, run, after, EndedWithin}
+use Rattle.search_rules.specs.Run.{zeros, total, count, End, wasNone, wasFound, wasSpent, run, after, EndedWithin}
 use Rattle.search_rules.specs.Rules.{settle}
 use Rattle.search_rules.proofs.Assignments.{Follows, assignment, model-of}
 use Rattle.search_rules.proofs.Ranges.{Ranged}
@@ -36,7 +37,7 @@ module _ (clauses : List (List ℤ)) (v : ℕ) where
       by (step kind s') d on e = on s' (follows-keeps clauses v (assignment a) (model-of a clauses (s .holds)) start kind s' f d) e
 
   -- "none" from a state that the rules reach from a fresh start only if no assignment satisfies all clauses
-  pub none-reached : (k budget : ℕ) (t t' : Tally) (state : State) → after clauses v k [] ≡ some state
+  pub none-reached : (k budget : ℕ) (t t' : Steps) (state : State) → after clauses v k [] ≡ some state
       → run clauses v budget t state ≡ wasNone t' → (a : List ℕ) → Satisfying v clauses a → ⊥
   unfolding Ends Follows
   none-reached k budget t t' state r e a s =
@@ -47,12 +48,12 @@ module _ (clauses : List (List ℤ)) (v : ℕ) where
       follows-not-none clauses v (assignment a) m (p .0) (p .1) (p .2)
 
   -- and so from a fresh start
-  pub none-unsatisfiable : (budget : ℕ) (t : Tally) → run clauses v budget zeros [] ≡ wasNone t → (a : List ℕ) → Satisfying v clauses a → ⊥
+  pub none-unsatisfiable : (budget : ℕ) (t : Steps) → run clauses v budget zeros [] ≡ wasNone t → (a : List ℕ) → Satisfying v clauses a → ⊥
   unfolding after
   none-unsatisfiable budget t e = none-reached 0 budget zeros t [] refl e
 
   -- "found", from any state, only with values, each 0 or 1, that satisfy every clause
-  pub found-satisfies : Ranged v clauses → (budget : ℕ) (t t' : Tally) (state s : State) → run clauses v budget t state ≡ wasFound t' s
+  pub found-satisfies : Ranged v clauses → (budget : ℕ) (t t' : Steps) (state s : State) → run clauses v budget t state ≡ wasFound t' s
       → Satisfying v clauses (map settle (valuesOf v s))
   unfolding Ends
   found-satisfies r budget t t' state s e =
@@ -60,15 +61,15 @@ module _ (clauses : List (List ℤ)) (v : ℕ) where
       found-satisfying clauses v r s (p .1)
 
   -- "spent" exactly when no end is reached after at most n steps
-  pub spent-exactly : (n : ℕ) (t : Tally) (start : State)
-      → ((t' : Tally) × (s : State) × (run clauses v n t start ≡ wasSpent t' s)) ↔ (EndedWithin clauses v n start → ⊥)
+  pub spent-exactly : (n : ℕ) (t : Steps) (start : State)
+      → ((t' : Steps) × (s : State) × (run clauses v n t start ≡ wasSpent t' s)) ↔ (EndedWithin clauses v n start → ⊥)
   spent-exactly n t start = (
     λ h. spent-not-ended clauses v n t (h .0) start (h .1) (h .2),
     λ h. ⊎-elim (λ w. absurd (h w)) (λ x. x) (ended-or-spent clauses v n t start (run clauses v n t start) refl),
   )
 
   -- the state is then the one after n steps, and n steps are counted
-  pub spent-state : (n : ℕ) (t t' : Tally) (start s : State) → run clauses v n t start ≡ wasSpent t' s
+  pub spent-state : (n : ℕ) (t t' : Steps) (start s : State) → run clauses v n t start ≡ wasSpent t' s
       → (after clauses v n start ≡ some s) × (total t' ≡ total t + n)
   spent-state n t t' start s e = let p = spending clauses v n t t' start s e in (p .is-after, p .figure)
 
@@ -79,7 +80,7 @@ module _ (clauses : List (List ℤ)) (v : ℕ) where
   again n (wasSpent t s) = run clauses v n t s
 
   -- m + n steps are m steps and then n
-  pub resume : (m n : ℕ) (t : Tally) (state : State) → run clauses v (m + n) t state ≡ again n (run clauses v m t state)
+  pub resume : (m n : ℕ) (t : Steps) (state : State) → run clauses v (m + n) t state ≡ again n (run clauses v m t state)
   unfolding run again
   resume zero n t state = rw (zero-add n) (by n (next clauses v state) refl)
     where

@@ -1,4 +1,4 @@
--- The state that slices and a record hold, and number 14 (document 02, Change 1).
+-- The state that slices and a record hold, and number 14 (document 02, Changes 1 and 3).
 use mathlib.Core.Path.{_≡_}
 use mathlib.Core.Bool.{Bool, true, false, not, cond, _||_}
 use mathlib.Core.List.{List, [], _∷_}
@@ -8,7 +8,10 @@ use lib.IntN.{ℤ, pos, negsuc, natAbs}
 use lib.ListN.{length, getD, take, drop}
 use Rattle.prelude.specs.Tests.{each, any}
 use Rattle.literal.specs.Literals.{isLiteral}
+use Rattle.search_rules.specs.declared.Steps.{Steps}
+use Rattle.search_rules.specs.declared.Position.{Position}
 use Rattle.search_rules.specs.Rules.{sameLiteral, Entry, propagated, decided, State, wordOf, placeOf, valuesOf, trailOf}
+use Rattle.search_rules.specs.Run.{total}
 
 -- The conditions of 14 STATE, in the order of its sentence. `values` and `trail` are the first v bytes and words that are lent, n is the
 -- record's length, and `literals` are the first n words.
@@ -54,12 +57,19 @@ noState v values trail n =
     tooLong v n || (strays v literals || (repeats literals || (contradicts values literals
     || (setOutside v values literals || filledOutside trail n))))
 
+-- the steps done that a record has, by kind, and the record of a length and such steps (Change 3)
+abbrev pub stepsOf : Position → Steps
+stepsOf p = record { propagations = p .propagations; decisions = p .decisions; backtracks = p .backtracks }
+
+abbrev pub positionOf : ℕ → Steps → Position
+positionOf n t = record { length = n; propagations = t .propagations; decisions = t .decisions; backtracks = t .backtracks }
+
 -- "or steps done and allowed together pass 2^64 - 1"
 abbrev pub stepLimit : ℕ
 stepLimit = 18446744073709551615
 
-abbrev pub tooMany : ℕ → ℕ → Bool
-tooMany done allowed = ltb stepLimit (done + allowed)
+abbrev pub tooMany : Steps → ℕ → Bool
+tooMany done allowed = ltb stepLimit (total done + allowed)
 
 -- The state that values, trail and length hold.
 

@@ -2,4 +2,5 @@
 pub mod Rules
 pub mod Run
 pub mod Held
+pub mod Counting
 pub mod Inner

@@ -5,34 +5,33 @@ use mathlib.Core.List.{List}
 use mathlib.Core.Option.{Option, none, some}
 use Prim.Native.Nat.{ℕ, zero, suc, _+_, _≤_}
 use lib.IntN.{ℤ}
+use Rattle.search_rules.specs.declared.Steps.{Steps}
 use Rattle.search_rules.specs.Rules.{State, Kind, propagation, decision, backtrack, endNone, endFound, step, next}
 
--- "Force, choice and turn count one step each": the steps done, by kind
-pub record Tally : Type 0 where
-  pub propagations : ℕ
-  pub decisions : ℕ
-  pub backtracks : ℕ
+-- "Force, choice and turn count one step each": the steps done, by kind, are three counters (src/lib.rt)
+abbrev pub tally : ℕ → ℕ → ℕ → Steps
+tally p d b = record { propagations = p; decisions = d; backtracks = b }
 
-abbrev pub zeros : Tally
-zeros = record { propagations = 0; decisions = 0; backtracks = 0 }
+abbrev pub zeros : Steps
+zeros = tally 0 0 0
 
--- the step figure
-unfoldable pub total : Tally → ℕ
+-- "The steps done of Change 1 are the three together": the step figure
+unfoldable pub total : Steps → ℕ
 total t = t .propagations + t .decisions + t .backtracks
 
-unfoldable pub count : Kind → Tally → Tally
+unfoldable pub count : Kind → Steps → Steps
 count propagation t = record { propagations = suc (t .propagations); decisions = t .decisions; backtracks = t .backtracks }
 count decision t = record { propagations = t .propagations; decisions = suc (t .decisions); backtracks = t .backtracks }
 count backtrack t = record { propagations = t .propagations; decisions = t .decisions; backtracks = suc (t .backtracks) }
 
 -- how a run ends: the steps done, and the state where there is one
 pub data End : Type 0 where
-  wasNone : Tally → End
-  wasFound wasSpent : Tally → State → End
+  wasNone : Steps → End
+  wasFound wasSpent : Steps → State → End
 
 -- "ends count nothing. If the budget's steps (a 64-bit number, 0 allowed) are done and no end is reached, the answer is "spent" and the state stays."
 -- The run from a state, with a budget of n steps, where t counts those done before.
-unfoldable pub run : List (List ℤ) → ℕ → ℕ → Tally → State → End
+unfoldable pub run : List (List ℤ) → ℕ → ℕ → Steps → State → End
 run clauses v zero t state =
     elim (next clauses v state) [ endNone ↦ wasNone t | endFound ↦ wasFound t state | step kind state' ↦ wasSpent t state ]
 run clauses v (suc n) t state =

@@ -1,4 +1,4 @@
-// Number 14 but for the steps (document 02, Change 1): whether values, trail and a length hold a state of the rules.
+// Number 14 (document 02, Changes 1 and 3): whether values, trail and a length hold a state of the rules, and whether the steps are too many.
 ghost use mathlib.Core.Path.{_≡_};
 ghost use mathlib.Core.Bool.{not, _&&_};
 ghost use Prim.Native.Nat.{_≤_};
@@ -7,8 +7,12 @@ ghost use lib.ListN.{length, getD};
 ghost use Rattle.prelude.specs.Tests.{each, any};
 ghost use Rattle.literal.specs.Literals.{isLiteral};
 ghost use Rattle.search_rules.specs.Rules.{sameLiteral, placeOf};
-ghost use Rattle.search_rules.specs.Held.{goesWith, noState};
+ghost use Rattle.search_rules.specs.Held.{goesWith, noState, stepsOf, tooMany};
 ghost use Rattle.search_state.specs.Inner.{MarkedIf, Empty, settled};
+use search_rules::Position;
+
+// The steps that are counted at most.
+const STEP_LIMIT: u64 = 18446744073709551615;
 
 // Whether a literal goes with the byte of its variable.
 fn goes_with(l: i32, b: u8) -> bool
@@ -125,4 +129,19 @@ pub fn is_state(values: &[u8], trail: &[i32], used: usize) -> bool
     }
     let mut seen = [false; 16000];
     holds(values, trail, used, &mut seen)
+}
+
+// Whether the steps done, of all three kinds, and those allowed pass 2^64 - 1. What is left of it is told, so that no sum wraps.
+pub fn too_many(done: Position, budget: u64) -> bool
+    ensures { λ r. ⌜ r ≡ tooMany (stepsOf done) budget ⌝ }
+{
+    let after_propagations = STEP_LIMIT - done.propagations;
+    if after_propagations < done.decisions {
+        return true;
+    }
+    let after_decisions = after_propagations - done.decisions;
+    if after_decisions < done.backtracks {
+        return true;
+    }
+    after_decisions - done.backtracks < budget
 }

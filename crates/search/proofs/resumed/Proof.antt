@@ -2,17 +2,18 @@
 use mathlib.Core.Path.{_≡_, sym, _∙_}
 use mathlib.Core.Bool.{true, false, not}
 use mathlib.Core.List.{List}
-use Prim.Native.Nat.{ℕ, _≤_}
+use Prim.Native.Nat.{ℕ, _+_, _<_, _≤_}
 use native.Mathlib.Omega.{arith}
 use lib.IntN.{ℤ}
 use lib.ListN.{length, take}
 use lib.Seq.{length-take-le}
 use borrow.Author.Needs.{needs}
-use borrow.Author.Tests.{not-true, not-false}
+use borrow.Author.Tests.{not-true, not-false, ltb-true, ltb-false}
 use Rattle.clause_list.specs.ClauseList.{isList}
 use Rattle.clause_list.proofs.Laws.{list-most-variables}
 use Rattle.search_rules.specs.Rules.{State}
-use Rattle.search_rules.specs.Held.{noState, Stored}
+use Rattle.search_rules.specs.Run.{total}
+use Rattle.search_rules.specs.Held.{stepsOf, noState, stepLimit, Stored}
 use Rattle.search_rules.proofs.StateHeld.{holds-state}
 use Rattle.search_rules.proofs.Ranges.{fine-list}
 use Rattle.refusal.specs.declared.Refusal.the-variants.{Short}
@@ -140,8 +141,17 @@ returns-4 c =
     declines-back (v t) refusal.State _ _ _ _ _ (c .refused4 .ensures .0) (c .refused4 .ensures .1)
     (no-state _ _ _ _ _ _ (listed t) (in-values t) (in-trail t) (refuses-state (c .before .before .before .before)))
 
-sub-if5 : tie.Need-sub-if5
-sub-if5 c = search needs
+too-many-requires : tie.Need-too-many-requires
+too-many-requires c κs = search needs
+
+-- what the test of the steps says
+too-many-steps : (c : tie.Then5)
+    → stepLimit < total (stepsOf (from (c .before .before .before) .args .position)) + from (c .before .before .before) .args .budget
+too-many-steps c = ltb-true _ _ (sym (c .before .too-many .ensures) ∙ c .if5 .taken)
+
+few-steps : (c : tie.Else5)
+    → total (stepsOf (from (c .before .before .before) .args .position)) + from (c .before .before .before) .args .budget ≤ stepLimit
+few-steps c = ltb-false _ _ (sym (c .before .too-many .ensures) ∙ c .if5 .left)
 
 refused-requires-5 : tie.Need-refused-requires-5
 refused-requires-5 c κs = search needs
@@ -156,7 +166,7 @@ returns-5 : tie.Need-returns-5
 returns-5 c =
     let t = c .before .before .before .before .before .before .before .before .before .before in
     declines-back (v t) refusal.State _ _ _ _ _ (c .refused5 .ensures .0) (c .refused5 .ensures .1)
-    (too-many _ _ _ _ _ _ (listed t) (in-values t) (in-trail t) (let h = c .before .before .before .before .if5 .taken in omega arith))
+    (too-many _ _ _ _ _ _ (listed t) (in-values t) (in-trail t) (too-many-steps (c .before .before .before .before)))
 
 go-on-requires : tie.Need-go-on-requires
 go-on-requires c κs =
@@ -165,7 +175,7 @@ go-on-requires c κs =
       rw (wide t) (fine-list _ _ (listed t)),
       (
         rw (wide t) (omega (arith, list-most-variables _ _ (listed t))),
-        (record { state = state e; stored = rw (wide t) (stored e) }, let h = c .if5 .left in omega arith),
+        (record { state = state e; stored = rw (wide t) (stored e) }, few-steps c),
       ),
     )
 
@@ -179,8 +189,8 @@ returns-6 : tie.Need-returns-6
 returns-6 c =
     let e = c .before .before .before .before .before .before in
     let t = c .before .before .before .before .before .before .before .before .before .before in
-    finishes _ _ _ _ _ _ _ _ _
-    (runs _ _ _ _ _ _ (listed t) (in-values t) (in-trail t) (takes-state e) (let h = c .before .before .before .before .if5 .left in omega arith))
+    finishes _ _ _ _ _ _ _ _
+    (runs _ _ _ _ _ _ (listed t) (in-values t) (in-trail t) (takes-state e) (few-steps (c .before .before .before .before)))
     ((rw (wide t) at (c .before .before .before .go-on .ensures)) _ (stored e))
 
 pub resumed-spec : {M : Type 1} → statement M
@@ -203,7 +213,7 @@ resumed-spec =
     same-length
     same-length-2
     returns-4
-    sub-if5
+    too-many-requires
     refused-requires-5
     same-length-3
     same-length-4

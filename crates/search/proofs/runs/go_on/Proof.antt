@@ -8,47 +8,14 @@ use Rattle.clause_list.specs.ClauseList.{clausesOf}
 use Rattle.search_rules.specs.Rules.{State}
 use Rattle.search_rules.specs.Run.{total, zeros}
 use Rattle.search_rules.specs.Held.{stepLimit}
-use Rattle.search_core.specs.Inner.{tallyOf}
-use Rattle.search.proofs.Outcomes.{figure-within, finish-none, finish-found, finish-spent}
+use Rattle.search.proofs.Outcomes.{finish-none, finish-found, finish-spent}
 use Rattle.search.proofs.runs.go_on.Statement.{statement}
 use Rattle.search.proofs.runs.go_on.Tie as tie
 
 run-requires : tie.Need-run-requires
-unfolding total
 run-requires c κs =
     let s : tie.Start = c .before .before .before in
     (s .pre .0, (s .pre .1 .0, (s .pre .1 .1 .0, let l = s .pre .1 .1 .1 in omega arith)))
-
--- the run's end from the state that is held, and its figure
-module _ (c : tie.After-run) where
-  abbrev from : tie.Start
-  from = c .before .before .before .before
-
-  abbrev v : ℕ
-  v = length (from .args .values .now)
-
-  abbrev state : State
-  state = from .pre .1 .1 .0 .state
-
-  small : from .args .position .steps + total (tallyOf (c .run .result .progress)) ≤ stepLimit
-  unfolding total
-  small =
-      let f = figure-within (clausesOf (from .args .list .now)) v (from .args .budget) zeros state in
-      let e = ap total (c .run .ensures state (from .pre .1 .1 .0 .stored) .tally-is) in
-      let l = from .pre .1 .1 .1 in
-      omega (arith, f, e)
-
-add-steps : tie.Need-add-steps
-unfolding total
-add-steps c = omega (arith, small (c .before .before .before .before .before))
-
-add-steps-2 : tie.Need-add-steps-2
-unfolding total
-add-steps-2 c = omega (arith, small (c .before .before .before .before .before .before))
-
-add-steps-3 : tie.Need-add-steps-3
-unfolding total
-add-steps-3 c = omega (arith, small (c .before .before .before .before .before .before .before))
 
 enum-told : tie.Need-enum-told
 enum-told c = search needs
@@ -69,9 +36,8 @@ same-length-2 : tie.Need-same-length-2
 same-length-2 c = search needs
 
 returns : tie.Need-returns
-unfolding total
 returns c state h =
-    finish-none _ _ _ _ _ _ (c .before .before .before .before .before .before .before .before .before .run .ensures state h)
+    finish-none _ _ _ _ _ (c .before .before .before .before .before .before .run .ensures state h)
     (c .enum-told .given .1)
 
 same-length-3 : tie.Need-same-length-3
@@ -81,10 +47,9 @@ same-length-4 : tie.Need-same-length-4
 same-length-4 c = search needs
 
 returns-2 : tie.Need-returns-2
-unfolding total
 returns-2 c state h =
-    let f = finish-found _ _ _ _ _ _
-    (c .before .before .before .before .before .before .before .before .before .before .before .before .before .run .ensures state h)
+    let f = finish-found _ _ _ _ _
+    (c .before .before .before .before .before .before .before .before .before .before .run .ensures state h)
     (c .before .before .before .before .enum-told2 .given .1) in
     record {
       answer-is = f .answer-is;
@@ -100,9 +65,8 @@ same-length-6 : tie.Need-same-length-6
 same-length-6 c = search needs
 
 returns-3 : tie.Need-returns-3
-unfolding total
 returns-3 c state h =
-    finish-spent _ _ _ _ _ _ (c .before .before .before .before .before .before .before .before .before .run .ensures state h)
+    finish-spent _ _ _ _ _ (c .before .before .before .before .before .before .run .ensures state h)
     (c .enum-told3 .given .1)
 
 pub go-on-spec : {M : Type 1} → statement M
@@ -110,9 +74,6 @@ go-on-spec =
     tie.close
     (tie.spec
     run-requires
-    add-steps
-    add-steps-2
-    add-steps-3
     enum-told
     enum-told-2
     settle-all-requires

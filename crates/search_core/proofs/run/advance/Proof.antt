@@ -30,15 +30,15 @@ add-t7 c = omega arith
 
 returns : tie.Need-returns
 unfolding count
-returns c = record { used-is = refl; tally-is = rw (c .before .enum-told .given .1) (rw add-one refl) }
+returns c = rw (c .before .enum-told .given .1) (rw add-one refl)
 
 returns-2 : tie.Need-returns-2
 unfolding count
-returns-2 c = record { used-is = refl; tally-is = rw (c .before .enum-told2 .given .1) (rw add-one refl) }
+returns-2 c = rw (c .before .enum-told2 .given .1) (rw add-one refl)
 
 returns-3 : tie.Need-returns-3
 unfolding count
-returns-3 c = record { used-is = refl; tally-is = rw (c .before .enum-told3 .given .1) (rw add-one refl) }
+returns-3 c = rw (c .before .enum-told3 .given .1) (rw add-one refl)
 
 pub advance-spec : {M : Type 1} → statement M
 advance-spec = tie.close (tie.spec enum-told add-t5 enum-told-2 add-t6 enum-told-3 add-t7 returns returns-2 returns-3)

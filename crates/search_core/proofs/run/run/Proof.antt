@@ -47,7 +47,7 @@ returns c state i =
     let l = c .before .before .before .before .before .before .before .before .before .before .loop .inv in
     let f = l .far state i in
     let s = (rw (l .wide) at (c .before .before .before .before .before .before .step .ensures)) (f .at) (f .stored) in
-    far-none _ _ _ _ _ _ _ _ _ f _ _ _ _ refl (c .emptied .ensures .0) (c .emptied .ensures .1) (rw (c .before .enum-told .given .1) at s)
+    far-none _ _ _ _ _ _ _ _ _ f _ _ _ _ refl (c .emptied .ensures) (rw (c .before .enum-told .given .1) at s)
 
 enum-told-2 : tie.Need-enum-told-2 Inv-loop μ-loop
 enum-told-2 c = search needs
@@ -85,11 +85,12 @@ loop-less c = omega (arith, c .before .before .before .before .before .before .b
 
 loop-again : tie.Need-loop-again Inv-loop μ-loop
 loop-again c =
-    let l = c .before .before .before .before .before .before .before .before .before .before .before .loop .inv in
+    let loop = c .before .before .before .before .before .before .before .before .before .before .before .loop in
+    let l = loop .inv in
     let t = some-left (c .before .before .before .before .before .before .before .before .before .before) in
     let a = c .advance .ensures in
     record {
-      figure = figure-on _ _ _ _ _ _ a t (l .figure);
+      figure = figure-on (loop .position) _ (c .before .before .moved .given .0 .0) _ _ _ a t (l .figure);
       wide = c .before .before .before .before .before .before .before .step .kept .1 .0 ∙ l .wide;
       deep = c .before .before .before .before .before .before .before .step .kept .1 .1 .0 ∙ l .deep;
       far = λ state i.
@@ -141,7 +142,7 @@ returns-3 c state i =
     (f .stored .was-open) (f .stored .values-are) in
     let b = (rw (l .wide) at (c .before .before .before .before .back .ensures)) (f .at) (f .stored) in
     let told = c .before .before .before .before .before .before .before .enum-told3 .given .1 in
-    rw told (far-emptied _ _ _ _ _ _ _ _ _ f _ _ _ _ _ refl (sym told ∙ e) (c .emptied2 .ensures .0) (c .emptied2 .ensures .1) b)
+    rw told (far-emptied _ _ _ _ _ _ _ _ _ f _ _ _ _ _ refl (sym told ∙ e) (c .emptied2 .ensures) b)
 
 same-length-7 : tie.Need-same-length-7 Inv-loop μ-loop
 same-length-7 c = c .before .before .before .before .before .loop .inv .wide
