@@ -4,26 +4,27 @@ use mathlib.Core.Logic.{_⊎_, ⊎-elim}
 use Prim.Native.Nat.{ℕ}
 use native.Mathlib.Omega.{arith}
 use denote.Enum.Declared.{tagOf}
+use Rattle.search_rules.specs.declared.Steps.{Steps}
 use Rattle.search.proofs.answer.Search.{the-type}
 use Rattle.search.specs.declared.answer.Search.{Search}
 use Rattle.search.specs.declared.answer.Search.the-variants.{Found, None, Spent, Refused}
 use Rattle.search.specs.Answers.{found, spent, answerOf}
 use Rattle.search.proofs.MoreSteps.{Unspent}
 
-pub was-found : (r : Search) → tagOf the-type r ≡ 0 → (steps : ℕ) × (answerOf r ≡ found steps)
+pub was-found : (r : Search) → tagOf the-type r ≡ 0 → (steps : Steps) × (answerOf r ≡ found steps)
 was-found (Found n) e = (n, refl)
 was-found (None n) e = absurd (omega arith)
 was-found (Spent n) e = absurd (omega arith)
 was-found (Refused n) e = absurd (omega arith)
 
 pub not-found : (r : Search) → (tagOf the-type r ≡ 1) ⊎ ((tagOf the-type r ≡ 2) ⊎ (tagOf the-type r ≡ 3))
-    → (steps : ℕ) → answerOf r ≡ found steps → ⊥
+    → (steps : Steps) → answerOf r ≡ found steps → ⊥
 not-found (Found n) e steps f = ⊎-elim (λ x. omega arith) (⊎-elim (λ x. omega arith) (λ x. omega arith)) e
 not-found (None n) e steps f = let z : _≡_ {A = ℕ} 0 1 = cc in omega arith
 not-found (Spent n) e steps f = let z : _≡_ {A = ℕ} 0 1 = cc in omega arith
 not-found (Refused n) e steps f = let z : _≡_ {A = ℕ} 0 1 = cc in omega arith
 
-pub was-spent : (r : Search) → tagOf the-type r ≡ 2 → (steps : ℕ) × (answerOf r ≡ spent steps)
+pub was-spent : (r : Search) → tagOf the-type r ≡ 2 → (steps : Steps) × (answerOf r ≡ spent steps)
 was-spent (Found n) e = absurd (omega arith)
 was-spent (None n) e = absurd (omega arith)
 was-spent (Spent n) e = (n, refl)

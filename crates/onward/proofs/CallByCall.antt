@@ -5,7 +5,8 @@ use Prim.Native.Nat.{ℕ, _+_, _*_, _-_, _≤_, _<_}
 use native.Mathlib.Omega.{arith}
 use lib.IntN.{ℤ}
 use lib.ListN.{length}
-use Rattle.search.specs.declared.answer.Position.{Position}
+use Rattle.search_rules.specs.declared.Steps.{Steps}
+use Rattle.search_rules.specs.declared.Position.{Position}
 use Rattle.search.specs.Answers.{Answer, spent}
 use Rattle.search.specs.Resumed.{Resumption, left, resumption}
 use Rattle.search.specs.Resuming.{start, Chain, last, spends}
@@ -70,7 +71,7 @@ module _ (list : List ℤ) (v : ℕ) (values₀ : List ℕ) (trail₀ : List ℤ
           ∙ ap (resumption list v values₀ trail₀ start) e
 
       -- it is spent
-      pub goes-on : (steps : ℕ) → a ≡ spent steps → length vs ≡ length values → length ts ≡ length trail
+      pub goes-on : (steps : Steps) → a ≡ spent steps → length vs ≡ length values → length ts ≡ length trail
           → Loop list v values₀ trail₀ vs ts q (calls - 1)
       goes-on steps e wide deep = record {
         wide = wide ∙ l .wide;

@@ -15,7 +15,8 @@ use Rattle.clauses.specs.Answers.{fits, countAnswer, listAfter}
 use Rattle.clauses.proofs.Answered.{count-fits}
 use Rattle.clauses_rules.specs.Whole.{variableTotal, wordTotal}
 use Rattle.clauses_rules.proofs.Theorems.{listed}
-use Rattle.search.specs.declared.answer.Position.{Position}
+use Rattle.search_rules.specs.declared.Steps.{Steps}
+use Rattle.search_rules.specs.declared.Position.{Position}
 use Rattle.search.specs.Answers.{Answer, found, none, spent, refused, Outcome, outcome}
 use Rattle.search.specs.Resumed.{left, resumption}
 use Rattle.search.specs.Resuming.{start}
@@ -44,7 +45,7 @@ fit s size opened e b =
     record { words = omega (arith, b .room .list); values = omega (arith, b .room .values); few = omega (arith, c .small) }
 
 -- a call with no steps was spent
-pub begins : (s : List ℕ) (lent opened : Slices) (a : Answer) (steps : ℕ) → a ≡ spent steps → a ≡ finding s lent 0 .answer
+pub begins : (s : List ℕ) (lent opened : Slices) (a : Answer) (steps : Steps) → a ≡ spent steps → a ≡ finding s lent 0 .answer
     → opened ≡ finding s lent 0 .left → Begun s lent opened
 begins s lent opened a steps e f g = record { steps = steps; spends = sym f ∙ e; leaves = g }
 
@@ -133,17 +134,17 @@ module _ (s : List ℕ) (lent opened : Slices) (b : Begun s lent opened) where
           }
 
       -- after "found" the instance is read back
-      pub leaves-found : (steps : ℕ) → a ≡ found steps → (instance : List ℕ) → instance ≡ instanceAfter s (take v values) (opened .instance)
+      pub leaves-found : (steps : Steps) → a ≡ found steps → (instance : List ℕ) → instance ≡ instanceAfter s (take v values) (opened .instance)
           → Left s lent mostSteps a (slices (opened .list) values trail instance)
       leaves-found steps e instance f =
           leaves instance (f ∙ ap (λ (x : Answer). instanceFor x s (take v values) (opened .instance)) (sym e))
 
       -- any other end leaves it as it was
-      kept : (x : Answer) → ((steps : ℕ) → x ≡ found steps → ⊥) → opened .instance ≡ instanceFor x s (take v values) (opened .instance)
+      kept : (x : Answer) → ((steps : Steps) → x ≡ found steps → ⊥) → opened .instance ≡ instanceFor x s (take v values) (opened .instance)
       kept (found steps) h = absurd (h steps refl)
       kept (none steps) h = refl
       kept (spent steps) h = refl
       kept (refused n) h = refl
 
-      pub leaves-kept : ((steps : ℕ) → a ≡ found steps → ⊥) → Left s lent mostSteps a (slices (opened .list) values trail (opened .instance))
+      pub leaves-kept : ((steps : Steps) → a ≡ found steps → ⊥) → Left s lent mostSteps a (slices (opened .list) values trail (opened .instance))
       leaves-kept h = leaves (opened .instance) (kept a h)

@@ -3,13 +3,14 @@
 use mathlib.Core.Path.{_≡_}
 use mathlib.Core.List.{List}
 use Prim.Native.Nat.{ℕ}
+use Rattle.search_rules.specs.declared.Steps.{Steps}
 use Rattle.search.specs.Answers.{spent}
 use Rattle.solve_rules.specs.Finding.{Slices, finding}
 use Rattle.solve_rules.specs.Demand3.{FitSlices}
 
 -- a call with no steps was spent, and left these slices
 pub record Begun (s : List ℕ) (lent opened : Slices) : Type 0 where
-  pub steps : ℕ
+  pub steps : Steps
   pub spends : finding s lent 0 .answer ≡ spent steps
   pub leaves : opened ≡ finding s lent 0 .left
 

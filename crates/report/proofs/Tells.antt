@@ -16,6 +16,8 @@ use Rattle.cells.proofs.Layouts.{relation-ends}
 use Rattle.relational.specs.Cells.{rowCount, rowLength, cellCount, cell, withinScopes}
 use Rattle.clauses_rules.specs.Matching.{Solution}
 use Rattle.clauses_rules.proofs.Series.{same-series}
+use Rattle.search_rules.specs.declared.Steps.{Steps}
+use Rattle.search_rules.specs.Run.{total}
 use Rattle.search.specs.Answers.{Answer, found, none, spent, refused}
 use Rattle.solve_rules.specs.Finding.{Slices, finding}
 use Rattle.solve_rules.specs.Finds.{Holds, Finds}
@@ -52,14 +54,14 @@ solution-size : (sheet : Sheet) (instance : List ℕ) → Solution sheet instanc
 unfolding withinScopes
 solution-size sheet instance p = eqb-true (length instance) (cellCount sheet) (and-left (eqb (length instance) (cellCount sheet)) _ (p .within))
 
-shows : (sheet : Sheet) (lent left : List ℕ) (n : ℕ) → Holds sheet lent left → ShowsSolution sheet (report (found n) sheet left)
-shows sheet lent left n h =
+shows : (sheet : Sheet) (lent left : List ℕ) (steps : Steps) → Holds sheet lent left → ShowsSolution sheet (report (found steps) sheet left)
+shows sheet lent left steps h =
     record {
-      steps = n;
+      steps = total steps;
       instance = h .instance;
       solves = h .solves;
       shows =
-          ap (λ (ls : List ℕ). endLine (bytesOf "found ") n ++ ls)
+          ap (λ (ls : List ℕ). endLine (bytesOf "found ") (total steps) ++ ls)
           (ap (relationLines sheet) (h .stands)
           ∙ lines-of sheet (h .instance) (drop (length (h .instance)) lent) (solution-size sheet (h .instance) (h .solves)));
     }

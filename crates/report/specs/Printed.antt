@@ -8,6 +8,7 @@ use Rattle.text.specs.Texts.{bytesOf, digit, decimal, endLine}
 use Rattle.sheet_rules.specs.Blocks.{Sheet, sheetOf, byte, relationCount}
 use Rattle.relational.specs.Cells.{rowCount, rowLength, cell}
 use Rattle.clauses_rules.specs.Whole.{series}
+use Rattle.search_rules.specs.Run.{total}
 use Rattle.search.specs.Answers.{Answer, found, none, spent, refused}
 use Rattle.solve_rules.specs.Finding.{Slices, finding}
 
@@ -28,11 +29,12 @@ module _ (sheet : Sheet) (instance : List ℕ) where
   unfoldable pub relationLines : List ℕ
   relationLines = series (relationCount sheet) relationLine
 
--- "It prints `found N`, `none N` or `spent N` (N steps), or `refused N`. After found comes a line for each relation"
+-- "It prints `found N`, `none N` or `spent N` (N steps), or `refused N`. After found comes a line for each relation"; "the finder prints their
+-- sum, the old step figure" (document 02, Change 3)
 abbrev pub report : Answer → Sheet → List ℕ → List ℕ
-report (found n) sheet instance = endLine (bytesOf "found ") n ++ relationLines sheet instance
-report (none n) sheet instance = endLine (bytesOf "none ") n
-report (spent n) sheet instance = endLine (bytesOf "spent ") n
+report (found steps) sheet instance = endLine (bytesOf "found ") (total steps) ++ relationLines sheet instance
+report (none steps) sheet instance = endLine (bytesOf "none ") (total steps)
+report (spent steps) sheet instance = endLine (bytesOf "spent ") (total steps)
 report (refused n) sheet instance = endLine (bytesOf "refused ") n
 
 -- "a budget of 1,000,000"

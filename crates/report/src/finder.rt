@@ -1,29 +1,43 @@
 // What the finder prints for an input.
 ghost use mathlib.Core.Path.{_≡_};
-ghost use Prim.Native.Nat.{ℕ, _≤_};
+ghost use mathlib.Core.Option.{some};
+ghost use Prim.Native.Nat.{_≤_};
 ghost use lib.ListN.{length, take};
 ghost use Rattle.text.specs.Texts.{Prints};
 ghost use Rattle.text.specs.Puts.{Put};
 ghost use Rattle.sheet_rules.specs.Blocks.{sheetOf};
-ghost use Rattle.search.specs.Answers.{found, answerOf};
+ghost use Rattle.search_rules.specs.declared.Steps.{Steps};
+ghost use Rattle.search_rules.specs.Run.{total};
+ghost use Rattle.search_rules.specs.Held.{stepLimit};
+ghost use Rattle.search.specs.Answers.{found, answerOf, stepsIn};
 ghost use Rattle.solve_rules.specs.Finding.{slices};
 ghost use Rattle.solve_rules.specs.Demand3.{FitsLimits};
 ghost use Rattle.report.specs.Printed.{report, finderBudget, findingText, slicesAfter};
 ghost use Rattle.report.specs.Tells.{Tells};
 use super::lines::put_lines;
 use search::answer::Search;
+use search_rules::Steps;
 use sheet::answer::Reading;
 use text::put_end;
 
+// The steps done, of all three kinds. It is for a crate that shows those of its own search, and asks of it that they fit.
+pub fn step_figure(steps: Steps) -> u64
+    requires { ⌜ total steps ≤ stepLimit ⌝ }
+    ensures { λ r. ⌜ r ≡ total steps ⌝ }
+{
+    steps.propagations + steps.decisions + steps.backtracks
+}
+
 // Puts the line of `found`, and the lines of the relations.
-fn put_found(text: &mut [u8], input: &[u8], steps: u64, instance: &[u8]) -> usize
+fn put_found(text: &mut [u8], input: &[u8], steps: Steps, instance: &[u8]) -> usize
     requires { ⌜ 2048 ≤ length (now text) ⌝ }
     requires { ⌜ FitsLimits (now input) ⌝ }
+    requires { ⌜ total steps ≤ stepLimit ⌝ }
     ensures { λ r. ⌜ Put (now (text .entry)) 0 (report (found steps) (sheetOf (now (input .entry))) (now (instance .entry)))
         (now (text .exit)) r ⌝ }
     ensures { λ r. ⌜ r ≤ 2048 ⌝ }
 {
-    let at = put_end(text, b"found ", steps);
+    let at = put_end(text, b"found ", step_figure(steps));
     let reading = sheet::read(input);
     match reading {
         Reading::Refused(_) => at,
@@ -32,18 +46,19 @@ fn put_found(text: &mut [u8], input: &[u8], steps: u64, instance: &[u8]) -> usiz
 }
 
 // Puts the line of an end, and after `found` the lines of the relations. It is for a crate that prints what its own search found, and
-// asks of it room for 2,048 bytes, and that a sheet fits the limits if something was found.
+// asks of it room for 2,048 bytes, that a sheet fits the limits if something was found, and that the steps fit.
 pub fn put_report(text: &mut [u8], input: &[u8], ended: Search, instance: &[u8]) -> usize
     requires { ⌜ 2048 ≤ length (now text) ⌝ }
-    requires { ⌜ ((n : ℕ) → answerOf ended ≡ found n → FitsLimits (now input)) ⌝ }
+    requires { ⌜ ((steps : Steps) → answerOf ended ≡ found steps → FitsLimits (now input)) ⌝ }
+    requires { ⌜ ((steps : Steps) → stepsIn (answerOf ended) ≡ some steps → total steps ≤ stepLimit) ⌝ }
     ensures { λ r. ⌜ Put (now (text .entry)) 0 (report (answerOf ended) (sheetOf (now (input .entry))) (now (instance .entry)))
         (now (text .exit)) r ⌝ }
     ensures { λ r. ⌜ r ≤ 2048 ⌝ }
 {
     match ended {
         Search::Found(steps) => put_found(text, input, steps, instance),
-        Search::None(steps) => put_end(text, b"none ", steps),
-        Search::Spent(steps) => put_end(text, b"spent ", steps),
+        Search::None(steps) => put_end(text, b"none ", step_figure(steps)),
+        Search::Spent(steps) => put_end(text, b"spent ", step_figure(steps)),
         Search::Refused(r) => put_end(text, b"refused ", refusal::number(r) as u64),
     }
 }

@@ -3,7 +3,7 @@ use mathlib.Core.Path.{_≡_, refl, sym, _∙_, ap}
 use mathlib.Core.Logic.{⊎-elim}
 use mathlib.Core.List.{List, []}
 use mathlib.Core.Option.{Option, none as nothing, some}
-use Prim.Native.Nat.{ℕ, _+_}
+use Prim.Native.Nat.{ℕ, _+_, _≤_}
 use native.Mathlib.Omega.{arith}
 use native.Mathlib.Nat.{zero-add}
 use lib.IntN.{ℤ}
@@ -11,14 +11,15 @@ use Rattle.clause_list.specs.ClauseList.{clausesOf}
 use Rattle.search_rules.specs.declared.Steps.{Steps}
 use Rattle.search_rules.specs.declared.Position.{Position}
 use Rattle.search_rules.specs.Rules.{Kind, propagation, decision, backtrack}
-use Rattle.search_rules.specs.Run.{zeros, End, wasNone, wasFound, wasSpent}
-use Rattle.search_rules.specs.Held.{stepsOf}
+use Rattle.search_rules.specs.Run.{zeros, total, End, wasNone, wasFound, wasSpent}
+use Rattle.search_rules.specs.Held.{stepsOf, stepLimit}
 use Rattle.search_rules.specs.Counting.{counter, kindsTaken, ofKind, stepsAt}
 use Rattle.search_rules.proofs.Counting.{each-counts}
-use Rattle.search.specs.Answers.{answerAt, searchRun, outcome}
+use Rattle.search.specs.Answers.{answerAt, stepsIn, searchRun, outcome}
 use Rattle.search.specs.Resumed.{startOf, positionAt, resumedRun, resumption}
-use Rattle.search.specs.Resuming.{stepsIn, EachCounter}
+use Rattle.search.specs.Resuming.{EachCounter}
 use Rattle.search.proofs.Theorems as fresh
+use Rattle.search.proofs.Outcomes.{figure-within}
 use Rattle.search.proofs.ResumedCalls.{Runs, called}
 
 -- the counters of an answer are those of the run's end, and so are the record's
@@ -55,6 +56,12 @@ module _ (list : List ℤ) (v : ℕ) (values : List ℕ) (trail : List ℤ) (p :
       → counter kind steps ≡ counter kind (stepsOf p) + ofKind kind (kindsTaken (clausesOf list) v budget (startOf v values trail p))
   resumed-counts kind = ap (counter kind) are-its ∙ each-counts (clausesOf list) v budget (stepsOf p) (startOf v values trail p) kind
 
+  -- together they fit a 64-bit number
+  pub resumed-few : total steps ≤ stepLimit
+  resumed-few =
+      let f = figure-within (clausesOf list) v budget (stepsOf p) (startOf v values trail p) in
+      omega (arith, f, ap total are-its, ran .few)
+
   records : stepsOf (resumption list v values trail p budget .position) ≡ steps
   records = ap (λ o. stepsOf (o .position)) (ran .ends) ∙ position-steps end ∙ sym are-its
 
@@ -87,6 +94,10 @@ module _ (list : List ℤ) (v : ℕ) (values : List ℕ) (trail : List ℤ) (bud
       ∙ each-counts (clausesOf list) v budget zeros [] kind
       ∙ ap (λ n. n + ofKind kind (kindsTaken (clausesOf list) v budget [])) (none-before kind)
       ∙ zero-add (ofKind kind (kindsTaken (clausesOf list) v budget []))
+
+  pub searched-few : total steps ≤ budget
+  unfolding total
+  searched-few = let f = figure-within (clausesOf list) v budget zeros [] in omega (arith, f, ap total are-the-run's)
 
 pub each-counter : EachCounter
 each-counter = record { searched = searched-counts; resumed = resumed-counts; recorded = records }

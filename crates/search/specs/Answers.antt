@@ -2,6 +2,7 @@
 -- Change 3).
 use mathlib.Core.Bool.{cond, _&&_}
 use mathlib.Core.List.{List, [], _++_, map}
+use mathlib.Core.Option.{Option, none as Option·none, some}
 use Prim.Native.Nat.{ℕ}
 use lib.Dec.{leb}
 use lib.IntN.{ℤ}
@@ -26,6 +27,13 @@ answerOf (Found steps) = found steps
 answerOf (None steps) = none steps
 answerOf (Spent steps) = spent steps
 answerOf (Refused refusal) = refused (numberOf refusal)
+
+-- the steps that an answer gives
+abbrev pub stepsIn : Answer → Option Steps
+stepsIn (found steps) = some steps
+stepsIn (none steps) = some steps
+stepsIn (spent steps) = some steps
+stepsIn (refused number) = Option·none
 
 -- "The answer gives the steps done."
 unfoldable pub answerAt : End → Answer

@@ -1,7 +1,7 @@
 -- What is promised of resumed calls (document 02, Changes 1 and 3): a fresh start, a chain of calls that comes to one, and each counter.
 use mathlib.Core.Path.{_≡_}
 use mathlib.Core.List.{List, []}
-use mathlib.Core.Option.{Option, none as nothing, some}
+use mathlib.Core.Option.{some}
 use Prim.Native.Nat.{ℕ, _+_, _≤_}
 use lib.IntN.{ℤ}
 use lib.ListN.{length, take}
@@ -12,7 +12,7 @@ use Rattle.search_rules.specs.Rules.{Kind, valuesOf, trailOf}
 use Rattle.search_rules.specs.Run.{total}
 use Rattle.search_rules.specs.Held.{stepsOf, stepLimit}
 use Rattle.search_rules.specs.Counting.{counter, kindsTaken, ofKind}
-use Rattle.search.specs.Answers.{Answer, found, none, spent, refused, outcome}
+use Rattle.search.specs.Answers.{spent, stepsIn, outcome}
 use Rattle.search.specs.Resumed.{startOf, Resumption, resumption}
 
 -- "A record of zeros"
@@ -39,13 +39,6 @@ pub data Chain (list : List ℤ) (v : ℕ) : List ℕ → List ℤ → Position 
 abbrev pub SameAsOne : Type 0
 SameAsOne = (list : List ℤ) (v : ℕ) (values : List ℕ) (trail : List ℤ) (p : Position) (n : ℕ) (r : Resumption) → Chain list v values trail p n r
     → total (stepsOf p) + n ≤ stepLimit → r ≡ resumption list v values trail p n
-
--- the counters of an answer
-abbrev pub stepsIn : Answer → Option Steps
-stepsIn (found steps) = some steps
-stepsIn (none steps) = some steps
-stepsIn (spent steps) = some steps
-stepsIn (refused number) = nothing
 
 -- "Each counter equals the one handed in (0 at the start) plus the steps of its kind that the rules' run takes in the call": of a call from
 -- the start, and of a resumed call, whose record has the answer's counters

@@ -16,6 +16,7 @@ use Rattle.clauses.specs.Answers as count
 use Rattle.clauses.specs.Answers.{countAnswer, listAfter}
 use Rattle.clauses.proofs.Answered.{count-fits}
 use Rattle.clauses_rules.proofs.Match.{cells-variables}
+use Rattle.search_rules.specs.declared.Steps.{Steps}
 use Rattle.search.specs.Answers.{Answer, found, none, spent, refused, Outcome, outcome}
 use Rattle.solve_rules.specs.Answers.{instanceAfter}
 use Rattle.solve_rules.specs.Finding.{Slices, slices, Finding, decline, haveRoom, instanceFor, findIn, findAfter, finding}
@@ -99,7 +100,7 @@ module _ (s : List ℕ) (lent : Slices) (budget : ℕ) (size : Size) (cells : �
       (λ (r : Ran s lent budget). rw (f .variables, f .words) (r .is))
       (called s lent budget)
 
-  found-after : (steps : ℕ) → over (listAfter s (lent .list)) .answer ≡ found steps
+  found-after : (steps : Steps) → over (listAfter s (lent .list)) .answer ≡ found steps
       → instanceAfter s (take v (over (listAfter s (lent .list)) .values)) (lent .instance)
       ≡ take cells (drop 1 (take v (over (listAfter s (lent .list)) .values))) ++ drop cells (lent .instance)
   found-after = rw (f .variables, f .words, f .cells-are) (found-instance s lent (f .limits) (f .room) budget)
@@ -127,7 +128,7 @@ module _ (s : List ℕ) (lent : Slices) (budget : ℕ) (size : Size) (cells : �
           left-is = (λ i. slices (written i) (values-are i) (trail-is i) (e i)) ∙ ap (λ x. x .left) (sym runs);
         }
 
-    pub leaves-found : (steps : ℕ) → a ≡ found steps → (instance : List ℕ)
+    pub leaves-found : (steps : Steps) → a ≡ found steps → (instance : List ℕ)
         → instance ≡ take cells (drop 1 (take v values)) ++ drop cells (lent .instance)
         → Left s lent budget a (slices list values trail instance)
     leaves-found steps e instance g =
@@ -140,13 +141,13 @@ module _ (s : List ℕ) (lent : Slices) (budget : ℕ) (size : Size) (cells : �
         ∙ ap (λ (x : Answer). instanceFor x s (take v (o .values)) (lent .instance)) (sym p))
 
     -- any other end leaves the instance as it was
-    kept : (x : Answer) (vs : List ℕ) → ((steps : ℕ) → x ≡ found steps → ⊥) → lent .instance ≡ instanceFor x s vs (lent .instance)
+    kept : (x : Answer) (vs : List ℕ) → ((steps : Steps) → x ≡ found steps → ⊥) → lent .instance ≡ instanceFor x s vs (lent .instance)
     kept (found steps) vs h = absurd (h steps refl)
     kept (none steps) vs h = refl
     kept (spent steps) vs h = refl
     kept (refused n) vs h = refl
 
-    pub leaves-kept : ((steps : ℕ) → a ≡ found steps → ⊥) → Left s lent budget a (slices list values trail (lent .instance))
+    pub leaves-kept : ((steps : Steps) → a ≡ found steps → ⊥) → Left s lent budget a (slices list values trail (lent .instance))
     leaves-kept h =
         leaves (lent .instance)
         (kept (over (listAfter s (lent .list)) .answer) _ (λ steps e. h steps (answer-is ∙ e)))

@@ -11,9 +11,10 @@ use Rattle.relational.specs.Cells.{cellCount}
 use Rattle.clauses_rules.specs.Whole.{words, variableTotal, clauseTotal, wordTotal, readBack}
 use Rattle.clauses_rules.specs.Matching.{Solution}
 use Rattle.clauses_rules.proofs.Theorems.{match, none, listed}
+use Rattle.search_rules.specs.declared.Steps.{Steps}
+use Rattle.search_rules.specs.declared.Position.{Position}
 use Rattle.search.specs.Answers.{found, searchRun}
-use Rattle.search.proofs.Outcomes.{runs, adds-zero, was-taken}
-use Rattle.search.specs.declared.answer.Position.{Position}
+use Rattle.search.proofs.Outcomes.{runs, was-taken}
 use Rattle.search.proofs.Theorems.{none-unsatisfiable, found-satisfies, spent-exactly}
 use Rattle.search.proofs.ResumedTheorems as again
 use Rattle.solve_rules.specs.Answers.{instanceAfter}
@@ -70,9 +71,8 @@ module _ (s : List ℕ) (lent : Slices) (h : FitsLimits s) (k : FitSlices s lent
   pub answered : (n : ℕ) → Answered s lent v w n
   answered n =
       record {
-        taken = λ number e. was-taken 0 (searchRun written v n) number
-            (adds-zero (searchRun written v n)
-            ∙ sym (ap (λ o. o .answer) (runs written v (lent .values) (lent .trail) n is-list (k .values) (k .trail))) ∙ e);
+        taken = λ number e. was-taken (searchRun written v n) number
+            (sym (ap (λ o. o .answer) (runs written v (lent .values) (lent .trail) n is-list (k .values) (k .trail))) ∙ e);
         none-only = λ steps e. none s (h .layout) (h .accepted) .0
             λ a p. none-unsatisfiable written v (lent .values) (lent .trail) n steps e a (as-written p);
         found-only = λ steps e. reads _ (found-satisfies written v (lent .values) (lent .trail) n steps e);
@@ -90,7 +90,7 @@ module _ (s : List ℕ) (lent : Slices) (h : FitsLimits s) (k : FitSlices s lent
       }
 
   -- what read-back of the values that "found" left leaves
-  pub found-instance : (n steps : ℕ) → d.searched s lent v w n .answer ≡ found steps
+  pub found-instance : (n : ℕ) (steps : Steps) → d.searched s lent v w n .answer ≡ found steps
       → instanceAfter s (take v (d.searched s lent v w n .values)) (lent .instance)
       ≡ readBack (sheetOf s) (take v (d.searched s lent v w n .values)) ++ drop (cellCount (sheetOf s)) (lent .instance)
   found-instance n steps e =

@@ -3,6 +3,7 @@ use mathlib.Core.Path.{_≡_, refl, sym, ap, _∙_}
 use mathlib.Core.Bool.{Bool, true, false, cond}
 use mathlib.Core.Logic.{_⊎_, inl, inr, ⊎-elim}
 use mathlib.Core.List.{List}
+use mathlib.Core.Option.{none as Option·none, some}
 use Prim.Native.Nat.{ℕ, _≤_}
 use native.Mathlib.Omega.{arith}
 use lib.Dec.{leb}
@@ -15,7 +16,10 @@ use Rattle.clauses_rules.specs.Whole.{variableTotal, wordTotal}
 use Rattle.clauses.specs.Answers as count
 use Rattle.clauses.specs.Answers.{countAnswer}
 use Rattle.clauses.proofs.Answered.{Counted, count-fits}
-use Rattle.search.specs.Answers.{found, refused}
+use Rattle.search_rules.specs.declared.Steps.{Steps}
+use Rattle.search_rules.specs.Run.{total}
+use Rattle.search.specs.Answers.{found, refused, stepsIn}
+use Rattle.search.proofs.Counters.{searched-few}
 use Rattle.solve_rules.specs.Finding.{Slices, decline, haveRoom, findIn, findAfter, finding}
 use Rattle.solve_rules.specs.Demand3.{FitsLimits, FitSlices}
 use Rattle.solve_rules.proofs.Calls.{counts}
@@ -118,8 +122,19 @@ module _ (s : List ℕ) (lent : Slices) (budget : ℕ) where
   pub called : Declined ⊎ Ran
   called = by-counting (countAnswer s) refl
 
+  -- the steps are at most the budget's
+  pub found-few : (steps : Steps) → stepsIn (finding s lent budget .answer) ≡ some steps → total steps ≤ budget
+  found-few steps e =
+      ⊎-elim
+      (λ (d : Declined).
+      let f : Option·none ≡ some steps = ap (λ x. stepsIn (x .answer)) (sym (d .is)) ∙ e in
+      let z : _≡_ {A = ℕ} 0 1 = cc in
+      absurd (omega arith))
+      (λ (r : Ran). searched-few _ _ _ _ budget steps (ap (λ x. stepsIn (x .answer)) (sym (r .is)) ∙ e))
+      called
+
   -- "found" is no answer of a call that declines
-  pub found-fits : (steps : ℕ) → finding s lent budget .answer ≡ found steps → FitsLimits s
+  pub found-fits : (steps : Steps) → finding s lent budget .answer ≡ found steps → FitsLimits s
   found-fits steps e =
       ⊎-elim
       (λ (d : Declined).

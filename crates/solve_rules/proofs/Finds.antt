@@ -9,6 +9,7 @@ use lib.ListN.{take}
 use Rattle.clause_list.specs.ClauseList.{clausesOf}
 use Rattle.sheet_rules.specs.Blocks.{sheetOf}
 use Rattle.clauses_rules.specs.Whole.{words, variableTotal, wordTotal}
+use Rattle.search_rules.specs.declared.Steps.{Steps}
 use Rattle.search_rules.specs.Run.{EndedWithin}
 use Rattle.search.specs.Answers.{found, Outcome}
 use Rattle.solve_rules.specs.Finding.{Slices, Finding, decline, instanceFor, findIn, finding}
@@ -46,7 +47,7 @@ module _ (s : List ℕ) (lent : Slices) (budget : ℕ) where
     call = searched s lent v w budget
 
     -- the instance where the answer is "found"
-    holds : (steps : ℕ) → call .answer ≡ found steps
+    holds : (steps : Steps) → call .answer ≡ found steps
         → Holds (sheetOf s) (lent .instance) (instanceFor (call .answer) s (take v (call .values)) (lent .instance))
     holds steps e =
         let r = answered s lent h k budget .found-only steps e in

@@ -28,9 +28,10 @@ use Rattle.relational.specs.Cells.{cellCount}
 use Rattle.clauses_rules.specs.Whole.{words, variableTotal, wordTotal}
 use Rattle.clauses_rules.specs.Matching.{Solution}
 use Rattle.clauses.specs.Answers.{fits, countAnswer, writeAnswer, listAfter}
+use Rattle.search_rules.specs.declared.Steps.{Steps}
+use Rattle.search_rules.specs.declared.Position.{Position}
 use Rattle.search_rules.specs.Rules.{State}
 use Rattle.search_rules.specs.Run.{after, EndedWithin}
-use Rattle.search.specs.declared.answer.Position.{Position}
 use Rattle.search.specs.Answers.{Outcome, found, none, spent, refused, outcome}
 use Rattle.search.specs.Resumed.{startOf, declinesState, resumption}
 use Rattle.solve_rules.specs.Answers.{copied, readBackAnswer, instanceAfter}
@@ -87,11 +88,11 @@ module _ (s : List ℕ) (lent : Slices) (v w : ℕ) where
     -- it is no refusal
     pub taken : (number : ℕ) → searched n .answer ≡ refused number → ⊥
     -- "none" only if no such instance exists
-    pub none-only : (steps : ℕ) → searched n .answer ≡ none steps → (instance : List ℕ) → Solution (sheetOf s) instance → ⊥
+    pub none-only : (steps : Steps) → searched n .answer ≡ none steps → (instance : List ℕ) → Solution (sheetOf s) instance → ⊥
     -- "found" only with values that read back to one
-    pub found-only : (steps : ℕ) → searched n .answer ≡ found steps → ReadsSolution s (take v (searched n .values)) (lent .instance)
+    pub found-only : (steps : Steps) → searched n .answer ≡ found steps → ReadsSolution s (take v (searched n .values)) (lent .instance)
     -- "spent" exactly when the step rules have not ended within n steps from the call's start, all open
-    pub spent-exactly : ((steps : ℕ) × (searched n .answer ≡ spent steps)) ↔ (EndedWithin (clausesOf written) v n [] → ⊥)
+    pub spent-exactly : ((steps : Steps) × (searched n .answer ≡ spent steps)) ↔ (EndedWithin (clausesOf written) v n [] → ⊥)
 
   -- the same list and v, the lent values and trail, and a record: the search is taken up again
   abbrev pub resumed : Position → ℕ → Outcome
@@ -109,14 +110,14 @@ module _ (s : List ℕ) (lent : Slices) (v w : ℕ) where
   -- what the answer of a resumed call within n steps says; "of a call that 14 declines it says nothing"
   pub record ResumedAnswered (p : Position) (n : ℕ) : Type 0 where
     -- "none" only if no such instance exists, where the run goes back to a fresh start
-    pub none-only : GoesBack p → (steps : ℕ) → resumed p n .answer ≡ none steps → (instance : List ℕ) → Solution (sheetOf s) instance → ⊥
+    pub none-only : GoesBack p → (steps : Steps) → resumed p n .answer ≡ none steps → (instance : List ℕ) → Solution (sheetOf s) instance → ⊥
     -- "found" only with values that read back to one, from any state
-    pub found-only : (steps : ℕ) → resumed p n .answer ≡ found steps → ReadsSolution s (take v (resumed p n .values)) (lent .instance)
+    pub found-only : (steps : Steps) → resumed p n .answer ≡ found steps → ReadsSolution s (take v (resumed p n .values)) (lent .instance)
     -- where 14 does not decline it is no refusal, and
     pub taken : declinesState v (lent .values) (lent .trail) p n ≡ false → (number : ℕ) → resumed p n .answer ≡ refused number → ⊥
     -- "spent" exactly when the step rules have not ended within n steps from the state the call starts in
     pub spent-exactly : declinesState v (lent .values) (lent .trail) p n ≡ false
-        → ((steps : ℕ) × (resumed p n .answer ≡ spent steps)) ↔ (EndedWithin (clausesOf written) v n (begin p) → ⊥)
+        → ((steps : Steps) × (resumed p n .answer ≡ spent steps)) ↔ (EndedWithin (clausesOf written) v n (begin p) → ⊥)
 
 -- what is demanded of a sheet and of the slices that are lent
 pub record Demanded (s : List ℕ) (lent : Slices) : Type 0 where

@@ -9,6 +9,7 @@ use Rattle.clause_list.specs.ClauseList.{clausesOf}
 use Rattle.sheet_rules.specs.Blocks.{Sheet, sheetOf}
 use Rattle.clauses_rules.specs.Whole.{words, variableTotal}
 use Rattle.clauses_rules.specs.Matching.{Solution}
+use Rattle.search_rules.specs.declared.Steps.{Steps}
 use Rattle.search_rules.specs.Run.{EndedWithin}
 use Rattle.search.specs.Answers.{Answer, found, none, spent, refused}
 use Rattle.solve_rules.specs.Finding.{Slices}
@@ -28,11 +29,11 @@ pub record NotEnded (s : List ℕ) (lent : Slices) (budget : ℕ) : Type 0 where
 
 pub record Finds (s : List ℕ) (lent : Slices) (budget : ℕ) (answer : Answer) (left : Slices) : Type 0 where
   -- "found" only with an instance in the lent slice that satisfies marks and formula
-  pub found-only : (steps : ℕ) → answer ≡ found steps → Holds (sheetOf s) (lent .instance) (left .instance)
+  pub found-only : (steps : Steps) → answer ≡ found steps → Holds (sheetOf s) (lent .instance) (left .instance)
   -- "none" only if no instance within the scopes satisfies them
-  pub none-only : (steps : ℕ) → answer ≡ none steps → (instance : List ℕ) → Solution (sheetOf s) instance → ⊥
+  pub none-only : (steps : Steps) → answer ≡ none steps → (instance : List ℕ) → Solution (sheetOf s) instance → ⊥
   -- "spent" exactly when the step rules have not ended within the budget
-  pub spent-exactly : ((steps : ℕ) × (answer ≡ spent steps)) ↔ NotEnded s lent budget
+  pub spent-exactly : ((steps : Steps) × (answer ≡ spent steps)) ↔ NotEnded s lent budget
   -- a refusal exactly when the sheet does not fit the limits or the slices do not fit, and then nothing is changed
   pub refused-exactly : ((number : ℕ) × (answer ≡ refused number)) ↔ (FitsLimits s → FitSlices s lent → ⊥)
   pub unchanged : (number : ℕ) → answer ≡ refused number → left ≡ lent

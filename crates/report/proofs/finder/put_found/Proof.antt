@@ -4,7 +4,8 @@ use Prim.Native.Nat.{ℕ}
 use native.Mathlib.Omega.{arith}
 use borrow.Author.Needs.{needs}
 use denote.Enum.Declared.{tagOf}
-use Rattle.text.proofs.Puts.{put-both, put-length}
+use Rattle.text.specs.Texts.{bytesOf, endLine}
+use Rattle.text.proofs.Puts.{put-as, put-both, put-length}
 use Rattle.sheet_rules.specs.declared.Layout.{Layout}
 use Rattle.sheet_rules.specs.Reading.{accepted}
 use Rattle.sheet.specs.declared.answer.Reading.{Reading}
@@ -21,8 +22,11 @@ was-accepted (Refused n) l e = absurd (let z : _≡_ {A = ℕ} 0 1 = cc in omega
 slice-aggregate-put-end : tie.Need-slice-aggregate-put-end
 slice-aggregate-put-end c = search needs
 
+step-figure-requires : tie.Need-step-figure-requires
+step-figure-requires c κs = search needs
+
 put-end-requires : tie.Need-put-end-requires
-put-end-requires c κs = (omega (arith, c .before .before .before .before .before .pre .0), omega arith)
+put-end-requires c κs = (omega (arith, c .before .before .before .before .before .before .pre .0), omega arith)
 
 read-requires : tie.Need-read-requires
 read-requires c κs = search needs
@@ -37,7 +41,7 @@ put-lines-requires : tie.Need-put-lines-requires
 put-lines-requires c κs =
     let k = c .before .before .before .before in
     let e = k .before .before .before .put-end .ensures in
-    let s = k .before .before .before .before .before .before .before .before .before in
+    let s = k .before .before .before .before .before .before .before .before .before .before in
     (sym (k .read .ensures) ∙ ap answerOf (c .before .before .reading .given .1), omega (arith, e .1, put-length (e .0), s .pre .0))
 
 same-length : tie.Need-same-length
@@ -47,8 +51,8 @@ same-length c = search needs
 returns : tie.Need-returns
 returns c =
     let k = c .before .before in
-    let s = k .before .before .before .before .before .before .before .before .before in
-    let e = was-accepted (k .read .result) _ (k .read .ensures ∙ s .pre .1 .accepted) in
+    let s = k .before .before .before .before .before .before .before .before .before .before in
+    let e = was-accepted (k .read .result) _ (k .read .ensures ∙ s .pre .1 .0 .accepted) in
     absurd (omega (arith, c .before .match .keys1))
 
 same-length-2 : tie.Need-same-length-2
@@ -58,10 +62,11 @@ returns-2 : tie.Need-returns-2
 returns-2 c =
     let k = c .before .before in
     let e = k .before .before .before .before .before .before .before .before .put-end .ensures in
-    (put-both (e .0) (k .put-lines .ensures .0), omega (arith, e .1, k .put-lines .ensures .1))
+    let f = ap (endLine (bytesOf "found ")) (k .before .before .before .before .before .before .before .before .before .step-figure .ensures) in
+    (put-both (put-as f (e .0)) (k .put-lines .ensures .0), omega (arith, e .1, k .put-lines .ensures .1))
 
 pub put-found-spec : {M : Type 1} → statement M
 put-found-spec =
     tie.close
-    (tie.spec slice-aggregate-put-end put-end-requires read-requires enum-told enum-known-reading put-lines-requires
+    (tie.spec slice-aggregate-put-end step-figure-requires put-end-requires read-requires enum-told enum-known-reading put-lines-requires
     same-length returns same-length-2 returns-2)

@@ -9,7 +9,7 @@ use Rattle.text.specs.Texts.{bytesOf, endLine}
 use Rattle.text.proofs.Puts.{put-as}
 use Rattle.sheet_rules.specs.Blocks.{sheetOf}
 use Rattle.search.specs.declared.answer.Search.{Search}
-use Rattle.search.specs.Answers.{answerOf}
+use Rattle.search.specs.Answers.{answerOf, stepsIn}
 use Rattle.report.specs.Printed.{report}
 use Rattle.report.proofs.finder.put_report.Statement.{statement}
 use Rattle.report.proofs.finder.put_report.Tie as tie
@@ -26,13 +26,19 @@ enum-known-ended c = search needs
 put-found-requires : tie.Need-put-found-requires
 put-found-requires c κs =
     let s = c .before .before .before .before .before .before .before in
-    (s .pre .0, s .pre .1 _ (ap answerOf (c .before .before .ended .given .1)))
+    let e = c .before .before .ended .given .1 in
+    (s .pre .0, (s .pre .1 .0 _ (ap answerOf e), s .pre .1 .1 _ (ap (λ a. stepsIn (answerOf a)) e)))
 
 enum-known-ended-2 : tie.Need-enum-known-ended-2
 enum-known-ended-2 c = search needs
 
 slice-aggregate-put-end : tie.Need-slice-aggregate-put-end
 slice-aggregate-put-end c = search needs
+
+-- the steps fit, by the case that the end is
+step-figure-requires : tie.Need-step-figure-requires
+step-figure-requires c κs =
+    c .before .before .before .before .before .before .before .before .pre .1 .1 _ (ap (λ a. stepsIn (answerOf a)) (c .before .before .before .ended2 .given .1))
 
 put-end-requires : tie.Need-put-end-requires
 put-end-requires c κs = search needs
@@ -42,6 +48,10 @@ enum-known-ended-3 c = search needs
 
 slice-aggregate-put-end-2 : tie.Need-slice-aggregate-put-end-2
 slice-aggregate-put-end-2 c = search needs
+
+step-figure-requires-2 : tie.Need-step-figure-requires-2
+step-figure-requires-2 c κs =
+    c .before .before .before .before .before .before .before .before .pre .1 .1 _ (ap (λ a. stepsIn (answerOf a)) (c .before .before .before .ended3 .given .1))
 
 put-end-requires-2 : tie.Need-put-end-requires-2
 put-end-requires-2 c κs = search needs
@@ -76,8 +86,9 @@ same-length-2 c = search needs
 returns-2 : tie.Need-returns-2
 returns-2 c =
     let k = c .before .before in
-    let s = k .before .before .before .before .before .before .before .before .before in
-    (shown s (k .before .before .before .before .ended2 .given .1) (k .put-end .ensures .0), omega (arith, k .put-end .ensures .1))
+    let s = k .before .before .before .before .before .before .before .before .before .before in
+    let p = put-as (ap (endLine (bytesOf "none ")) (k .before .step-figure .ensures)) (k .put-end .ensures .0) in
+    (shown s (k .before .before .before .before .before .ended2 .given .1) p, omega (arith, k .put-end .ensures .1))
 
 same-length-3 : tie.Need-same-length-3
 same-length-3 c = search needs
@@ -85,8 +96,9 @@ same-length-3 c = search needs
 returns-3 : tie.Need-returns-3
 returns-3 c =
     let k = c .before .before in
-    let s = k .before .before .before .before .before .before .before .before .before in
-    (shown s (k .before .before .before .before .ended3 .given .1) (k .put-end2 .ensures .0), omega (arith, k .put-end2 .ensures .1))
+    let s = k .before .before .before .before .before .before .before .before .before .before in
+    let p = put-as (ap (endLine (bytesOf "spent ")) (k .before .step-figure2 .ensures)) (k .put-end2 .ensures .0) in
+    (shown s (k .before .before .before .before .before .ended3 .given .1) p, omega (arith, k .put-end2 .ensures .1))
 
 same-length-4 : tie.Need-same-length-4
 same-length-4 c = search needs
@@ -101,7 +113,7 @@ returns-4 c =
 pub put-report-spec : {M : Type 1} → statement M
 put-report-spec =
     tie.close
-    (tie.spec enum-known-ended put-found-requires enum-known-ended-2 slice-aggregate-put-end put-end-requires
-    enum-known-ended-3 slice-aggregate-put-end-2 put-end-requires-2 enum-known-ended-4 slice-aggregate-put-end-3
+    (tie.spec enum-known-ended put-found-requires enum-known-ended-2 slice-aggregate-put-end step-figure-requires
+    put-end-requires enum-known-ended-3 slice-aggregate-put-end-2 step-figure-requires-2 put-end-requires-2 enum-known-ended-4 slice-aggregate-put-end-3
     number-requires cast-put-end put-end-requires-3 same-length returns same-length-2 returns-2 same-length-3 returns-3
     same-length-4 returns-4)
