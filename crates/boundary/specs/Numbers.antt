@@ -6,6 +6,7 @@ use Rattle.sheet_rules.specs.Reading as sheets
 use Rattle.instance.specs.Answers as checked
 use Rattle.clauses.specs.Answers as counted
 use Rattle.dimacs.specs.Answers as text
+use Rattle.search_rules.specs.declared.Steps.{Steps}
 use Rattle.search.specs.Answers as searched
 use Rattle.solve_rules.specs.Answers as back
 use Rattle.boundary.specs.declared.answer.CheckAnswer.{CheckAnswer}
@@ -37,11 +38,15 @@ countNumbers (counted.fits v c w) = record { refusal = 0; variables = v; clauses
 countNumbers (counted.refused n) = record { refusal = n; variables = 0; clauses = 0; words = 0 }
 
 -- the search, and the whole run
+abbrev pub endNumbers : ℕ → Steps → SearchAnswer
+endNumbers end t =
+    record { refusal = 0; end = end; propagations = t .propagations; decisions = t .decisions; backtracks = t .backtracks }
+
 abbrev pub searchNumbers : searched.Answer → SearchAnswer
-searchNumbers (searched.found n) = record { refusal = 0; end = 1; steps = n }
-searchNumbers (searched.none n) = record { refusal = 0; end = 2; steps = n }
-searchNumbers (searched.spent n) = record { refusal = 0; end = 3; steps = n }
-searchNumbers (searched.refused n) = record { refusal = n; end = 0; steps = 0 }
+searchNumbers (searched.found steps) = endNumbers 1 steps
+searchNumbers (searched.none steps) = endNumbers 2 steps
+searchNumbers (searched.spent steps) = endNumbers 3 steps
+searchNumbers (searched.refused n) = record { refusal = n; end = 0; propagations = 0; decisions = 0; backtracks = 0 }
 
 -- clause text and its size
 abbrev pub textNumbers : text.Answer → TextAnswer

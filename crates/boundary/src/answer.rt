@@ -23,18 +23,20 @@ pub struct TextAnswer {
     pub bytes: usize,
 }
 
-// How a search ended, 1 found, 2 none, 3 spent, and its steps. Both are 0 under a refusal.
+// How a search ended, 1 found, 2 none, 3 spent, and its steps by kind: forces, choices and turns. All are 0 under a refusal.
 #[repr(C)]
 pub struct SearchAnswer {
     pub refusal: u32,
     pub end: u32,
-    pub steps: u64,
+    pub propagations: u64,
+    pub decisions: u64,
+    pub backtracks: u64,
 }
 
 // The numbers of a resumed search, and the position that it leaves.
 pub struct ResumedAnswer {
     pub answer: SearchAnswer,
-    pub position: search::answer::Position,
+    pub position: search_rules::Position,
 }
 
 // The cells that read-back copied.

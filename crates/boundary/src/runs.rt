@@ -6,37 +6,40 @@ ghost use Rattle.search.specs.Resumed.{resumption};
 ghost use Rattle.solve_rules.specs.Answers as back;
 ghost use Rattle.solve.specs.Answers.{answerOf};
 ghost use Rattle.solve_rules.specs.Finding.{slices, finding};
-ghost use Rattle.boundary.specs.Numbers.{searchNumbers, copyNumbers};
+ghost use Rattle.boundary.specs.Numbers.{endNumbers, searchNumbers, copyNumbers};
 use super::answer::ReadBackAnswer;
 use super::answer::ResumedAnswer;
 use super::answer::SearchAnswer;
-use search::answer::Position;
 use search::answer::Search;
+use search_rules::Position;
+use search_rules::Steps;
 use solve::answer::ReadBack;
+
+fn end_numbers(end: u32, steps: Steps) -> SearchAnswer
+    ensures { λ r. ⌜ r ≡ endNumbers end steps ⌝ }
+{
+    SearchAnswer {
+        refusal: 0,
+        end,
+        propagations: steps.propagations,
+        decisions: steps.decisions,
+        backtracks: steps.backtracks,
+    }
+}
 
 fn search_numbers(answer: Search) -> SearchAnswer
     ensures { λ r. ⌜ r ≡ searchNumbers (searched.answerOf answer) ⌝ }
 {
     match answer {
-        Search::Found(n) => SearchAnswer {
-            refusal: 0,
-            end: 1,
-            steps: n,
-        },
-        Search::None(n) => SearchAnswer {
-            refusal: 0,
-            end: 2,
-            steps: n,
-        },
-        Search::Spent(n) => SearchAnswer {
-            refusal: 0,
-            end: 3,
-            steps: n,
-        },
+        Search::Found(steps) => end_numbers(1, steps),
+        Search::None(steps) => end_numbers(2, steps),
+        Search::Spent(steps) => end_numbers(3, steps),
         Search::Refused(r) => SearchAnswer {
             refusal: refusal::number(r),
             end: 0,
-            steps: 0,
+            propagations: 0,
+            decisions: 0,
+            backtracks: 0,
         },
     }
 }

@@ -4,7 +4,7 @@ use mathlib.Core.List.{List}
 use Prim.Native.Nat.{ℕ}
 use lib.IntN.{ℤ}
 use borrow.Author.Needs.{needs}
-use Rattle.search.specs.declared.answer.Position.{Position}
+use Rattle.search_rules.specs.declared.Position.{Position}
 use Rattle.search.specs.Answers.{Answer}
 use Rattle.search.specs.Resumed.{Resumption, left}
 use Rattle.boundary.specs.declared.answer.SearchAnswer.{SearchAnswer}
