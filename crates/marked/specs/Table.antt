@@ -7,6 +7,7 @@ use lib.IntN.{ℤ, pos, negsuc}
 use lib.ListN.{length, replicate}
 use Rattle.clause_list.specs.Marked as list
 use Rattle.instance.specs.Answers as check
+use Rattle.search_rules.specs.Run.{tally}
 use Rattle.search.specs.Answers.{Answer, found, none, spent}
 use Rattle.solve_rules.specs.Answers as back
 
@@ -21,7 +22,7 @@ pub record Fitting : Type 0 where
   pub clauses : ℕ
   pub size : ℕ
   pub words : List ℤ
-  -- the search of these words within the row's budget, and the values and the trail that it leaves
+  -- the search of these words within the row's budget, with its forces, choices and turns, and the values and the trail that it leaves
   pub search : Answer
   pub values : List ℕ
   pub trail : List ℤ
@@ -73,7 +74,7 @@ k1-fits =
       clauses = 5;
       size = 14;
       words = list.k1;
-      search = found 4;
+      search = found (tally 3 1 0);
       values = 1 ∷ 0 ∷ 1 ∷ 1 ∷ [];
       trail = pos 1 ∷ pos 4 ∷ neg 2 ∷ pos 3 ∷ [];
       reading-back = back.copied 2;
@@ -100,7 +101,7 @@ table =
             clauses = 7;
             size = 20;
             words = list.k2 (pos 4);
-            search = found 4;
+            search = found (tally 3 1 0);
             values = 1 ∷ 0 ∷ 1 ∷ 1 ∷ [];
             trail = pos 1 ∷ pos 4 ∷ neg 2 ∷ pos 3 ∷ [];
             reading-back = back.copied 2;
@@ -123,7 +124,7 @@ table =
             clauses = 7;
             size = 20;
             words = list.k2 (neg 4);
-            search = none 4;
+            search = none (tally 4 0 0);
             values = 2 ∷ 2 ∷ 2 ∷ 2 ∷ [];
             trail = pos 0 ∷ pos 0 ∷ pos 0 ∷ pos 0 ∷ [];
             reading-back = back.refused 11;
@@ -146,7 +147,7 @@ table =
             clauses = 5;
             size = 14;
             words = list.k1;
-            search = spent 3;
+            search = spent (tally 2 1 0);
             values = 1 ∷ 3 ∷ 2 ∷ 1 ∷ [];
             trail = pos 1 ∷ pos 4 ∷ neg 2 ∷ pos 0 ∷ [];
             reading-back = back.refused 11;
@@ -172,7 +173,7 @@ table =
                 pos 1 ∷ pos 1
                 ∷ pos 2 ∷ pos 4 ∷ pos 2 ∷ pos 2 ∷ pos 4 ∷ pos 3 ∷ pos 3 ∷ neg 4 ∷ neg 2 ∷ neg 3
                 ∷ pos 1 ∷ pos 4 ∷ [];
-            search = found 4;
+            search = found (tally 2 2 0);
             values = 1 ∷ 0 ∷ 0 ∷ 1 ∷ [];
             trail = pos 1 ∷ pos 4 ∷ neg 2 ∷ neg 3 ∷ [];
             reading-back = back.copied 2;
@@ -195,7 +196,7 @@ table =
             clauses = 2;
             size = 4;
             words = pos 1 ∷ pos 1 ∷ pos 1 ∷ pos 2 ∷ [];
-            search = found 2;
+            search = found (tally 2 0 0);
             values = 1 ∷ 1 ∷ [];
             trail = pos 1 ∷ pos 2 ∷ [];
             reading-back = back.copied 1;
@@ -225,7 +226,7 @@ table =
                 ∷ pos 2 ∷ pos 10 ∷ neg 6 ∷ pos 2 ∷ pos 10 ∷ neg 7 ∷ pos 2 ∷ pos 10 ∷ neg 8 ∷ pos 2 ∷ pos 10 ∷ neg 9
                 ∷ pos 9 ∷ neg 10 ∷ pos 2 ∷ pos 3 ∷ pos 4 ∷ pos 5 ∷ pos 6 ∷ pos 7 ∷ pos 8 ∷ pos 9
                 ∷ pos 1 ∷ pos 10 ∷ [];
-            search = found 10;
+            search = found (tally 3 7 0);
             values = 1 ∷ 0 ∷ 0 ∷ 0 ∷ 0 ∷ 0 ∷ 0 ∷ 0 ∷ 1 ∷ 1 ∷ [];
             trail = pos 1 ∷ pos 10 ∷ neg 2 ∷ neg 3 ∷ neg 4 ∷ neg 5 ∷ neg 6 ∷ neg 7 ∷ neg 8 ∷ pos 9 ∷ [];
             reading-back = back.copied 8;

@@ -10,7 +10,7 @@ use Rattle.search_rules.specs.declared.Position.{Position}
 use Rattle.search.specs.Answers.{Answer, spent}
 use Rattle.search.specs.Resumed.{Resumption, left, resumption}
 use Rattle.search.specs.Resuming.{start, Chain, last, spends}
-use Rattle.search.proofs.Resuming.{same-as-one}
+use Rattle.search.proofs.Resuming.{none-done, same-as-one}
 use Rattle.onward.specs.Limits.{mostSteps}
 use Rattle.search.proofs.MoreSteps.{Unspent, more-steps}
 
@@ -47,7 +47,7 @@ module _ (list : List ℤ) (v : ℕ) (values₀ : List ℕ) (trail₀ : List ℤ
 
   -- a chain of all the steps at most
   one-call : (n : ℕ) (r : Resumption) → n ≤ mostSteps → From r n → r ≡ resumption list v values₀ trail₀ start n
-  one-call n r few c = same-as-one list v values₀ trail₀ start n r c (omega arith)
+  one-call n r few c = same-as-one list v values₀ trail₀ start n r c (none-done n (omega arith))
 
   module _ (values : List ℕ) (trail : List ℤ) (p : Position) (calls : ℕ) (l : Loop list v values₀ trail₀ values trail p calls) where
     -- no call is left: a call with no steps says where the search stands
@@ -67,7 +67,7 @@ module _ (list : List ℤ) (v : ℕ) (values₀ : List ℕ) (trail₀ : List ℤ
           let e : m + n ≡ mostSteps = omega (arith, l .few) in
           let d = call ∙ one-call m _ (omega (arith, l .few)) (l .chain per-call _ (last per-call)) in
           d
-          ∙ sym (more-steps list v values₀ trail₀ start m n (omega (arith, e)) λ steps f. h steps (ap (λ r. r .outcome .answer) d ∙ f))
+          ∙ sym (more-steps list v values₀ trail₀ start m n (none-done (m + n) (omega (arith, e))) λ steps f. h steps (ap (λ r. r .outcome .answer) d ∙ f))
           ∙ ap (resumption list v values₀ trail₀ start) e
 
       -- it is spent

@@ -6,9 +6,7 @@ ghost use Rattle.solve_rules.specs.Finding.{Slices, slices};
 ghost use Rattle.solve.specs.Private.{Left};
 ghost use Rattle.onward.specs.Limits.{mostSteps};
 ghost use Rattle.onward.specs.Private.{Begun, SomeBegun};
-use super::calls::STEPS;
 use super::calls::go_on;
-use super::shown::end_line;
 use clauses::answer::Count;
 use clauses::answer::Size;
 use clauses::count;
@@ -35,9 +33,6 @@ fn run_on(
     let v = size.variables;
     let w = size.words;
     let ended = go_on(&list[..w], v as u32, values, trail);
-    let position = ended.position;
-    // more steps than those of one call: the first was spent, and shown
-    end_line(position.steps > STEPS);
     let answer = ended.answer;
     if let Search::Found(_) = answer {
         read_back(sheet, &values[..v], instance);

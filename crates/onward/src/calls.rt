@@ -4,14 +4,16 @@ ghost use Rattle.search.specs.Answers.{answerOf};
 ghost use Rattle.search.specs.Resumed.{left, resumption};
 ghost use Rattle.search.specs.Resuming.{start};
 ghost use Rattle.onward.specs.Limits.{mostSteps};
+use super::shown::end_line;
 use super::shown::show;
-use search::answer::Position;
+use report::finder::step_figure;
 use search::answer::Resumed;
 use search::answer::Search;
 use search::resumed;
+use search_rules::Position;
 
 // The steps that one call is allowed.
-pub(crate) const STEPS: u64 = 1000000;
+const STEPS: u64 = 1000000;
 
 // The calls that are made at most.
 const CALLS: u64 = 18446744073709;
@@ -24,7 +26,9 @@ pub(crate) fn go_on(list: &[i32], v: u32, values: &mut [u8], trail: &mut [i32]) 
 {
     let mut position = Position {
         length: 0,
-        steps: 0,
+        propagations: 0,
+        decisions: 0,
+        backtracks: 0,
     };
     let mut left = CALLS;
     while left > 0 {
@@ -32,11 +36,14 @@ pub(crate) fn go_on(list: &[i32], v: u32, values: &mut [u8], trail: &mut [i32]) 
         let answer = call.answer;
         if let Search::Spent(steps) = answer {
             position = call.position;
-            show(steps);
+            show(step_figure(steps));
         } else {
+            // a call before this one was spent, and shown
+            end_line(left < CALLS);
             return call;
         }
         left -= 1;
     }
+    end_line(true);
     resumed(list, v, values, trail, position, 0)
 }

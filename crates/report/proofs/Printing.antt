@@ -1,14 +1,21 @@
 -- What a function ensures that prints what was found within a budget: of the text, of the slices, and of what the text tells.
-use mathlib.Core.Path.{_≡_, sym, _∙_}
+use mathlib.Core.Path.{_≡_, sym, _∙_, ap}
 use mathlib.Core.List.{List}
+use mathlib.Core.Option.{some}
 use Prim.Native.Nat.{ℕ, _≤_, _<_}
+use native.Mathlib.Omega.{arith}
 use lib.ListN.{length, take}
 use Rattle.text.specs.Puts.{Put}
 use Rattle.text.specs.Texts.{bytesOf, endLine, Prints}
 use Rattle.text.proofs.Puts.{put-as, prints, counts}
 use Rattle.sheet_rules.specs.Blocks.{sheetOf}
-use Rattle.search.specs.Answers.{Answer}
+use Rattle.search_rules.specs.declared.Steps.{Steps}
+use Rattle.search_rules.specs.Run.{total}
+use Rattle.search_rules.specs.Held.{stepLimit}
+use Rattle.search.specs.Answers.{Answer, found, stepsIn}
 use Rattle.solve_rules.specs.Finding.{Slices, finding}
+use Rattle.solve_rules.specs.Demand3.{FitsLimits}
+use Rattle.solve_rules.proofs.Findings.{found-fits, found-few}
 use Rattle.report.specs.Printed.{report, findingText, slicesAfter}
 use Rattle.report.specs.Tells.{Tells}
 use Rattle.report.proofs.Tells.{printed-tells}
@@ -18,6 +25,14 @@ abbrev Ensured : ℕ → List ℕ → (lent left : Slices) → (before after : L
 Ensured budget input lent left before after end =
     ((end ≤ length after) × (end ≡ length (take end after)))
     × (Prints (findingText budget input lent) before after end × ((left ≡ slicesAfter budget input lent) × Tells input (take end after)))
+
+-- what `put_report` asks of it
+pub reportable : (budget : ℕ) (input : List ℕ) (lent : Slices) (a : Answer) → budget ≤ stepLimit → a ≡ finding input lent budget .answer
+    → ((steps : Steps) → a ≡ found steps → FitsLimits input) × ((steps : Steps) → stepsIn a ≡ some steps → total steps ≤ stepLimit)
+reportable budget input lent a h e = (
+  λ steps f. found-fits input lent budget steps (sym e ∙ f),
+  λ steps f. omega (arith, found-few input lent budget steps (ap stepsIn (sym e) ∙ f)),
+)
 
 module _ (budget : ℕ) (input : List ℕ) (lent : Slices) {before after : List ℕ} {end : ℕ} where
   ensured : {left : Slices} → Put before 0 (findingText budget input lent) after end → end ≤ length before

@@ -36,6 +36,11 @@ module _ (v : ℕ) (state : State) (opened : WasOpen v state) (values : List ℕ
   pub stored : Stored v state (take v values) (take v trail) (length state)
   stored = record { values-are = vs; trail-is = ts; used-is = refl; was-open = opened }
 
+-- no steps done add nothing to those allowed
+pub none-done : (budget : ℕ) → budget ≤ stepLimit → total (stepsOf start) + budget ≤ stepLimit
+unfolding total
+none-done budget few = omega arith
+
 -- a fresh start
 module _ (list : List ℤ) (v : ℕ) (values : List ℕ) (trail : List ℤ) (budget : ℕ) (vs : take v values ≡ valuesOf v [])
     (ts : take v trail ≡ trailOf v []) (few : budget ≤ stepLimit) where
@@ -47,10 +52,6 @@ module _ (list : List ℤ) (v : ℕ) (values : List ℕ) (trail : List ℤ) (bud
       ≡ finish v values trail (searchRun list v budget)
   unfolding stateIn
   ends-alike = refl
-
-  none-done : total (stepsOf start) + budget ≤ stepLimit
-  unfolding total
-  none-done = omega arith
 
   by-tests : (a b c : Bool) → isList v list ≡ a → leb v (length values) ≡ b → leb v (length trail) ≡ c
       → resumption list v values trail start budget .outcome ≡ outcome list v values trail budget
@@ -64,7 +65,7 @@ module _ (list : List ℤ) (v : ℕ) (values : List ℕ) (trail : List ℤ) (bud
       ∙ sym (searched.short-trail list v values trail budget d (leb-false _ _ f))
   by-tests true true true d e f =
       ap (λ o. o .outcome) (resumed.runs list v values trail start budget d (leb-true _ _ e) (leb-true _ _ f)
-      (stored-passes v [] _ _ 0 empty) none-done)
+      (stored-passes v [] _ _ 0 empty) (none-done budget few))
       ∙ ends-alike
       ∙ sym (searched.runs list v values trail budget d (leb-true _ _ e) (leb-true _ _ f))
 

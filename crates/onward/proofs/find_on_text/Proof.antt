@@ -1,11 +1,9 @@
 -- `find_on_text` meets its contract: what `find_on` ensures, as text.
-use mathlib.Core.Path.{sym, _∙_}
 use native.Mathlib.Omega.{arith}
 use borrow.Author.Needs.{needs}
 use Rattle.solve_rules.specs.Finding.{Slices, slices}
-use Rattle.solve_rules.proofs.Findings.{found-fits}
 use Rattle.onward.specs.Limits.{mostSteps}
-use Rattle.report.proofs.Printing.{long-input, short-input}
+use Rattle.report.proofs.Printing.{reportable, long-input, short-input}
 use Rattle.onward.proofs.find_on_text.Statement.{statement}
 use Rattle.onward.proofs.find_on_text.Tie as tie
 
@@ -32,7 +30,7 @@ put-report-requires : tie.Need-put-report-requires
 put-report-requires c κs =
     let k = c .before .before .before in
     let s = k .before .before .before .before .before .before .before in
-    (omega arith, λ n e. found-fits (s .args .input .now) (lent s) mostSteps n (sym (k .find-on .ensures .0) ∙ e))
+    (omega arith, reportable mostSteps (s .args .input .now) (lent s) _ (omega arith) (k .find-on .ensures .0))
 
 returns-2 : tie.Need-returns-2
 returns-2 c =

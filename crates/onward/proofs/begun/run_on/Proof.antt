@@ -34,18 +34,15 @@ cast-go-on c = let h = fitting (c .before .before .before .before) .few in searc
 go-on-requires : tie.Need-go-on-requires
 go-on-requires c κs = search needs
 
-end-line-requires : tie.Need-end-line-requires
-end-line-requires c κs = search needs
-
 enum-told : tie.Need-enum-told
 enum-told c = search needs
 
 slice-reshare-prefix-read-back : tie.Need-slice-reshare-prefix-read-back
-slice-reshare-prefix-read-back c = still-wide (c .before .before .before .before .before .before .before .before)
+slice-reshare-prefix-read-back c = still-wide (c .before .before .before .before .before)
 
 slice-aggregate-read-back : tie.Need-slice-aggregate-read-back
 slice-aggregate-read-back c =
-    let k = c .before .before .before .before .before .before .before .before .before in
+    let k = c .before .before .before .before .before .before in
     sym (length-take-le _ (k .go-on .last .1 .1 .0) (still-wide k))
 
 read-back-requires : tie.Need-read-back-requires
@@ -62,7 +59,7 @@ same-length-3 c = search needs
 
 returns : tie.Need-returns
 returns c lent b =
-    let k = c .before .before .before .before .before .before .before .before .before .before .before .before .before in
+    let k = c .before .before .before .before .before .before .before .before .before .before in
     let s = start k in
     let z = s .args .size in
     let n = count-fits (s .args .sheet .now) (z .variables) (z .clauses) (z .words) (s .pre .0) in
@@ -78,7 +75,7 @@ same-length-5 c = search needs
 
 returns-2 : tie.Need-returns-2
 returns-2 c lent b =
-    let k = c .before .before .before .before .before .before .before in
+    let k = c .before .before .before .before in
     let s = start k in
     let z = s .args .size in
     let n = count-fits (s .args .sheet .now) (z .variables) (z .clauses) (z .words) (s .pre .0) in
@@ -88,5 +85,5 @@ returns-2 c lent b =
 pub run-on-spec : {M : Type 1} → statement M
 run-on-spec =
     tie.close
-    (tie.spec slice-aggregate-go-on cast-go-on go-on-requires end-line-requires enum-told slice-reshare-prefix-read-back
+    (tie.spec slice-aggregate-go-on cast-go-on go-on-requires enum-told slice-reshare-prefix-read-back
     slice-aggregate-read-back read-back-requires same-length same-length-2 same-length-3 returns same-length-4 same-length-5 returns-2)

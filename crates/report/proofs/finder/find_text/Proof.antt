@@ -1,12 +1,9 @@
 -- `find_text` meets its contract: what `find` ensures, as text.
-use mathlib.Core.Path.{sym, _∙_, ap}
 use native.Mathlib.Omega.{arith}
 use borrow.Author.Needs.{needs}
-use Rattle.search.specs.Answers.{stepsIn}
 use Rattle.solve_rules.specs.Finding.{Slices, slices}
-use Rattle.solve_rules.proofs.Findings.{found-fits, found-few}
 use Rattle.report.specs.Printed.{finderBudget}
-use Rattle.report.proofs.Printing.{long-input, short-input}
+use Rattle.report.proofs.Printing.{reportable, long-input, short-input}
 use Rattle.report.proofs.finder.find_text.Statement.{statement}
 use Rattle.report.proofs.finder.find_text.Tie as tie
 
@@ -33,13 +30,7 @@ put-report-requires : tie.Need-put-report-requires
 put-report-requires c κs =
     let k = c .before .before .before in
     let s = k .before .before .before .before .before .before .before in
-    let is = sym (k .find .ensures .0) in (
-      omega arith,
-      (
-        λ n e. found-fits (s .args .input .now) (lent s) finderBudget n (is ∙ e),
-        λ n e. omega (arith, found-few (s .args .input .now) (lent s) finderBudget n (ap stepsIn is ∙ e)),
-      ),
-    )
+    (omega arith, reportable finderBudget (s .args .input .now) (lent s) _ (omega arith) (k .find .ensures .0))
 
 returns-2 : tie.Need-returns-2
 returns-2 c =

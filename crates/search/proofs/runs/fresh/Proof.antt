@@ -1,14 +1,14 @@
 -- `search::runs::fresh` meets its contract. Assumes nothing.
 use mathlib.Core.Path.{_≡_, _∙_, ap}
 use mathlib.Core.List.{[]}
-use Prim.Native.Nat.{ℕ, _+_, _≤_}
+use Prim.Native.Nat.{ℕ}
 use native.Mathlib.Omega.{arith}
 use lib.IntN.{pos}
 use lib.ListN.{length, replicate, length-replicate}
 use borrow.Author.Needs.{needs}
-use Rattle.search_rules.specs.Run.{zeros, total}
-use Rattle.search_rules.specs.Held.{stepLimit, Stored}
+use Rattle.search_rules.specs.Held.{Stored}
 use Rattle.search_core.proofs.Slices as slices
+use Rattle.search.proofs.Resuming.{none-done}
 use Rattle.search.proofs.runs.fresh.Statement.{statement}
 use Rattle.search.proofs.runs.fresh.Tie as tie
 
@@ -37,16 +37,12 @@ module _ (c : tie.After-go-on-arg2) where
   held : Stored v [] (c .before .before .before .before .before .before .before .open-all .last .0) (c .before .before .before .clear-all .last .0) 0
   held = slices.fresh v _ _ all-open all-clear
 
-  none-done : total zeros + s .args .budget ≤ stepLimit
-  unfolding total
-  none-done = omega (arith, s .fits .budget)
-
 go-on-requires : tie.Need-go-on-requires
 go-on-requires c κs = (
   rw (wide c) (s c .pre .0),
   (
     rw (wide c) (s c .pre .1 .0),
-    (record { state = []; stored = rw (wide c) (held c) }, none-done c),
+    (record { state = []; stored = rw (wide c) (held c) }, none-done (s c .args .budget) (omega (arith, s c .fits .budget))),
   ),
 )
 
