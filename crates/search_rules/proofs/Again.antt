@@ -1,19 +1,17 @@
--- A run that is taken up again: it left a state over the same variables, and its steps and those after it are one run's.
-use mathlib.Core.Path.{_≡_, refl, sym, _∙_, ap}
+-- A run that is spent leaves a state over the same variables, so that it can be taken up again.
+use mathlib.Core.Path.{_≡_}
 use mathlib.Core.List.{List, [], _∷_}
-use Prim.Native.Nat.{ℕ, zero, suc, _+_}
+use Prim.Native.Nat.{ℕ}
 use native.Mathlib.Omega.{arith}
-use native.Mathlib.Nat.{add-zero, add-suc}
 use lib.IntN.{ℤ}
 use Rattle.search_rules.specs.declared.Steps.{Steps}
-use Rattle.search_rules.specs.Rules.{propagated, decided, State, wordOf, placeOf, Kind, propagation, decision, backtrack}
+use Rattle.search_rules.specs.Rules.{propagated, decided, State, wordOf, placeOf, Kind}
 use Rattle.search_rules.specs.Rules.{Next, endNone, endFound, step, turn, next, valuesOf}
-use Rattle.search_rules.specs.Run.{zeros, total, count, End, wasNone, wasFound, wasSpent, run}
+use Rattle.search_rules.specs.Run.{wasSpent, run}
 use Rattle.search_rules.specs.Held.{WasOpen}
 use Rattle.search_rules.proofs.Ranges.{Ranged}
 use Rattle.search_rules.proofs.Invariant.{first-unit-open, length-values}
 use Rattle.search_rules.proofs.StepView.{Step, ends-none, ends-found, backtracks, propagates, decides, view, Ends, run-ends}
-use Rattle.search_rules.proofs.Theorems.{again, resume}
 
 -- a step from a state over v variables leads to one
 module _ (v : ℕ) where

@@ -7,14 +7,14 @@ use mathlib.Core.Option.{none as Option·none, some}
 use Prim.Native.Nat.{ℕ, _≤_}
 use native.Mathlib.Omega.{arith}
 use lib.Dec.{leb}
-use lib.ListN.{length}
+use lib.ListN.{length, take}
 use borrow.Author.Tests.{leb-true, leb-false, le-leb}
 use Rattle.prelude.proofs.Laws.{clash, and-left, and-right, and-both}
 use Rattle.sheet_rules.specs.Blocks.{sheetOf}
 use Rattle.relational.specs.Cells.{cellCount}
 use Rattle.clauses_rules.specs.Whole.{variableTotal, wordTotal}
 use Rattle.clauses.specs.Answers as count
-use Rattle.clauses.specs.Answers.{countAnswer}
+use Rattle.clauses.specs.Answers.{countAnswer, listAfter}
 use Rattle.clauses.proofs.Answered.{Counted, count-fits}
 use Rattle.search_rules.specs.declared.Steps.{Steps}
 use Rattle.search_rules.specs.Run.{total}
@@ -130,7 +130,9 @@ module _ (s : List ℕ) (lent : Slices) (budget : ℕ) where
       let f : Option·none ≡ some steps = ap (λ x. stepsIn (x .answer)) (sym (d .is)) ∙ e in
       let z : _≡_ {A = ℕ} 0 1 = cc in
       absurd (omega arith))
-      (λ (r : Ran). searched-few _ _ _ _ budget steps (ap (λ x. stepsIn (x .answer)) (sym (r .is)) ∙ e))
+      (λ (r : Ran).
+      searched-few (take (wordTotal (sheetOf s)) (listAfter s (lent .list))) (variableTotal (sheetOf s)) (lent .values) (lent .trail) budget steps
+      (ap (λ x. stepsIn (x .answer)) (sym (r .is)) ∙ e))
       called
 
   -- "found" is no answer of a call that declines

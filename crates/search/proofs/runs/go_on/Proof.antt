@@ -1,13 +1,7 @@
 -- `search::runs::go_on` meets its contract. Assumes nothing.
-use mathlib.Core.Path.{ap, _∙_}
-use Prim.Native.Nat.{ℕ, _+_, _≤_}
+use mathlib.Core.Path.{_∙_}
 use native.Mathlib.Omega.{arith}
-use lib.ListN.{length}
 use borrow.Author.Needs.{needs}
-use Rattle.clause_list.specs.ClauseList.{clausesOf}
-use Rattle.search_rules.specs.Rules.{State}
-use Rattle.search_rules.specs.Run.{total, zeros}
-use Rattle.search_rules.specs.Held.{stepLimit}
 use Rattle.search.proofs.Outcomes.{finish-none, finish-found, finish-spent}
 use Rattle.search.proofs.runs.go_on.Statement.{statement}
 use Rattle.search.proofs.runs.go_on.Tie as tie
