@@ -3,9 +3,10 @@
 use crate::clauses::{count, translate, write, Size};
 use crate::dimacs::{parse, text};
 use crate::finder::{find, finder};
+use crate::long_search::long;
 use crate::meaning::check;
 use crate::random_sheet::{gates_of, pigeonhole, walk_of};
-use crate::search::{search, Answer, End};
+use crate::search::{search, Answer, End, Steps};
 use crate::sheet::*;
 
 const TEXT: &str = "p cnf 4 5\n1 0\n4 -2 0\n4 -3 0\n-4 2 3 0\n4 0\n";
@@ -37,6 +38,16 @@ fn k3() -> Vec<u8> {
     sheet
 }
 
+/// An end after so many forces, choices and turns.
+const fn after(end: End, forces: u64, choices: u64, turns: u64) -> Answer {
+    Answer { end, steps: Steps::new(forces, choices, turns) }
+}
+
+/// The answer of a whole run over slices that are long enough.
+fn whole(sheet: &[u8]) -> Result<Answer, u32> {
+    find(sheet, &mut [0; 99], &mut [0; 9], &mut [0; 9], &mut [0; 9], 1_000_000)
+}
+
 #[test]
 fn k1_some() {
     let mut list = [77; 16];
@@ -44,24 +55,27 @@ fn k1_some() {
     assert_eq!(list, [1, 1, 2, 4, -2, 2, 4, -3, 3, -4, 2, 3, 1, 4, 77, 77]);
     assert_eq!(text(&list[..14], 4).as_deref(), Ok(TEXT));
     assert_eq!(finder(&k1()), "found 4\nr0 01\n");
+    assert_eq!(whole(&k1()), Ok(after(End::Found, 3, 1, 0)));
 }
 
 #[test]
 fn k2_exactly_one() {
     assert_eq!(count(&k2()), Ok(Size { variables: 4, clauses: 7, words: 20 }));
     assert_eq!(finder(&k2()), "found 4\nr0 01\n");
+    assert_eq!(whole(&k2()), Ok(after(End::Found, 3, 1, 0)));
 }
 
 #[test]
 fn k3_not() {
     assert_eq!(finder(&k3()), "none 4\n");
+    assert_eq!(whole(&k3()), Ok(after(End::None, 4, 0, 0)));
 }
 
 #[test]
 fn k4_spent() {
     let (mut list, mut values, mut trail, mut instance) = ([0; 14], [9; 5], [9; 5], [9; 3]);
     let answer = find(&k1(), &mut list, &mut values, &mut trail, &mut instance, 3);
-    assert_eq!(answer, Ok(Answer { end: End::Spent, steps: 3 }));
+    assert_eq!(answer, Ok(after(End::Spent, 2, 1, 0)));
     assert_eq!((values, trail, instance), ([1, 3, 2, 1, 9], [1, 4, -2, 0, 9], [9; 3]));
 }
 
@@ -210,7 +224,7 @@ fn the_innermost_binder_counts() {
 fn no_force_from_an_open_variable_with_both_signs() {
     let (mut values, mut trail) = ([0; 2], [0; 2]);
     let answer = search(&[2, 1, -1, 2, 2, 2], 2, &mut values, &mut trail, 9);
-    assert_eq!(answer, Ok(Answer { end: End::Found, steps: 2 }));
+    assert_eq!(answer, Ok(after(End::Found, 1, 1, 0)));
     // the twin forces 2, then 1 is chosen
     assert_eq!((values, trail), ([0, 1], [2, -1]));
 }
@@ -229,9 +243,30 @@ fn lists() {
 #[test]
 fn an_end_goes_before_the_budget() {
     let end = |list: &[i32], budget| search(list, 2, &mut [0; 2], &mut [0; 2], budget).unwrap();
-    assert_eq!(end(&[1, 1, 1, -1], 1), Answer { end: End::None, steps: 1 });
-    assert_eq!(end(&[], 2), Answer { end: End::Found, steps: 2 });
-    assert_eq!(end(&[], 1), Answer { end: End::Spent, steps: 1 });
+    assert_eq!(end(&[1, 1, 1, -1], 1), after(End::None, 1, 0, 0));
+    assert_eq!(end(&[], 2), after(End::Found, 0, 2, 0));
+    assert_eq!(end(&[], 1), after(End::Spent, 0, 1, 0));
+}
+
+/// (1 2) (1 -2): -1 is chosen, 2 forced, the choice turned, -2 chosen.
+#[test]
+fn each_kind_of_step() {
+    let answer = |budget| search(&[2, 1, 2, 2, 1, -2], 2, &mut [0; 2], &mut [0; 2], budget).unwrap();
+    let spent = [(0, 0, 0), (0, 1, 0), (1, 1, 0), (1, 1, 1)];
+    for (budget, (forces, choices, turns)) in (0..).zip(spent) {
+        assert_eq!(answer(budget), after(End::Spent, forces, choices, turns));
+    }
+    assert_eq!((answer(4), answer(u64::MAX)), (after(End::Found, 1, 2, 1), after(End::Found, 1, 2, 1)));
+    // 1 and 6 are forced, -2 is chosen, 3, 4 and 5 are forced, the choice is turned, -3, 4 and 5 are forced
+    assert_eq!(whole(&long(&[], 0, false).bytes()), Ok(after(End::None, 8, 1, 1)));
+}
+
+#[test]
+fn the_sum_does_not_wrap() {
+    let most = u64::MAX;
+    assert_eq!(Steps::default().sum(), 0);
+    assert_eq!(Steps::new(1, 20, 300).sum(), 321);
+    assert_eq!(Steps::new(most, most, most).sum(), 3 * ((1 << 64) - 1));
 }
 
 #[test]

@@ -70,7 +70,7 @@ pub fn lines(sheet: &Sheet, instance: &[u8]) -> String {
     out
 }
 
-/// What the finder program prints.
+/// What the finder program prints; its steps are those of all kinds.
 pub fn finder(input: &[u8]) -> String {
     run(input, BUDGET).unwrap_or_else(|number| format!("refused {number}\n"))
 }
@@ -88,7 +88,7 @@ fn run(input: &[u8], budget: u64) -> Result<String, u32> {
     let v = size.variables as usize;
     let (mut list, mut values, mut trail, mut instance) = (vec![0; WORDS], vec![0; v], vec![0; v], vec![0; v]);
     let answer = find(input, &mut list, &mut values, &mut trail, &mut instance, budget)?;
-    let steps = answer.steps;
+    let steps = answer.steps.sum();
     Ok(match answer.end {
         End::Found => format!("found {steps}\n") + &lines(&sheet::read(input)?, &instance),
         End::None => format!("none {steps}\n"),

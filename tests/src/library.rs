@@ -4,7 +4,7 @@
 
 use reference::clauses::Size;
 use reference::resume;
-use reference::search::{Answer, End};
+use reference::search::{Answer, End, Steps};
 
 /// The answer behind a refusal's number.
 fn unless<T>(refusal: u32, answer: T) -> Result<T, u32> {
@@ -65,24 +65,29 @@ pub fn write(sheet: &[u8], list: &mut [i32]) -> Result<Size, u32> {
     unsafe { fawnloom_write(sheet.as_ptr(), sheet.len(), list.as_mut_ptr(), list.len()) }.size()
 }
 
-/// The end is 1 found, 2 none, 3 spent; 0 under a refusal.
+/// The end is 1 found, 2 none, 3 spent; under a refusal all else is 0. Forces, choices and turns are called propagations,
+/// decisions and backtracks there.
 #[repr(C)]
 struct SearchAnswer {
     refusal: u32,
     end: u32,
-    steps: u64,
+    propagations: u64,
+    decisions: u64,
+    backtracks: u64,
 }
 
 impl SearchAnswer {
     fn answer(self) -> Result<Answer, u32> {
-        let end = match self.end {
-            1 => End::Found,
-            2 => End::None,
-            3 => End::Spent,
-            end if self.refusal == 0 => panic!("no end: {end}"),
-            _ => return Err(self.refusal),
+        let steps = Steps { forces: self.propagations, choices: self.decisions, turns: self.backtracks };
+        let end = match (self.refusal, self.end) {
+            (0, 1) => End::Found,
+            (0, 2) => End::None,
+            (0, 3) => End::Spent,
+            (0, end) => panic!("no end: {end}"),
+            (refusal, 0) if steps == Steps::default() => return Err(refusal),
+            (refusal, end) => panic!("refused {refusal} with end {end} and {steps:?}"),
         };
-        unless(self.refusal, Answer { end, steps: self.steps })
+        Ok(Answer { end, steps })
     }
 }
 
@@ -109,7 +114,21 @@ pub fn search(list: &[i32], v: u32, values: &mut [u8], trail: &mut [i32], budget
 #[repr(C)]
 struct Position {
     length: usize,
-    steps: u64,
+    propagations: u64,
+    decisions: u64,
+    backtracks: u64,
+}
+
+impl Position {
+    fn of(resume::Position { length, steps }: resume::Position) -> Position {
+        let Steps { forces: propagations, choices: decisions, turns: backtracks } = steps;
+        Position { length, propagations, decisions, backtracks }
+    }
+
+    fn position(self) -> resume::Position {
+        let steps = Steps { forces: self.propagations, choices: self.decisions, turns: self.backtracks };
+        resume::Position { length: self.length, steps }
+    }
 }
 
 pub fn resume(
@@ -136,10 +155,10 @@ pub fn resume(
     let (list, words) = (list.as_ptr(), list.len());
     let (values, values_length) = (values.as_mut_ptr(), values.len());
     let (trail, trail_length) = (trail.as_mut_ptr(), trail.len());
-    let mut lent = Position { length: position.length, steps: position.steps };
+    let mut lent = Position::of(*position);
     let answer =
         unsafe { fawnloom_resume(list, words, v, values, values_length, trail, trail_length, &mut lent, budget) };
-    *position = resume::Position { length: lent.length, steps: lent.steps };
+    *position = lent.position();
     answer.answer()
 }
 

@@ -2,8 +2,11 @@
 
 use crate::random::Source;
 
-/// A good list with its number of variables: units, twins and opposites among its literals.
+/// A good list with its number of variables: units, twins and opposites among its literals; some whose search turns often.
 pub fn list(source: &mut Source) -> (Vec<i32>, u32) {
+    if source.chance(1, 4) {
+        return turning(source);
+    }
     let v = if source.chance(1, 40) { source.between(1, 200) } else { source.between(1, 12) };
     let clauses = source.below(5 * v.min(20) + 2);
     let longest = source.between(1, 5);
@@ -22,6 +25,14 @@ pub fn list(source: &mut Source) -> (Vec<i32>, u32) {
         }
     }
     (words, v as u32)
+}
+
+/// Clauses of three literals, about as many as leave it open whether all can be true.
+pub fn turning(source: &mut Source) -> (Vec<i32>, u32) {
+    let v = source.between(5, 12);
+    let clauses = source.between(3 * v, 5 * v);
+    let clause = |source: &mut Source| [3, literal(source, v), literal(source, v), literal(source, v)];
+    ((0..clauses).flat_map(|_| clause(source)).collect(), v as u32)
 }
 
 fn literal(source: &mut Source, v: usize) -> i32 {

@@ -3,7 +3,11 @@
 
 use crate::random::Source;
 use crate::resume::Position;
-use crate::search::{search, Answer, CHOSEN, FALSE, OPEN, TRUE};
+use crate::search::{search, Answer, Steps, CHOSEN, FALSE, OPEN, TRUE};
+
+/// The most steps that are counted, and half of one more.
+pub const MOST: u64 = u64::MAX;
+pub const HALF: u64 = 1 << 63;
 
 #[derive(Clone, Debug)]
 pub struct Call {
@@ -36,7 +40,13 @@ impl Call {
         call
     }
 
-    /// Any variables set, in any order, with any steps: 14 lets it pass, and most such states are reached by no search.
+    /// The same with so many steps done before.
+    pub fn after(mut self, steps: Steps) -> Call {
+        self.position.steps = self.position.steps + steps;
+        self
+    }
+
+    /// Any variables set, in any order, with any counters: 14 lets it pass, and most such states are reached by no search.
     pub fn unreached(source: &mut Source, list: &[i32], v: u32) -> Call {
         let mut call = Call::fresh(source, list, v);
         let mut variables: Vec<i32> = (1..=v as i32).collect();
@@ -48,8 +58,7 @@ impl Call {
             call.values[variable as usize - 1] = value;
             call.position.length = length + 1;
         }
-        call.position.steps = source.pick(&[0, 1, 1_000_000, u64::MAX / 2]);
-        call
+        call.after(counters(source))
     }
 
     /// The call made by one side.
@@ -74,6 +83,56 @@ impl Call {
     }
 }
 
+/// Counters to hand in, mostly three that differ: none, few, many. With a budget below 2^62 number 14 lets them pass.
+pub fn counters(source: &mut Source) -> Steps {
+    let mut counter = || {
+        let (few, many) = (source.below(100) as u64, source.next() >> 2);
+        source.pick(&[0, 1, few, 1_000_000 + few, many])
+    };
+    Steps::new(counter(), counter(), counter())
+}
+
+/// A sum over the three counters in each way: all in one of them, in two, in three.
+pub fn spreads(source: &mut Source, sum: u64) -> Vec<Steps> {
+    (1..8).map(|used| spread(source, sum, used)).collect()
+}
+
+/// A sum over the counters whose bit is set.
+fn spread(source: &mut Source, sum: u64, used: usize) -> Steps {
+    let (mut three, mut last, mut left) = ([0; 3], 0, sum);
+    for at in (0..3).filter(|at| used >> at & 1 == 1) {
+        let any = (u128::from(source.next()) % (u128::from(left) + 1)) as u64;
+        three[at] = source.pick(&[any, any, left / 2, left.min(1)]);
+        left -= three[at];
+        last = at;
+    }
+    three[last] += left;
+    Steps::new(three[0], three[1], three[2])
+}
+
+/// Counters that are more than 2^64 - 1 by themselves, in any order. In 64 bits they come to 0 twice, to 2^63, to 2^64 - 3, to
+/// little, and two of them or only all three to anything.
+fn too_many(source: &mut Source) -> Vec<Steps> {
+    let (few, mut upper) = (source.below(9) as u64, || source.next() | HALF);
+    let (one, other) = (upper(), upper());
+    let mut third = || (source.next() >> 3) + (3 << 61);
+    let sums = [
+        [HALF, HALF, 0],
+        [MOST, MOST, 2],
+        [HALF, HALF, HALF],
+        [MOST, MOST, MOST],
+        [MOST, 1, few],
+        [one, other, few],
+        [third(), third(), third()],
+    ];
+    let mut ordered = |[x, y, z]: [u64; 3]| {
+        let orders = [(x, y, z), (x, z, y), (y, x, z), (y, z, x), (z, x, y), (z, y, x)];
+        let (forces, choices, turns) = source.pick(&orders);
+        Steps::new(forces, choices, turns)
+    };
+    sums.map(&mut ordered).to_vec()
+}
+
 /// What was changed, and the call with it.
 pub type Damaged = (String, Call);
 
@@ -83,7 +142,7 @@ pub fn damages(source: &mut Source, call: &Call) -> Vec<Damaged> {
     all.extend(words_on_trail(source, call));
     all.extend(bytes(source, call));
     all.extend(words_behind(source, call));
-    all.extend(steps(call));
+    all.extend(steps(source, call));
     all
 }
 
@@ -171,22 +230,31 @@ fn words_behind(source: &mut Source, call: &Call) -> Vec<Damaged> {
     all
 }
 
-/// Steps done and allowed up to 2^64 - 1 and one more.
-fn steps(call: &Call) -> Vec<Damaged> {
-    const MOST: u64 = u64::MAX;
-    const HALF: u64 = 1 << 63;
+/// Steps done and allowed up to 2^64 - 1 and one more, those done in each way over the counters; other sums in one way; counters
+/// that are more by themselves.
+fn steps(source: &mut Source, call: &Call) -> Vec<Damaged> {
     let budget = call.budget;
-    let mut pairs = vec![(MOST - budget, budget), (MOST, 0), (MOST, 1), (MOST - 1, 1), (MOST, MOST), (HALF, HALF)];
+    let mut edges = vec![(MOST - budget, budget), (MOST, 0), (MOST, 1)];
     if budget > 0 {
-        pairs.push((MOST - budget + 1, budget));
+        edges.push((MOST - budget + 1, budget));
     }
+    let mut sums = vec![(MOST - 1, 1), (MOST, MOST), (HALF, HALF)];
     if call.v <= 12 {
         // the run is short whatever is allowed
-        pairs.extend([(0, MOST), (1, MOST), (2, MOST - 1), (HALF - 1, HALF), (HALF, HALF - 1)]);
+        sums.extend([(0, MOST), (1, MOST), (2, MOST - 1), (3, MOST - 3), (HALF - 1, HALF), (HALF, HALF - 1)]);
     }
-    let damaged = |(steps, budget): (u64, u64)| {
+    let mut pairs: Vec<(Steps, u64)> = Vec::new();
+    for (sum, budget) in edges {
+        pairs.extend(spreads(source, sum).into_iter().map(|steps| (steps, budget)));
+    }
+    for (sum, budget) in sums {
+        let spreads = spreads(source, sum);
+        pairs.push((source.pick(&spreads), budget));
+    }
+    pairs.extend(too_many(source).into_iter().flat_map(|steps| [(steps, 0), (steps, 1)]));
+    let damaged = |(steps, budget): (Steps, u64)| {
         let changed = call.changed(|call| (call.position.steps, call.budget) = (steps, budget));
-        (format!("{steps} steps and {budget} more"), changed)
+        (format!("{steps:?} and {budget} more"), changed)
     };
     pairs.into_iter().map(damaged).collect()
 }

@@ -1,14 +1,14 @@
-//! A stopped search taken up again (document 02, Change 1; number 14).
+//! A stopped search taken up again (document 02, Changes 1 and 3; number 14).
 
-use crate::search::{cut, Answer, End, State, CHOSEN, FALSE, OPEN, TRUE};
+use crate::search::{cut, Answer, End, State, Steps, CHOSEN, FALSE, OPEN, TRUE};
 use crate::sheet::{SHORT, STATE};
 use std::collections::BTreeSet;
 
-/// The record: the trail's length, and the steps done so far.
+/// The record: the trail's length, and the steps done so far of each kind.
 #[derive(Clone, Copy, Debug, Default, PartialEq, Eq)]
 pub struct Position {
     pub length: usize,
-    pub steps: u64,
+    pub steps: Steps,
 }
 
 /// The conditions of 14, in the order of its sentence.
@@ -51,12 +51,12 @@ pub fn faults(values: &[u8], trail: &[i32], position: &Position, budget: u64) ->
         Fault::Contradicts => literals.iter().any(|&literal| in_range(literal) && !goes_with(literal, value(literal))),
         Fault::Byte => (1..=v).any(|variable| !on_trail.contains(&variable) && values[variable - 1] != OPEN),
         Fault::Word => behind.iter().any(|&word| word != 0),
-        Fault::Steps => position.steps.checked_add(budget).is_none(),
+        Fault::Steps => position.steps.sum() + u128::from(budget) > u128::from(u64::MAX),
     };
     FAULTS.into_iter().filter(applies).collect()
 }
 
-/// The search from the state that slices and record hold: numbers 12, 13 and 14, else the end and the total of steps.
+/// The search from the state that slices and record hold: numbers 12, 13 and 14, else the end and the total of each kind.
 /// Only the first v values and trail words are touched; a refusal changes nothing.
 pub fn resume(
     list: &[i32],

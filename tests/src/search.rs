@@ -1,8 +1,9 @@
-//! The search by its step rules, as they are written (document 01, "Search", numbers 12 and 13). What takes a stopped one up
-//! again is in `resume.rs`.
+//! The search by its step rules, as they are written (document 01, "Search", numbers 12 and 13), with a counter for each kind
+//! of step (document 02, Change 3). What takes a stopped one up again is in `resume.rs`.
 
 use crate::clauses::VARIABLES;
 use crate::sheet::{LIST, SHORT};
+use std::ops::Add;
 
 /// The bytes of the values.
 pub const FALSE: u8 = 0;
@@ -17,10 +18,38 @@ pub enum End {
     Spent,
 }
 
+/// The steps of each kind, by themselves.
+#[derive(Clone, Copy, Debug, Default, PartialEq, Eq)]
+pub struct Steps {
+    pub forces: u64,
+    pub choices: u64,
+    pub turns: u64,
+}
+
+impl Steps {
+    pub const fn new(forces: u64, choices: u64, turns: u64) -> Steps {
+        Steps { forces, choices, turns }
+    }
+
+    /// The three together, which may be more than 64 bits hold.
+    pub fn sum(&self) -> u128 {
+        [self.forces, self.choices, self.turns].map(u128::from).into_iter().sum()
+    }
+}
+
+impl Add for Steps {
+    type Output = Steps;
+
+    /// Each kind by itself.
+    fn add(self, more: Steps) -> Steps {
+        Steps::new(self.forces + more.forces, self.choices + more.choices, self.turns + more.turns)
+    }
+}
+
 #[derive(Clone, Copy, Debug, PartialEq, Eq)]
 pub struct Answer {
     pub end: End,
-    pub steps: u64,
+    pub steps: Steps,
 }
 
 /// The clauses of a list in words, or number 12.
@@ -121,36 +150,38 @@ impl State {
         (!self.values.contains(&OPEN)).then_some(End::Found)
     }
 
-    /// One step from a state that is at no end.
-    fn step(&mut self, clauses: &[Vec<i32>]) {
+    /// One step from a state that is at no end, which is counted by its kind.
+    fn step(&mut self, clauses: &[Vec<i32>], taken: &mut Steps) {
         let clash = clauses.iter().any(|clause| clause.iter().all(|&literal| self.is_false(literal)));
         if clash {
             assert!(self.turn(), "a choice is left");
+            taken.turns += 1;
         } else if let Some(literal) = self.forced(clauses) {
             self.set(literal, if literal > 0 { TRUE } else { FALSE });
+            taken.forces += 1;
         } else {
             let variable = self.lowest_open().expect("an open variable");
             self.set(-variable, CHOSEN);
+            taken.choices += 1;
         }
     }
 
-    /// Steps up to an end or to the budget, and what the end does to the state; the end, and the steps done.
-    pub fn run(&mut self, clauses: &[Vec<i32>], budget: u64) -> (End, u64) {
-        let mut steps = 0;
+    /// Steps up to an end or to the budget, and what the end does to the state; the end, and the steps taken.
+    pub fn run(&mut self, clauses: &[Vec<i32>], budget: u64) -> (End, Steps) {
+        let mut taken = Steps::default();
         let end = loop {
             match self.end(clauses) {
                 Some(end) => break end,
-                None if steps == budget => break End::Spent,
-                None => self.step(clauses),
+                None if taken.sum() == u128::from(budget) => break End::Spent,
+                None => self.step(clauses, &mut taken),
             }
-            steps += 1;
         };
         match end {
             End::Found => self.values.iter_mut().filter(|value| **value == CHOSEN).for_each(|value| *value = FALSE),
             End::None => *self = State::all_open(self.values.len()),
             End::Spent => {}
         }
-        (end, steps)
+        (end, taken)
     }
 
     /// Writes the state to the front of lent slices: the trail is filled up with 0s.
@@ -162,7 +193,7 @@ impl State {
     }
 }
 
-/// The search from all open: numbers 12 and 13, else the end and the steps done.
+/// The search from all open: numbers 12 and 13, else the end and the steps done of each kind.
 /// Only the first v values and trail words are touched.
 pub fn search(list: &[i32], v: u32, values: &mut [u8], trail: &mut [i32], budget: u64) -> Result<Answer, u32> {
     let clauses = cut(list, v)?;

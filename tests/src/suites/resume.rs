@@ -1,19 +1,22 @@
 //! A stopped search taken up again: chains of calls against one run, damaged states, states that no search leaves, calls
-//! after an end. Answers, slices, what is behind them and the record are compared each time. A caller in C is in
-//! `callers.rs`.
+//! after an end, counters from 0, from anything and up to 2^64 - 1. Answers, slices, what is behind them and the record are
+//! compared each time. A caller in C is in `callers.rs`.
 
 use super::search::some_list;
 use super::{agree, callers, covered, shown};
 use crate::{Outcome, Run};
 use reference::random::Source;
 use reference::random_list::{budget, damage};
-use reference::random_state::{damages, Call};
-use reference::resume::{faults, resume, Position};
-use reference::search::{Answer, End};
+use reference::random_state::{counters, damages, spreads, Call, HALF, MOST};
+use reference::resume::{faults, resume, Fault, Position};
+use reference::search::{search, Answer, End, Steps};
 use reference::sheet::{LIST, STATE};
 
-/// How often each end and each number was met; 14 by each of its conditions alone, in the order of `Fault`.
-type Tally = [(&'static str, usize); 14];
+/// How often each end and each number was met; 14 by each of its conditions alone, in the order of `Fault`. Then, of the same
+/// calls, what they took and met of the counters.
+type Tally = [(&'static str, usize); OUTCOMES + 7];
+
+const OUTCOMES: usize = 14;
 
 const TALLY: Tally = [
     ("found", 0),
@@ -30,9 +33,22 @@ const TALLY: Tally = [
     ("14 for the steps", 0),
     ("14 for more than one", 0),
     ("12 or 13 beside 14", 0),
+    ("14 for the counters without a budget", 0),
+    ("forces from counters that are not 0", 0),
+    ("choices from such", 0),
+    ("turns from such", 0),
+    ("forces at the limit", 0),
+    ("choices at the limit", 0),
+    ("turns at the limit", 0),
 ];
 
+/// A call that met these places of the tally.
+fn count(tally: &mut Tally, places: Vec<usize>) {
+    places.into_iter().for_each(|place| tally[place].1 += 1);
+}
+
 pub fn run(run: &Run) -> Outcome {
+    marked()?;
     let (mut tally, mut calls, mut chained, mut ended) = (TALLY, 0, [0; 3], 0);
     for number in run.cases(1_500) {
         let source = &mut Source::new(run.seed, "resume, chains", number);
@@ -50,20 +66,55 @@ pub fn run(run: &Run) -> Outcome {
         let (list, v) = some_list(source, number);
         let mut call = Call::unreached(source, &list, v);
         call.budget = cut(source, &list, v);
-        tally[compare(&call, || format!("case {number}, a state not reached"))?].1 += 1;
+        if number % 4 == 0 {
+            call.position.steps = up_to_the_limit(source, call.budget);
+        }
+        count(&mut tally, compare(&call, || format!("case {number}, a state not reached"))?);
     }
     covered(&tally, 50)?;
     covered(&[("found by a chain", chained[0]), ("none", chained[1]), ("spent", chained[2]), ("an end", ended)], 100)?;
     let callers = callers::run(run)?;
-    let [found, none, spent] = chained;
-    let chains = format!("{found} found, {none} none, {spent} spent");
-    let others: usize = tally.iter().map(|(_, times)| times).sum();
-    let times: Vec<String> = tally.iter().map(|(what, times)| format!("{times} {what}")).collect();
-    let times = times.join(", ");
-    Ok(format!(
-        "{} chains of {calls} calls come to one run: {chains}; {ended} taken up after an end; {others} other states: {times}; {callers}",
-        found + none + spent
-    ))
+    Ok(format!("{}; {ended} taken up after an end; {}; {callers}", chains(chained, calls), others(&tally)))
+}
+
+/// What is said of the chains.
+fn chains([found, none, spent]: [usize; 3], calls: usize) -> String {
+    let all = found + none + spent;
+    format!("{all} chains of {calls} calls come to one run: {found} found, {none} none, {spent} spent")
+}
+
+/// What is said of the other states.
+fn others(tally: &Tally) -> String {
+    let all: usize = tally[..OUTCOMES].iter().map(|(_, times)| times).sum();
+    let shown = |part: &[(&str, usize)]| {
+        let times: Vec<String> = part.iter().map(|(what, times)| format!("{times} {what}")).collect();
+        times.join(", ")
+    };
+    format!("{all} other states: {}; among them {}", shown(&tally[..OUTCOMES]), shown(&tally[OUTCOMES..]))
+}
+
+/// Counters by hand: (1 2) (1 -2) (-1 2) (-1 -2) is none after a choice, a force, a turn and a force. One step at a time, and
+/// once more after the "none".
+fn marked() -> Result<(), String> {
+    let list = [2, 1, 2, 2, 1, -2, 2, -1, 2, 2, -1, -2];
+    for before in [Steps::default(), Steps::new(10, 200, 3_000), Steps::new(1 << 40, 1, 1 << 33)] {
+        let (mut values, mut trail, mut position) = ([2; 2], [0; 2], Position { length: 0, steps: before });
+        let after = [(0, 1, 0), (1, 1, 0), (1, 1, 1), (2, 1, 1), (2, 2, 1), (3, 2, 1), (3, 2, 2), (4, 2, 2)];
+        for (call, (forces, choices, turns)) in after.into_iter().enumerate() {
+            let steps = before + Steps::new(forces, choices, turns);
+            let (end, length) = [(End::Spent, 1), (End::Spent, 2), (End::Spent, 1), (End::None, 0)][call % 4];
+            let got = library::resume(&list, 2, &mut values, &mut trail, &mut position, 1);
+            let want = (Ok(Answer { end, steps }), Position { length, steps });
+            agree((got, position), want, || format!("marked, call {call} from {before:?}"))?;
+        }
+    }
+    Ok(())
+}
+
+/// Counters, in any way, that come to exactly 2^64 - 1 with the steps allowed.
+fn up_to_the_limit(source: &mut Source, allowed: u64) -> Steps {
+    let spreads = spreads(source, MOST - allowed);
+    source.pick(&spreads)
 }
 
 /// Steps to allow: none, one, few, many; few over a long list.
@@ -84,8 +135,8 @@ fn same(got: &Call, want: &Call, asked: impl Fn() -> String) -> Result<(), Strin
     agree(got.position, want.position, &asked)
 }
 
-/// A call by both sides over slices of their own: the place of what it met in the tally.
-fn compare(call: &Call, what: impl Fn() -> String) -> Result<usize, String> {
+/// A call by both sides over slices of their own: the places in the tally of what it met.
+fn compare(call: &Call, what: impl Fn() -> String) -> Result<Vec<usize>, String> {
     let (mut ours, mut theirs) = (call.clone(), call.clone());
     let want = theirs.make(resume);
     let got = ours.make(library::resume);
@@ -100,66 +151,103 @@ fn compare(call: &Call, what: impl Fn() -> String) -> Result<usize, String> {
     if want.is_err() {
         same(&ours, call, || format!("changed under a refusal: {}", asked()))?;
     }
-    Ok(met(call, want))
+    let mut places = vec![met(call, want)];
+    places.extend(counted(call, want));
+    Ok(places)
 }
 
-/// The place in the tally of what a call met.
+/// The places in the tally of what a call met of the counters.
+fn counted(call: &Call, answer: Result<Answer, u32>) -> Vec<usize> {
+    let (before, most) = (call.position.steps, u128::from(MOST));
+    let Ok(Answer { steps, .. }) = answer else {
+        let alone = answer == Err(STATE) && met(call, answer) == 5 + Fault::Steps as usize && before.sum() > most;
+        return if alone { vec![OUTCOMES] } else { Vec::new() };
+    };
+    let at_the_limit = before.sum() >= u128::from(HALF) && before.sum() + u128::from(call.budget) == most;
+    let taken = [steps.forces > before.forces, steps.choices > before.choices, steps.turns > before.turns];
+    let mut places = Vec::new();
+    for kind in (0..3).filter(|&kind| taken[kind] && before != Steps::default()) {
+        places.push(OUTCOMES + 1 + kind);
+        places.extend(at_the_limit.then_some(OUTCOMES + 4 + kind));
+    }
+    places
+}
+
+/// The place in the tally of the answer to a call.
 fn met(call: &Call, answer: Result<Answer, u32>) -> usize {
     let least = (call.v as usize).min(call.values.len()).min(call.trail.len());
     let faults = faults(&call.values[..least], &call.trail[..least], &call.position, call.budget);
     match (answer, faults.as_slice()) {
         (Ok(answer), _) => answer.end as usize,
         (Err(STATE), [fault]) => 5 + *fault as usize,
-        (Err(STATE), _) => 12,
-        (Err(_), [_, ..]) => 13,
+        (Err(STATE), _) => OUTCOMES - 2,
+        (Err(_), [_, ..]) => OUTCOMES - 1,
         (Err(number), []) => 3 + usize::from(number != LIST),
     }
 }
 
-/// What calls with random cuts come to: the last answer, what is left, and the cuts.
+/// What calls with these cuts come to: the last answer, what is left, and how many were made.
 struct Chain {
     last: Result<Answer, u32>,
     left: Call,
-    cuts: Vec<u64>,
+    made: usize,
 }
 
 /// Calls from a start on, up to an end or to the last cut. The first may be `search` itself, which starts from all open over
 /// slices with anything in them.
-fn calls(source: &mut Source, start: &Call, search_first: bool) -> Chain {
-    let (list, v) = (&start.list, start.v as usize);
-    let (mut left, mut cuts) = (start.clone(), Vec::new());
-    let mut last = Ok(Answer { end: End::Spent, steps: 0 });
+fn calls(start: &Call, cuts: &[u64], search_first: bool) -> Chain {
+    let (mut left, mut made, v) = (start.clone(), 0, start.v as usize);
+    let mut last = Ok(Answer { end: End::Spent, steps: Steps::default() });
     if search_first {
         left.values[..v].fill(7);
         left.trail[..v].fill(-7);
-        let budget = cut(source, list, start.v);
-        cuts.push(budget);
-        last = library::search(list, start.v, &mut left.values, &mut left.trail, budget);
+        last = library::search(&start.list, start.v, &mut left.values, &mut left.trail, cuts[0]);
         let length = left.trail[..v].iter().take_while(|&&word| word != 0).count();
-        left.position = Position { length, steps: last.map_or(0, |answer| answer.steps) };
+        left.position = Position { length, steps: last.map_or(Steps::default(), |answer| answer.steps) };
+        made = 1;
     }
-    for _ in 0..source.between(1, 12) {
-        if last.is_ok_and(|answer| answer.end != End::Spent) {
-            break;
-        }
-        left.budget = cut(source, list, start.v);
-        cuts.push(left.budget);
+    while made < cuts.len() && last.is_ok_and(|answer| answer.end == End::Spent) {
+        left.budget = cuts[made];
         last = left.make(library::resume);
+        made += 1;
     }
-    Chain { last, left, cuts }
+    Chain { last, left, made }
+}
+
+/// Where a chain starts, and what its calls are allowed.
+struct Start {
+    call: Call,
+    cuts: Vec<u64>,
+    /// A fresh start, whatever the counters.
+    fresh: bool,
+    /// The counters and all cuts together come to exactly 2^64 - 1.
+    at_the_limit: bool,
+}
+
+/// A fresh start or a state not reached; counters of 0, any, or as many as the cuts let pass.
+fn some_start(source: &mut Source, list: &[i32], v: u32) -> Start {
+    let cuts: Vec<u64> = (0..source.between(1, 12)).map(|_| cut(source, list, v)).collect();
+    let (fresh, counts) = (source.chance(3, 4), source.below(4));
+    let mut call = match fresh {
+        true => Call::fresh(source, list, v),
+        false => Call::unreached(source, list, v),
+    };
+    match counts {
+        0 => call.position.steps = up_to_the_limit(source, cuts.iter().sum()),
+        1 => call.position.steps = counters(source),
+        _ => {}
+    }
+    Start { call, cuts, fresh, at_the_limit: counts == 0 }
 }
 
 /// A chain of calls against one run of both sides with the steps allowed in all; from a fresh start against `search` too.
 /// The end, and the number of calls.
 fn chain(source: &mut Source, list: &[i32], v: u32, number: u64) -> Result<(End, usize), String> {
-    let from_start = source.chance(3, 4);
-    let start = match from_start {
-        true => Call::fresh(source, list, v),
-        false => Call::unreached(source, list, v),
-    };
-    let search_first = from_start && source.chance(1, 3);
-    let Chain { last, left, cuts } = calls(source, &start, search_first);
-    let allowed = cuts.iter().sum();
+    let Start { call: start, cuts, fresh, at_the_limit } = some_start(source, list, v);
+    let before = start.position.steps;
+    let search_first = fresh && before == Steps::default() && source.chance(2, 3);
+    let Chain { last, left, made } = calls(&start, &cuts, search_first);
+    let allowed = cuts[..made].iter().sum();
     let asked = || format!("case {number}, v {v}, cuts {cuts:?}, {:?}, list {}", start.position, shown(list));
     let answer = last.map_err(|number| format!("refused {number}: {}", asked()))?;
     for side in [resume, library::resume] {
@@ -167,36 +255,54 @@ fn chain(source: &mut Source, list: &[i32], v: u32, number: u64) -> Result<(End,
         agree(last, one.make(side), asked)?;
         same(&left, &one, asked)?;
     }
-    if from_start {
+    if fresh {
         let mut one = start.clone();
-        agree(last, library::search(list, v, &mut one.values, &mut one.trail, allowed), asked)?;
+        let searched = library::search(list, v, &mut one.values, &mut one.trail, allowed);
+        agree(last, searched.map(|Answer { end, steps }| Answer { end, steps: before + steps }), asked)?;
         agree((&left.values, &left.trail), (&one.values, &one.trail), asked)?;
     }
-    Ok((answer.end, cuts.len()))
+    if at_the_limit {
+        // all that is left, and one more
+        let rest = (u128::from(MOST) - answer.steps.sum()) as u64;
+        for budget in [rest, rest + 1] {
+            compare(&Call { budget, ..left.clone() }, || format!("at the end of a chain, {}", asked()))?;
+        }
+    }
+    Ok((answer.end, made))
+}
+
+/// What the reference answers from a fresh start, with other steps done before.
+fn from_start(list: &[i32], v: u32, budget: u64, before: Steps) -> Answer {
+    let (mut values, mut trail) = (vec![0; v as usize], vec![0; v as usize]);
+    let Answer { end, steps } = search(list, v, &mut values, &mut trail, budget).expect("a good list");
+    Answer { end, steps: before + steps }
 }
 
 /// Calls on what "found" and "none" left, of both sides: "found" is found at once and nothing changes; "none" is searched for
-/// anew, and the steps go on counting. False where the search does not end soon enough.
+/// anew, and each counter goes on counting. False where the search does not end soon enough.
 fn after_an_end(source: &mut Source, list: &[i32], v: u32, number: u64) -> Result<bool, String> {
     let most = if v > 400 { 10 } else { 200_000 / (1 + list.len() as u64) };
-    let mut call = Call { budget: most, ..Call::fresh(source, list, v) };
+    let before = if source.chance(1, 2) { counters(source) } else { Steps::default() };
+    let mut call = Call { budget: most, ..Call::fresh(source, list, v).after(before) };
     let answer = call.make(library::resume).map_err(|number| format!("refused {number}"))?;
+    let asked = || format!("case {number}, {:?} from {before:?}, v {v}, list {}", answer.end, shown(list));
+    agree(answer, from_start(list, v, most, before), asked)?;
     if answer.end == End::Spent {
         return Ok(false);
     }
-    let asked = || format!("case {number}, taken up after {:?}, v {v}, list {}", answer.end, shown(list));
-    let total = answer.steps;
+    let total = (answer.steps.sum() - before.sum()) as u64;
     for budget in [0, 1, total.saturating_sub(1), total, most] {
         let mut again = Call { budget, ..call.clone() };
+        let asked = || format!("taken up again, {}", asked());
         compare(&again, asked)?;
-        let (end, steps) = match answer.end {
-            End::None if budget < total => (End::Spent, total + budget),
-            End::None => (End::None, 2 * total),
-            _ => (End::Found, total),
+        // from a fresh start with 0 in the counters, each of them doubles
+        let want = match answer.end {
+            End::None => from_start(list, v, budget, answer.steps),
+            _ => answer,
         };
-        agree(again.make(library::resume), Ok(Answer { end, steps }), asked)?;
-        if end != End::Spent {
-            let left = Call { position: Position { steps, ..call.position }, ..call.clone() };
+        agree(again.make(library::resume), Ok(want), asked)?;
+        if want.end != End::Spent {
+            let left = Call { position: Position { steps: want.steps, ..call.position }, ..call.clone() };
             same(&again, &left, asked)?;
         }
     }
@@ -222,15 +328,18 @@ fn damaged(source: &mut Source, tally: &mut Tally, number: u64) -> Result<(), St
         0 => Call::unreached(source, &list, v),
         _ => Call::stopped(source, &list, v, stop),
     };
+    if number % 3 == 0 {
+        call.position.steps = counters(source);
+    }
     call.budget = cut(source, &list, v);
     for (what, call) in damages(source, &call) {
         let asked = |more: &str| format!("case {number}, {what}{more}");
-        tally[compare(&call, || asked(""))?].1 += 1;
+        count(tally, compare(&call, || asked(""))?);
         let length = call.position.length;
-        if length <= v as usize && source.chance(1, if v > 400 { 40 } else { 2 }) {
+        if length <= v as usize && source.chance(1, if v > 400 { 40 } else { 3 }) {
             let more = damages(source, &call);
             let (second, call) = source.pick(&more);
-            tally[compare(&call, || asked(&format!(", {second}")))?].1 += 1;
+            count(tally, compare(&call, || asked(&format!(", {second}")))?);
         }
         if source.chance(1, 2) {
             let mut call = call.clone();
@@ -239,7 +348,7 @@ fn damaged(source: &mut Source, tally: &mut Tally, number: u64) -> Result<(), St
                 1 => call.trail.truncate(v as usize - 1),
                 _ => damage(source, &mut call.list, &mut call.v),
             }
-            tally[compare(&call, || asked(", and 12 or 13"))?].1 += 1;
+            count(tally, compare(&call, || asked(", and 12 or 13"))?);
         }
     }
     Ok(())

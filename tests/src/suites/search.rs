@@ -1,4 +1,4 @@
-//! The search: answer, steps, values and trail for random lists and lists of sheets, good and damaged,
+//! The search: answer, steps of each kind, values and trail for random lists and lists of sheets, good and damaged,
 //! with budgets of none, one, few and many; verdicts against minisat.
 
 use super::{agree, covered, shown};
@@ -9,7 +9,7 @@ use reference::dimacs::text;
 use reference::random::Source;
 use reference::random_list::{budget, damage, list};
 use reference::random_sheet::{gates_of, pigeonhole, sheet, style};
-use reference::search::{search, Answer, End};
+use reference::search::{search, Answer, End, Steps};
 use reference::sheet::read;
 
 /// Up to so many variables every search ends soon.
@@ -32,7 +32,7 @@ struct Marked {
     v: u32,
     budget: u64,
     end: End,
-    steps: u64,
+    steps: Steps,
     values: &'static [u8],
     trail: &'static [i32],
 }
@@ -42,19 +42,37 @@ const K2: &[i32] = &[1, 1, 2, -2, -3, 2, 2, 3, 2, 4, -2, 2, 4, -3, 3, -4, 2, 3, 
 const K3: &[i32] = &[1, 1, 2, -2, -3, 2, 2, 3, 2, 4, -2, 2, 4, -3, 3, -4, 2, 3, 1, -4];
 
 const fn marked(list: &'static [i32], v: u32, budget: u64) -> Marked {
-    Marked { list, v, budget, end: End::Found, steps: 4, values: &[1, 0, 1, 1], trail: &[1, 4, -2, 3] }
+    Marked { list, v, budget, end: End::Found, steps: K1_STEPS, values: &[1, 0, 1, 1], trail: &[1, 4, -2, 3] }
 }
 
-/// K1 to K4; both signs; a literal twice; no clause; a conflict behind a unit clause.
-const MARKED: [Marked; 8] = [
+const K1_STEPS: Steps = Steps::new(3, 1, 0);
+
+/// Those of K4: forces, choices and turns.
+const K4_STEPS: Steps = Steps::new(2, 1, 0);
+
+/// K1 to K4; both signs; a literal twice; no clause; a conflict after a choice, twice; the same with none at the end.
+const MARKED: [Marked; 10] = [
     marked(K1, 4, 1_000_000),
     marked(K2, 4, 1_000_000),
-    Marked { end: End::None, values: &[2, 2, 2, 2], trail: &[0, 0, 0, 0], ..marked(K3, 4, 1_000_000) },
-    Marked { end: End::Spent, steps: 3, values: &[1, 3, 2, 1], trail: &[1, 4, -2, 0], ..marked(K1, 4, 3) },
-    Marked { steps: 2, values: &[1, 0], trail: &[1, -2], ..marked(&[1, 1, 2, 2, -2], 2, 9) },
-    Marked { steps: 1, values: &[1], trail: &[1], ..marked(&[2, 1, 1], 1, 9) },
-    Marked { steps: 2, values: &[0, 0], trail: &[-1, -2], ..marked(&[], 2, 9) },
-    Marked { steps: 5, values: &[1, 0, 0], trail: &[1, -2, -3], ..marked(&[2, 1, 2, 2, 1, 3, 2, 1, -2], 3, 9) },
+    Marked { end: End::None, steps: Steps::new(4, 0, 0), values: &[2; 4], trail: &[0; 4], ..marked(K3, 4, 1_000_000) },
+    Marked { end: End::Spent, steps: K4_STEPS, values: &[1, 3, 2, 1], trail: &[1, 4, -2, 0], ..marked(K1, 4, 3) },
+    Marked { steps: Steps::new(1, 1, 0), values: &[1, 0], trail: &[1, -2], ..marked(&[1, 1, 2, 2, -2], 2, 9) },
+    Marked { steps: Steps::new(1, 0, 0), values: &[1], trail: &[1], ..marked(&[2, 1, 1], 1, 9) },
+    Marked { steps: Steps::new(0, 2, 0), values: &[0, 0], trail: &[-1, -2], ..marked(&[], 2, 9) },
+    Marked { steps: Steps::new(1, 2, 1), values: &[1, 0], trail: &[1, -2], ..marked(&[2, 1, 2, 2, 1, -2], 2, 9) },
+    Marked {
+        steps: Steps::new(1, 3, 1),
+        values: &[1, 0, 0],
+        trail: &[1, -2, -3],
+        ..marked(&[2, 1, 2, 2, 1, 3, 2, 1, -2], 3, 9)
+    },
+    Marked {
+        end: End::None,
+        steps: Steps::new(2, 1, 1),
+        values: &[2; 2],
+        trail: &[0; 2],
+        ..marked(&[2, 1, 2, 2, 1, -2, 2, -1, 2, 2, -1, -2], 2, 9)
+    },
 ];
 
 fn compare_marked(case: &Marked) -> Result<(), String> {
@@ -69,13 +87,13 @@ fn compare_marked(case: &Marked) -> Result<(), String> {
 pub fn run(run: &Run) -> Outcome {
     MARKED.iter().try_for_each(compare_marked)?;
     let mut tally = ENDS.map(|end| (end, 0));
-    let (mut solved, mut steps) = (0, 0);
+    let (mut solved, mut steps) = (0, Steps::default());
     for number in run.cases(4_000) {
         let source = &mut Source::new(run.seed, "search", number);
         let case = some_case(source, number);
         let (end, done) = compare(&case, number)?;
         tally[end].1 += 1;
-        steps += done;
+        steps = steps + done;
         if end <= 1 && number % 50 == 0 {
             let text = text(&case.list, case.v).expect("a good list");
             let verdict = solve("minisat", text.as_bytes(), case.v)?;
@@ -84,9 +102,13 @@ pub fn run(run: &Run) -> Outcome {
         }
     }
     covered(&tally, 100)?;
+    let Steps { forces, choices, turns } = steps;
+    let kinds = [("a force", forces), ("a choice", choices), ("a turn", turns)];
+    covered(&kinds.map(|(kind, times)| (kind, times as usize)), 300)?;
     let all: usize = tally.iter().map(|(_, times)| times).sum();
     let times: Vec<String> = tally.iter().map(|(end, times)| format!("{times} {end}")).collect();
-    Ok(format!("{all} runs of {steps} steps agree: {}; {solved} verdicts of minisat too", times.join(", ")))
+    let steps = format!("{forces} forces, {choices} choices and {turns} turns");
+    Ok(format!("{all} runs of {steps} agree: {}; {solved} verdicts of minisat too", times.join(", ")))
 }
 
 /// A random list, or that of a random sheet, with its variables.
@@ -139,7 +161,7 @@ fn of_sheet(sheet: &reference::sheet::Sheet) -> (Vec<i32>, u32) {
 }
 
 /// Both searches over slices with a known filling; the place of the end in the tally, and the steps.
-fn compare(case: &Case, number: u64) -> Result<(usize, u64), String> {
+fn compare(case: &Case, number: u64) -> Result<(usize, Steps), String> {
     let (mut values, mut trail) = (vec![7; case.values], vec![-7; case.trail]);
     let (mut got_values, mut got_trail) = (values.clone(), trail.clone());
     let want = search(&case.list, case.v, &mut values, &mut trail, case.budget);
@@ -152,7 +174,7 @@ fn compare(case: &Case, number: u64) -> Result<(usize, u64), String> {
         Ok(answer) if answer.end == End::Found => (0, answer.steps),
         Ok(answer) if answer.end == End::None => (1, answer.steps),
         Ok(answer) => (2, answer.steps),
-        Err(12) => (3, 0),
-        Err(_) => (4, 0),
+        Err(12) => (3, Steps::default()),
+        Err(_) => (4, Steps::default()),
     })
 }

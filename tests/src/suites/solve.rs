@@ -5,14 +5,35 @@ use super::{agree, covered, hex};
 use crate::{Outcome, Run};
 use reference::clauses::count;
 use reference::finder::{find, read_back};
+use reference::long_search::long;
 use reference::random::Source;
 use reference::random_damage::any;
 use reference::random_list::budget;
 use reference::random_sheet::{gates_of, pigeonhole, sheet, style};
-use reference::search::End;
+use reference::search::{Answer, End, Steps};
 use reference::sheet::read;
 
+/// K1 to K4 and a sheet that turns, with forces, choices and turns.
+fn marked() -> Result<(), String> {
+    let k1 = vec![1, 0, 1, 2, 0, 0, 0, 4, 1, 0, 0, 0, 0, 6, 1, 0, 0, 22, 0, 0];
+    let mut k2 = k1.clone();
+    k2[9] = 2;
+    let mut k3 = [k2.clone(), vec![30, 1, 0]].concat();
+    k3[13] = 9;
+    let found = Answer { end: End::Found, steps: Steps::new(3, 1, 0) };
+    let none = Answer { end: End::None, steps: Steps::new(4, 0, 0) };
+    let spent = Answer { end: End::Spent, steps: Steps::new(2, 1, 0) };
+    // 1 and 6 are forced, -2 is chosen, 3, 4 and 5 are forced, the choice is turned, -3, 4 and 5 are forced
+    let turned = (&long(&[], 0, false).bytes(), 99, Answer { end: End::None, steps: Steps::new(8, 1, 1) });
+    for (sheet, budget, want) in [(&k1, 9, found), (&k2, 9, found), (&k3, 9, none), (&k1, 3, spent), turned] {
+        let got = library::find(sheet, &mut [0; 40], &mut [0; 6], &mut [0; 6], &mut [0; 2], budget);
+        agree(got, Ok(want), || format!("marked, find with budget {budget}, sheet {}", hex(sheet)))?;
+    }
+    Ok(())
+}
+
 pub fn run(run: &Run) -> Outcome {
+    marked()?;
     let mut tally = [
         ("found", 0),
         ("none", 0),
@@ -20,6 +41,9 @@ pub fn run(run: &Run) -> Outcome {
         ("a refused find", 0),
         ("a read-back", 0),
         ("a refused read-back", 0),
+        ("with a force", 0),
+        ("with a choice", 0),
+        ("with a turn", 0),
     ];
     for case in run.cases(2_000) {
         let source = &mut Source::new(run.seed, "solve", case);
@@ -28,10 +52,14 @@ pub fn run(run: &Run) -> Outcome {
             0 => any(source),
             1 if case % 20 == 0 => gates_of(15_990 + source.below(20)).bytes(),
             2 if case % 4 == 0 => pigeonhole(source.below(2) as u8, source.between(2, 4) as u8, 3).bytes(),
+            3 => long(&[(source.between(1, 3) as u8, source.below(3) as u8)], 0, source.chance(1, 2)).bytes(),
             _ => sheet(source, style).bytes(),
         };
-        let ended = compare_find(source, &bytes, case)?;
+        let (ended, steps) = compare_find(source, &bytes, case)?;
         tally[ended].1 += 1;
+        for (at, taken) in [(6, steps.forces), (7, steps.choices), (8, steps.turns)] {
+            tally[at].1 += usize::from(taken > 0);
+        }
         let back = compare_read_back(source, &bytes, case)?;
         tally[4 + usize::from(!back)].1 += 1;
     }
@@ -57,7 +85,8 @@ fn figures(bytes: &[u8]) -> (usize, usize, usize) {
     }
 }
 
-fn compare_find(source: &mut Source, bytes: &[u8], case: u64) -> Result<usize, String> {
+/// The whole run by both sides: the place of the end in the tally, and the steps.
+fn compare_find(source: &mut Source, bytes: &[u8], case: u64) -> Result<(usize, Steps), String> {
     let (words, variables, cells) = figures(bytes);
     let mut budget = budget(source);
     // a list can be short and its search long
@@ -77,12 +106,7 @@ fn compare_find(source: &mut Source, bytes: &[u8], case: u64) -> Result<usize, S
     agree(values2, values, asked)?;
     agree(trail2, trail, asked)?;
     agree(instance2, instance, asked)?;
-    Ok(match want.map(|answer| answer.end) {
-        Ok(End::Found) => 0,
-        Ok(End::None) => 1,
-        Ok(End::Spent) => 2,
-        Err(_) => 3,
-    })
+    Ok(want.map_or((3, Steps::default()), |answer| (answer.end as usize, answer.steps)))
 }
 
 /// Read-back of random values; true where it copied.
