@@ -73,7 +73,7 @@ fn searches(what: &str, lists: &[Clauses], budget: u64) {
         let rust = search::search(words, &mut values2[..v], &mut trail2[..v], budget);
         assert_eq!(ours, Ok(rust));
         assert_eq!((&values[..v], &trail[..v]), (&values2[..v], &trail2[..v]));
-        steps += rust.steps;
+        steps += rust.steps.sum() as u64;
     }
     let each = |run: &mut dyn FnMut(&[i32], usize)| {
         lists.iter().zip(&words).for_each(|(list, words)| run(words, list.variables as usize));

@@ -3,7 +3,7 @@
 use crate::{best, line};
 use reference::clauses::Clauses;
 use reference::resume::Position;
-use reference::search::{Answer, End};
+use reference::search::{Answer, End, Steps};
 use std::hint::black_box;
 use std::time::Duration;
 
@@ -40,9 +40,9 @@ impl Stored {
         self.trail.fill(0);
         self.position = Position::default();
         for calls in 1.. {
-            let left = budget - self.position.steps;
+            let left = budget - self.position.steps.sum() as u64;
             let answer = self.resume(left.min(SLICE)).expect("a state");
-            if answer.end != End::Spent || answer.steps == budget {
+            if answer.end != End::Spent || answer.steps.sum() == u128::from(budget) {
                 return (answer, calls);
             }
         }
@@ -66,7 +66,7 @@ pub fn slices(what: &str, lists: &[Clauses], budget: u64) {
         let (answer, made) = one.in_slices(budget);
         assert_eq!(answer, other.search(budget));
         assert_eq!((&one.values, &one.trail), (&other.values, &other.trail));
-        steps += answer.steps;
+        steps += answer.steps.sum() as u64;
         calls += made;
     }
     let times = best(
@@ -89,7 +89,7 @@ pub fn slices(what: &str, lists: &[Clauses], budget: u64) {
 pub fn number_14(what: &str, lists: &[Clauses], budget: u64, times: u32) {
     let states: Vec<Stored> = lists.iter().map(|list| in_the_middle(list, budget)).collect();
     let (mut by_steps, mut by_length, mut taken) = (states.clone(), states.clone(), states.clone());
-    by_steps.iter_mut().for_each(|one| one.position.steps = u64::MAX);
+    by_steps.iter_mut().for_each(|one| one.position.steps = Steps::new(u64::MAX, 0, 0));
     by_length.iter_mut().for_each(|one| one.position.length = one.trail.len() + 1);
     assert!(by_steps.iter_mut().chain(&mut by_length).all(|one| one.resume(1) == Err(14)));
     let again = |work: &mut dyn FnMut()| (0..times).for_each(|_| work());
@@ -123,7 +123,7 @@ fn both(take: &mut impl FnMut(u64)) -> (Duration, Duration) {
 /// The state after half of the steps that a search takes.
 fn in_the_middle(list: &Clauses, budget: u64) -> Stored {
     let mut stored = Stored::fresh(list);
-    let half = stored.search(budget).steps / 2;
+    let half = stored.search(budget).steps.sum() as u64 / 2;
     let answer = stored.search(half);
     let length = stored.trail.iter().take_while(|&&word| word != 0).count();
     stored.position = Position { length, steps: answer.steps };

@@ -1,7 +1,7 @@
 //! The search in Rust, by the algorithm of the library: one scan of the list for each step, which leaves
 //! a clause at a true literal, or as soon as it can be neither a clash nor the first to force.
 
-use reference::search::{Answer, End};
+use reference::search::{Answer, End, Steps};
 
 const OPEN: u8 = 2;
 const CHOSEN: u8 = 3;
@@ -72,7 +72,7 @@ fn turn(values: &mut [u8], trail: &mut [i32], mut length: usize) -> Option<usize
 pub fn search(list: &[i32], values: &mut [u8], trail: &mut [i32], budget: u64) -> Answer {
     values.fill(OPEN);
     trail.fill(0);
-    let (mut length, mut steps) = (0, 0);
+    let (mut length, mut left, mut steps) = (0, budget, Steps::default());
     loop {
         let met = scan(list, values);
         match met {
@@ -85,20 +85,25 @@ pub fn search(list: &[i32], values: &mut [u8], trail: &mut [i32], budget: u64) -
                 trail.fill(0);
                 return Answer { end: End::None, steps };
             }
-            _ if steps == budget => return Answer { end: End::Spent, steps },
-            Scan::Clash => length = turn(values, trail, length).unwrap_or(0),
+            _ if left == 0 => return Answer { end: End::Spent, steps },
+            Scan::Clash => {
+                length = turn(values, trail, length).unwrap_or(0);
+                steps.turns += 1;
+            }
             Scan::Force(literal) => {
                 values[literal.unsigned_abs() as usize - 1] = u8::from(literal > 0);
                 trail[length] = literal;
                 length += 1;
+                steps.forces += 1;
             }
             Scan::Nothing => {
                 let variable = values.iter().position(|&value| value == OPEN).unwrap_or(0);
                 values[variable] = CHOSEN;
                 trail[length] = -(variable as i32 + 1);
                 length += 1;
+                steps.choices += 1;
             }
         }
-        steps += 1;
+        left -= 1;
     }
 }

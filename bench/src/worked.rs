@@ -57,7 +57,7 @@ pub fn table() {
         let shown = |listed: &mut Listed| {
             let Answer { end, steps } = listed.search();
             let Size { variables, words, .. } = listed.size;
-            format!("{variables} variables, {words} words, {end:?} after {steps} steps")
+            format!("{variables} variables, {words} words, {end:?} after {} steps", steps.sum())
         };
         let (was, is) = (shown(&mut before), shown(&mut now));
         let (new, old) = best(
