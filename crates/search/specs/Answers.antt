@@ -15,8 +15,8 @@ use Rattle.search_rules.specs.declared.Steps.{Steps}
 use Rattle.search_rules.specs.Rules.{valuesOf, trailOf, settle}
 use Rattle.search_rules.specs.Run.{zeros, End, wasNone, wasFound, wasSpent, run}
 
--- the paper's answers: "found", "none" or "spent" with the steps done, or a number; "The search answer .. show[s] forces, choices and
--- turns, each by itself"
+-- the paper's answers: "found", "none" or "spent" with the steps done, or a number. "The search answer and the lent record of Change 1 show
+-- forces, choices and turns, each by itself"
 pub data Answer : Type 0 where
   found none spent : Steps → Answer
   refused : ℕ → Answer

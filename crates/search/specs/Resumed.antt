@@ -25,7 +25,7 @@ left answer values trail p = record { outcome = record { answer = answer; values
 abbrev pub decline : ℕ → List ℕ → List ℤ → Position → Resumption
 decline number values trail p = record { outcome = refuse number values trail; position = p }
 
--- "writes the new length and the total of steps to the record (length 0 after "none")": the totals of "forces, choices and turns, each by itself"
+-- "writes the new length and the total of steps to the record (length 0 after "none")": the totals of the three kinds, each by itself
 abbrev pub positionAt : End → Position
 positionAt (wasNone t) = positionOf 0 t
 positionAt (wasFound t state) = positionOf (length state) t

@@ -1,4 +1,4 @@
--- The run of the step rules within a budget (document 01, "Search" and "The words of demand 3").
+-- The run of the step rules within a budget (document 01, "Search" and "The words of demand 3"), with its counters (document 02, Change 3).
 use mathlib.Core.Path.{_≡_}
 use mathlib.Core.Logic.{_⊎_}
 use mathlib.Core.List.{List}
@@ -8,14 +8,14 @@ use lib.IntN.{ℤ}
 use Rattle.search_rules.specs.declared.Steps.{Steps}
 use Rattle.search_rules.specs.Rules.{State, Kind, propagation, decision, backtrack, endNone, endFound, step, next}
 
--- "Force, choice and turn count one step each": the steps done, by kind, are three counters (src/lib.rt)
+-- "Force, choice and turn count one step each": each in a counter of its kind, of the three that a caller is shown (src/lib.rt)
 abbrev pub tally : ℕ → ℕ → ℕ → Steps
 tally p d b = record { propagations = p; decisions = d; backtracks = b }
 
 abbrev pub zeros : Steps
 zeros = tally 0 0 0
 
--- "The steps done of Change 1 are the three together": the step figure
+-- "The steps done of Change 1 are the three together"
 unfoldable pub total : Steps → ℕ
 total t = t .propagations + t .decisions + t .backtracks
 
