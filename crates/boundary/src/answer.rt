@@ -36,7 +36,7 @@ pub struct SearchAnswer {
 // The numbers of a resumed search, and the position that it leaves.
 pub struct ResumedAnswer {
     pub answer: SearchAnswer,
-    pub position: search_rules::Position,
+    pub position: search::answer::Position,
 }
 
 // The cells that read-back copied.

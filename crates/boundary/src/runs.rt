@@ -10,9 +10,9 @@ ghost use Rattle.boundary.specs.Numbers.{endNumbers, searchNumbers, copy
 use super::answer::ReadBackAnswer;
 use super::answer::ResumedAnswer;
 use super::answer::SearchAnswer;
+use search::answer::Position;
 use search::answer::Search;
-use search_rules::Position;
-use search_rules::Steps;
+use search::answer::Steps;
 use solve::answer::ReadBack;
 
 fn end_numbers(end: u32, steps: Steps) -> SearchAnswer

@@ -7,10 +7,10 @@ ghost use Rattle.onward.specs.Limits.{mostSteps};
 use super::shown::end_line;
 use super::shown::show;
 use report::finder::step_figure;
+use search::answer::Position;
 use search::answer::Resumed;
 use search::answer::Search;
 use search::resumed;
-use search_rules::Position;
 
 // The steps that one call is allowed.
 const STEPS: u64 = 1000000;

@@ -16,7 +16,7 @@ ghost use Rattle.report.specs.Printed.{report, finderBudget, findingText
 ghost use Rattle.report.specs.Tells.{Tells};
 use super::lines::put_lines;
 use search::answer::Search;
-use search_rules::Steps;
+use search::answer::Steps;
 use sheet::answer::Reading;
 use text::put_end;
 

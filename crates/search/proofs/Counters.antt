@@ -2,7 +2,7 @@
 use mathlib.Core.Path.{_≡_, refl, sym, _∙_, ap}
 use mathlib.Core.Logic.{⊎-elim}
 use mathlib.Core.List.{List, []}
-use mathlib.Core.Option.{none as nothing, some}
+use mathlib.Core.Option.{some}
 use Prim.Native.Nat.{ℕ, _+_, _≤_}
 use native.Mathlib.Omega.{arith}
 use native.Mathlib.Nat.{zero-add}
@@ -15,19 +15,22 @@ use Rattle.search_rules.specs.Run.{zeros, total, End, wasNone, wasFound, wasSpe
 use Rattle.search_rules.specs.Held.{stepsOf, stepLimit}
 use Rattle.search_rules.specs.Counting.{counter, kindsTaken, ofKind, stepsAt}
 use Rattle.search_rules.proofs.Counting.{each-counts}
-use Rattle.search.specs.Answers.{answerAt, stepsIn, searchRun, outcome}
+use Rattle.search.specs.Answers.{refused, stepsIn, answerAt, searchRun, outcome}
 use Rattle.search.specs.Resumed.{startOf, positionAt, resumedRun, resumption}
 use Rattle.search.specs.Resuming.{EachCounter}
 use Rattle.search.proofs.Theorems as fresh
 use Rattle.search.proofs.Outcomes.{figure-within}
 use Rattle.search.proofs.ResumedCalls.{Runs, called}
 
--- the counters of an answer are those of the run's end, and so are the record's
-answer-steps : (end : End) → stepsIn (answerAt end) ≡ some (stepsAt end)
+-- a refusal shows no steps, an answer at the end of a run those of the run, and the record has the same
+pub refused-shows-none : (number : ℕ) (steps : Steps) → stepsIn (refused number) ≡ some steps → ⊥
+refused-shows-none number steps e = let z : _≡_ {A = ℕ} 0 1 = cc in omega arith
+
+answer-steps : (end : End) (steps : Steps) → stepsIn (answerAt end) ≡ some steps → steps ≡ stepsAt end
 unfolding answerAt
-answer-steps (wasNone t) = refl
-answer-steps (wasFound t s) = refl
-answer-steps (wasSpent t s) = refl
+answer-steps (wasNone t) steps e = cc
+answer-steps (wasFound t s) steps e = cc
+answer-steps (wasSpent t s) steps e = cc
 
 position-steps : (end : End) → stepsOf (positionAt end) ≡ stepsAt end
 position-steps (wasNone t) = refl
@@ -39,24 +42,20 @@ module _ (list : List ℤ) (v : ℕ) (values : List ℕ) (trail : List ℤ) (p :
     (shows : stepsIn (resumption list v values trail p budget .outcome .answer) ≡ some steps) where
   ran : Runs list v values trail p budget
   ran =
-      ⊎-elim
-      (λ d.
-      absurd (let e : nothing ≡ some steps = sym (ap (λ o. stepsIn (o .outcome .answer)) (d .1)) ∙ shows in
-      let z : _≡_ {A = ℕ} 0 1 = cc in omega arith))
-      (λ r. r) (called list v values trail p budget)
+      ⊎-elim (λ d. absurd (refused-shows-none (d .0) steps (ap (λ o. stepsIn (o .outcome .answer)) (sym (d .1)) ∙ shows))) (λ r. r)
+      (called list v values trail p budget)
 
   abbrev end : End
   end = resumedRun list v (stepsOf p) (startOf v values trail p) budget
 
   are-its : steps ≡ stepsAt end
-  are-its =
-      let e : some steps ≡ some (stepsAt end) = sym shows ∙ ap (λ o. stepsIn (o .outcome .answer)) (ran .ends) ∙ answer-steps end in cc
+  are-its = answer-steps end steps (ap (λ o. stepsIn (o .outcome .answer)) (sym (ran .ends)) ∙ shows)
 
   resumed-counts : (kind : Kind)
       → counter kind steps ≡ counter kind (stepsOf p) + ofKind kind (kindsTaken (clausesOf list) v budget (startOf v values trail p))
   resumed-counts kind = ap (counter kind) are-its ∙ each-counts (clausesOf list) v budget (stepsOf p) (startOf v values trail p) kind
 
-  -- together they fit a 64-bit number
+  -- together they fit in 64 bits
   pub resumed-few : total steps ≤ stepLimit
   resumed-few =
       let f = figure-within (clausesOf list) v budget (stepsOf p) (startOf v values trail p) in
@@ -65,28 +64,23 @@ module _ (list : List ℤ) (v : ℕ) (values : List ℕ) (trail : List ℤ) (p :
   records : stepsOf (resumption list v values trail p budget .position) ≡ steps
   records = ap (λ o. stepsOf (o .position)) (ran .ends) ∙ position-steps end ∙ sym are-its
 
--- and so did a call from the start, where none is counted before
+-- none is counted before a call from the start
 none-before : (kind : Kind) → counter kind zeros ≡ 0
 unfolding counter
 none-before propagation = refl
 none-before decision = refl
 none-before backtrack = refl
 
+-- it ran as well, where it shows its steps
 module _ (list : List ℤ) (v : ℕ) (values : List ℕ) (trail : List ℤ) (budget : ℕ) (steps : Steps)
     (shows : stepsIn (outcome list v values trail budget .answer) ≡ some steps) where
   searching : fresh.Runs list v values trail budget
   searching =
-      ⊎-elim
-      (λ d.
-      absurd (let e : nothing ≡ some steps = sym (ap (λ o. stepsIn (o .answer)) (d .1)) ∙ shows in
-      let z : _≡_ {A = ℕ} 0 1 = cc in omega arith))
-      (λ r. r) (fresh.called list v values trail budget)
+      ⊎-elim (λ d. absurd (refused-shows-none (d .0) steps (ap (λ o. stepsIn (o .answer)) (sym (d .1)) ∙ shows))) (λ r. r)
+      (fresh.called list v values trail budget)
 
   are-the-run's : steps ≡ stepsAt (searchRun list v budget)
-  are-the-run's =
-      let e : some steps ≡ some (stepsAt (searchRun list v budget)) =
-      sym shows ∙ ap (λ o. stepsIn (o .answer)) (searching .ends) ∙ answer-steps (searchRun list v budget) in
-      cc
+  are-the-run's = answer-steps (searchRun list v budget) steps (ap (λ o. stepsIn (o .answer)) (sym (searching .ends)) ∙ shows)
 
   searched-counts : (kind : Kind) → counter kind steps ≡ ofKind kind (kindsTaken (clausesOf list) v budget [])
   searched-counts kind =

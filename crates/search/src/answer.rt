@@ -1,6 +1,6 @@
-// What a search answers.
-use search_rules::Position;
-use search_rules::Steps;
+// What a search answers, with the steps done by kind, and where it stands.
+pub use search_rules::Position;
+pub use search_rules::Steps;
 
 pub enum Search {
     Found(Steps),

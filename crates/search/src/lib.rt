@@ -3,16 +3,16 @@ ghost use mathlib.Core.Path.{_≡_};
 ghost use Rattle.search.specs.declared.answer.Search.the-variants.{Refused};
 ghost use Rattle.search.specs.Answers.{answerOf, outcome};
 ghost use Rattle.search.specs.Resumed.{left, resumption};
+use answer::Position;
 use answer::Resumed;
 use answer::Search;
 use refusal::Refusal;
 use runs::fresh;
 use runs::go_on;
-use search_rules::Position;
 use search_state::is_state;
 use search_state::too_many;
 
-pub mod answer; // answer.rt: what a search answers
+pub mod answer; // answer.rt: what a search answers, and where it stands
 mod fills; // fills.rt: slices, filled
 mod runs; // runs.rt: the run over slices that fit
 

@@ -11,15 +11,15 @@ ghost use Rattle.search_core.specs.Inner.{SomeStored};
 ghost use Rattle.search.specs.Answers.{answerOf, answerAt, valuesAt, trailAt, searchRun};
 ghost use Rattle.search.specs.Resumed.{resumedRun};
 ghost use Rattle.search.specs.Inner.{Finished};
+use super::answer::Position;
 use super::answer::Resumed;
 use super::answer::Search;
+use super::answer::Steps;
 use super::fills::clear_all;
 use super::fills::open_all;
 use super::fills::settle_all;
 use search_core::run::End;
 use search_core::run::run;
-use search_rules::Position;
-use search_rules::Steps;
 
 // The run from the state that the slices hold.
 pub(crate) fn go_on(

@@ -3,7 +3,7 @@ use mathlib.Core.Path.{_≡_, refl, sym, ap, _∙_}
 use mathlib.Core.Bool.{Bool, true, false, cond}
 use mathlib.Core.Logic.{_⊎_, inl, inr, ⊎-elim}
 use mathlib.Core.List.{List}
-use mathlib.Core.Option.{none as Option·none, some}
+use mathlib.Core.Option.{some}
 use Prim.Native.Nat.{ℕ, _≤_}
 use native.Mathlib.Omega.{arith}
 use lib.Dec.{leb}
@@ -19,7 +19,7 @@ use Rattle.clauses.proofs.Answered.{Counted, count-fits}
 use Rattle.search_rules.specs.declared.Steps.{Steps}
 use Rattle.search_rules.specs.Run.{total}
 use Rattle.search.specs.Answers.{found, refused, stepsIn}
-use Rattle.search.proofs.Counters.{searched-few}
+use Rattle.search.proofs.Counters.{refused-shows-none, searched-few}
 use Rattle.solve_rules.specs.Finding.{Slices, decline, haveRoom, findIn, findAfter, finding}
 use Rattle.solve_rules.specs.Demand3.{FitsLimits, FitSlices}
 use Rattle.solve_rules.proofs.Calls.{counts}
@@ -126,10 +126,7 @@ module _ (s : List ℕ) (lent : Slices) (budget : ℕ) where
   pub found-few : (steps : Steps) → stepsIn (finding s lent budget .answer) ≡ some steps → total steps ≤ budget
   found-few steps e =
       ⊎-elim
-      (λ (d : Declined).
-      let f : Option·none ≡ some steps = ap (λ x. stepsIn (x .answer)) (sym (d .is)) ∙ e in
-      let z : _≡_ {A = ℕ} 0 1 = cc in
-      absurd (omega arith))
+      (λ (d : Declined). absurd (refused-shows-none (d .number) steps (ap (λ x. stepsIn (x .answer)) (sym (d .is)) ∙ e)))
       (λ (r : Ran).
       searched-few (take (wordTotal (sheetOf s)) (listAfter s (lent .list))) (variableTotal (sheetOf s)) (lent .values) (lent .trail) budget steps
       (ap (λ x. stepsIn (x .answer)) (sym (r .is)) ∙ e))
