@@ -26,58 +26,28 @@ lentValues = 7 ∷ 7 ∷ 7 ∷ 7 ∷ 9 ∷ []
 abbrev lentTrail : List ℤ
 lentTrail = pos 7 ∷ pos 7 ∷ pos 7 ∷ pos 7 ∷ pos 9 ∷ []
 
+abbrev row : List ℤ → ℕ → ℕ → Answer → List ℕ → List ℤ → Row
+row list v budget answer values trail =
+    record { list = list; v = v; budget = budget; answer = answer; values = values; trail = trail }
+
 abbrev rows : List Row
 rows =
-    record {
-      list = k1;
-      v = 4;
-      budget = 1000000;
-      answer = found (tally 3 1 0);
-      values = 1 ∷ 0 ∷ 1 ∷ 1 ∷ 9 ∷ [];
-      trail = pos 1 ∷ pos 4 ∷ negsuc 1 ∷ pos 3 ∷ pos 9 ∷ [];
-    }
-    ∷ record {
-      list = k2 (pos 4);
-      v = 4;
-      budget = 1000000;
-      answer = found (tally 3 1 0);
-      values = 1 ∷ 0 ∷ 1 ∷ 1 ∷ 9 ∷ [];
-      trail = pos 1 ∷ pos 4 ∷ negsuc 1 ∷ pos 3 ∷ pos 9 ∷ [];
-    }
-    ∷ record {
-      list = k2 (negsuc 3);
-      v = 4;
-      budget = 1000000;
-      answer = none (tally 4 0 0);
-      values = 2 ∷ 2 ∷ 2 ∷ 2 ∷ 9 ∷ [];
-      trail = pos 0 ∷ pos 0 ∷ pos 0 ∷ pos 0 ∷ pos 9 ∷ [];
-    }
-    ∷ record {
-      list = k1;
-      v = 4;
-      budget = 3;
-      answer = spent (tally 2 1 0);
-      values = 1 ∷ 3 ∷ 2 ∷ 1 ∷ 9 ∷ [];
-      trail = pos 1 ∷ pos 4 ∷ negsuc 1 ∷ pos 0 ∷ pos 9 ∷ [];
-    }
+    row k1 4 1000000 (found (tally 3 1 0)) (1 ∷ 0 ∷ 1 ∷ 1 ∷ 9 ∷ []) (pos 1 ∷ pos 4 ∷ negsuc 1 ∷ pos 3 ∷ pos 9 ∷ [])
+    ∷ row (k2 (pos 4)) 4 1000000 (found (tally 3 1 0)) (1 ∷ 0 ∷ 1 ∷ 1 ∷ 9 ∷ []) (pos 1 ∷ pos 4 ∷ negsuc 1 ∷ pos 3 ∷ pos 9 ∷ [])
+    ∷ row (k2 (negsuc 3)) 4 1000000 (none (tally 4 0 0)) (2 ∷ 2 ∷ 2 ∷ 2 ∷ 9 ∷ []) (pos 0 ∷ pos 0 ∷ pos 0 ∷ pos 0 ∷ pos 9 ∷ [])
+    ∷ row k1 4 3 (spent (tally 2 1 0)) (1 ∷ 3 ∷ 2 ∷ 1 ∷ 9 ∷ []) (pos 1 ∷ pos 4 ∷ negsuc 1 ∷ pos 0 ∷ pos 9 ∷ [])
     -- (1 2) (1 -2): two choices, a force and a turn
-    ∷ record {
-      list = pos 2 ∷ pos 1 ∷ pos 2 ∷ pos 2 ∷ pos 1 ∷ negsuc 1 ∷ [];
-      v = 2;
-      budget = 4;
-      answer = found (tally 1 2 1);
-      values = 1 ∷ 0 ∷ 7 ∷ 7 ∷ 9 ∷ [];
-      trail = pos 1 ∷ negsuc 1 ∷ pos 7 ∷ pos 7 ∷ pos 9 ∷ [];
-    }
+    ∷ row (pos 2 ∷ pos 1 ∷ pos 2 ∷ pos 2 ∷ pos 1 ∷ negsuc 1 ∷ []) 2 4 (found (tally 1 2 1)) (1 ∷ 0 ∷ 7 ∷ 7 ∷ 9 ∷ [])
+    (pos 1 ∷ negsuc 1 ∷ pos 7 ∷ pos 7 ∷ pos 9 ∷ [])
     -- 12: v of 0 and past 16,000, a count past the end, a literal 0 and one beyond v; 13: a slice of 5 where 6 are needed
-    ∷ record { list = []; v = 0; budget = 1; answer = refused 12; values = lentValues; trail = lentTrail }
-    ∷ record { list = []; v = 16001; budget = 1; answer = refused 12; values = lentValues; trail = lentTrail }
-    ∷ record { list = pos 2 ∷ pos 1 ∷ []; v = 4; budget = 1; answer = refused 12; values = lentValues; trail = lentTrail }
-    ∷ record { list = pos 1 ∷ pos 0 ∷ []; v = 4; budget = 1; answer = refused 12; values = lentValues; trail = lentTrail }
-    ∷ record { list = pos 1 ∷ negsuc 4 ∷ []; v = 4; budget = 1; answer = refused 12; values = lentValues; trail = lentTrail }
-    ∷ record { list = pos 1 ∷ negsuc 2147483647 ∷ []; v = 4; budget = 1; answer = refused 12; values = lentValues; trail = lentTrail }
-    ∷ record { list = negsuc 0 ∷ []; v = 4; budget = 1; answer = refused 12; values = lentValues; trail = lentTrail }
-    ∷ record { list = k1; v = 6; budget = 1; answer = refused 13; values = lentValues; trail = lentTrail }
+    ∷ row [] 0 1 (refused 12) lentValues lentTrail
+    ∷ row [] 16001 1 (refused 12) lentValues lentTrail
+    ∷ row (pos 2 ∷ pos 1 ∷ []) 4 1 (refused 12) lentValues lentTrail
+    ∷ row (pos 1 ∷ pos 0 ∷ []) 4 1 (refused 12) lentValues lentTrail
+    ∷ row (pos 1 ∷ negsuc 4 ∷ []) 4 1 (refused 12) lentValues lentTrail
+    ∷ row (pos 1 ∷ negsuc 2147483647 ∷ []) 4 1 (refused 12) lentValues lentTrail
+    ∷ row (negsuc 0 ∷ []) 4 1 (refused 12) lentValues lentTrail
+    ∷ row k1 6 1 (refused 13) lentValues lentTrail
     ∷ []
 
 pub cases : map (λ row. outcome (row .list) (row .v) lentValues lentTrail (row .budget)) rows

@@ -3,7 +3,7 @@ use mathlib.Core.Path.{_≡_, refl}
 use mathlib.Core.List.{List, [], _∷_, map}
 use Prim.Native.Nat.{ℕ}
 use lib.IntN.{ℤ, pos, negsuc}
-use Rattle.prelude.specs.Tests.{each, all, any}
+use Rattle.prelude.specs.Tests as tests
 use Rattle.clause_list.specs.ClauseList.{cut, wellCut, isList}
 use Rattle.clause_list.specs.Marked.{k1, k2}
 use Rattle.search_rules.specs.declared.Steps.{Steps}
@@ -67,69 +67,49 @@ turned steps = held (1 ∷ 2 ∷ []) (pos 1 ∷ pos 0 ∷ []) 1 steps
 abbrev settled : Steps → Held
 settled steps = held (1 ∷ 0 ∷ []) (pos 1 ∷ negsuc 1 ∷ []) 2 steps
 
+-- counters that come to 2^64 - 2, to 2^64 - 1, and to 2^64, which is 0 in 64 bits
+abbrev all-but-one : Steps
+all-but-one = tally 9223372036854775807 9223372036854775800 7
+
+abbrev all : Steps
+all = tally 9223372036854775808 9223372036854775800 7
+
+abbrev one-more : Steps
+one-more = tally 9223372036854775808 0 9223372036854775808
+
+abbrev row : List ℤ → ℕ → Held → ℕ → Answer → Held → Row
+row list v lent budget answer after =
+    record { list = list; v = v; lent = lent; budget = budget; answer = answer; after = after }
+
 abbrev rows : List Row
 rows =
     -- K1 in one call, and in calls of 2 steps, 1 step, no step and many; at its end no step is left
-    record { list = k1; v = 4; lent = fresh zeros; budget = 1000000; answer = found (tally 3 1 0); after = end (tally 3 1 0) }
-    ∷ record { list = k1; v = 4; lent = fresh zeros; budget = 2; answer = spent (tally 2 0 0); after = two }
-    ∷ record { list = k1; v = 4; lent = two; budget = 1; answer = spent (tally 2 1 0); after = three (tally 2 1 0) }
-    ∷ record { list = k1; v = 4; lent = three (tally 2 1 0); budget = 0; answer = spent (tally 2 1 0); after = three (tally 2 1 0) }
-    ∷ record { list = k1; v = 4; lent = three (tally 2 1 0); budget = 1000000; answer = found (tally 3 1 0); after = end (tally 3 1 0) }
-    ∷ record { list = k1; v = 4; lent = end (tally 3 1 0); budget = 1000000; answer = found (tally 3 1 0); after = end (tally 3 1 0) }
+    row k1 4 (fresh zeros) 1000000 (found (tally 3 1 0)) (end (tally 3 1 0))
+    ∷ row k1 4 (fresh zeros) 2 (spent (tally 2 0 0)) two
+    ∷ row k1 4 two 1 (spent (tally 2 1 0)) (three (tally 2 1 0))
+    ∷ row k1 4 (three (tally 2 1 0)) 0 (spent (tally 2 1 0)) (three (tally 2 1 0))
+    ∷ row k1 4 (three (tally 2 1 0)) 1000000 (found (tally 3 1 0)) (end (tally 3 1 0))
+    ∷ row k1 4 (end (tally 3 1 0)) 1000000 (found (tally 3 1 0)) (end (tally 3 1 0))
     -- K3: none has length 0 and the totals; taken up again there, the search starts anew and goes on counting
-    ∷ record { list = k2 (negsuc 3); v = 4; lent = fresh zeros; budget = 3; answer = spent (tally 3 0 0); after = third }
-    ∷ record { list = k2 (negsuc 3); v = 4; lent = third; budget = 1; answer = none (tally 4 0 0); after = fresh (tally 4 0 0) }
-    ∷ record { list = k2 (negsuc 3); v = 4; lent = fresh (tally 4 0 0); budget = 4; answer = none (tally 8 0 0); after = fresh (tally 8 0 0) }
+    ∷ row (k2 (negsuc 3)) 4 (fresh zeros) 3 (spent (tally 3 0 0)) third
+    ∷ row (k2 (negsuc 3)) 4 third 1 (none (tally 4 0 0)) (fresh (tally 4 0 0))
+    ∷ row (k2 (negsuc 3)) 4 (fresh (tally 4 0 0)) 4 (none (tally 8 0 0)) (fresh (tally 8 0 0))
     -- each counter goes on from the one handed in: a force; a turn; a choice after it
-    ∷ record { list = k1; v = 4; lent = three (tally 7 5 3); budget = 1; answer = found (tally 8 5 3); after = end (tally 8 5 3) }
-    ∷ record { list = all-kinds; v = 2; lent = clashing (tally 7 5 3); budget = 1; answer = spent (tally 7 5 4); after = turned (tally 7 5 4) }
-    ∷ record { list = all-kinds; v = 2; lent = turned (tally 7 5 4); budget = 1; answer = found (tally 7 6 4); after = settled (tally 7 6 4) }
+    ∷ row k1 4 (three (tally 7 5 3)) 1 (found (tally 8 5 3)) (end (tally 8 5 3))
+    ∷ row all-kinds 2 (clashing (tally 7 5 3)) 1 (spent (tally 7 5 4)) (turned (tally 7 5 4))
+    ∷ row all-kinds 2 (turned (tally 7 5 4)) 1 (found (tally 7 6 4)) (settled (tally 7 6 4))
     -- a state that no run from a fresh start leaves: "none", though (1 2) has an assignment
-    ∷ record {
-      list = pos 2 ∷ pos 1 ∷ pos 2 ∷ [];
-      v = 2;
-      lent = held (0 ∷ 0 ∷ []) (negsuc 0 ∷ negsuc 1 ∷ []) 2 zeros;
-      budget = 1;
-      answer = none zeros;
-      after = held (2 ∷ 2 ∷ []) (pos 0 ∷ pos 0 ∷ []) 0 zeros;
-    }
+    ∷ row (pos 2 ∷ pos 1 ∷ pos 2 ∷ []) 2 (held (0 ∷ 0 ∷ []) (negsuc 0 ∷ negsuc 1 ∷ []) 2 zeros) 1 (none zeros)
+    (held (2 ∷ 2 ∷ []) (pos 0 ∷ pos 0 ∷ []) 0 zeros)
     -- 12, then 13, then 14: the list, then a slice of 5 where 6 are needed, then the state, then the steps
-    ∷ record { list = negsuc 0 ∷ []; v = 6; lent = long; budget = 1; answer = refused 12; after = long }
-    ∷ record { list = k1; v = 6; lent = long; budget = 18446744073709551615; answer = refused 13; after = long }
-    ∷ record { list = k1; v = 4; lent = long; budget = 1; answer = refused 14; after = long }
-    -- the three come to 2^64 - 2; and to 2^64 - 1, with one of them alone; and to 2^64, which is 0 in 64 bits
-    ∷ record {
-      list = k1;
-      v = 4;
-      lent = three (tally 9223372036854775807 9223372036854775800 7);
-      budget = 1;
-      answer = found (tally 9223372036854775808 9223372036854775800 7);
-      after = end (tally 9223372036854775808 9223372036854775800 7);
-    }
-    ∷ record {
-      list = k1;
-      v = 4;
-      lent = three (tally 9223372036854775807 9223372036854775800 7);
-      budget = 2;
-      answer = refused 14;
-      after = three (tally 9223372036854775807 9223372036854775800 7);
-    }
-    ∷ record {
-      list = k1;
-      v = 4;
-      lent = three (tally 0 0 18446744073709551615);
-      budget = 0;
-      answer = spent (tally 0 0 18446744073709551615);
-      after = three (tally 0 0 18446744073709551615);
-    }
-    ∷ record {
-      list = k1;
-      v = 4;
-      lent = three (tally 9223372036854775808 0 9223372036854775808);
-      budget = 0;
-      answer = refused 14;
-      after = three (tally 9223372036854775808 0 9223372036854775808);
-    }
+    ∷ row (negsuc 0 ∷ []) 6 long 1 (refused 12) long
+    ∷ row k1 6 long 18446744073709551615 (refused 13) long
+    ∷ row k1 4 long 1 (refused 14) long
+    -- sums up to 2^64 - 1 pass, and 2^64 does not
+    ∷ row k1 4 (three all-but-one) 1 (found all) (end all)
+    ∷ row k1 4 (three all-but-one) 2 (refused 14) (three all-but-one)
+    ∷ row k1 4 (three all) 0 (spent all) (three all)
+    ∷ row k1 4 (three one-more) 0 (refused 14) (three one-more)
     ∷ []
 
 pub cases :
@@ -137,6 +117,6 @@ pub cases :
     (row .budget)) rows
     ≡ map (λ row. left (row .answer) (row .after .values) (row .after .trail) (positionOf (row .after .length) (row .after .steps))) rows
 unfolding truthOf negated literal isFalsified isSatisfied conflict openOf sameLiteral only unitOf firstUnit lowestOpen wordOf byteOf placeOf
-    valuesOf trailOf turn decide next total count run answerAt valuesAt trailAt all any each cut wellCut isList repeats goesWith noState entryOf
+    valuesOf trailOf turn decide next total count run answerAt valuesAt trailAt tests.all tests.any tests.each cut wellCut isList repeats goesWith noState entryOf
     stateIn resumption
 cases = refl
