@@ -67,7 +67,8 @@ module _ (list : List ℤ) (v : ℕ) (values₀ : List ℕ) (trail₀ : List ℤ
           let e : m + n ≡ mostSteps = omega (arith, l .few) in
           let d = call ∙ one-call m _ (omega (arith, l .few)) (l .chain per-call _ (last per-call)) in
           d
-          ∙ sym (more-steps list v values₀ trail₀ start m n (none-done (m + n) (omega (arith, e))) λ steps f. h steps (ap (λ r. r .outcome .answer) d ∙ f))
+          ∙ sym (more-steps list v values₀ trail₀ start m n (none-done (m + n) (omega (arith, e)))
+          λ steps f. h steps (ap (λ r. r .outcome .answer) d ∙ f))
           ∙ ap (resumption list v values₀ trail₀ start) e
 
       -- it is spent

@@ -117,6 +117,6 @@ pub cases :
     (row .budget)) rows
     ≡ map (λ row. left (row .answer) (row .after .values) (row .after .trail) (positionOf (row .after .length) (row .after .steps))) rows
 unfolding truthOf negated literal isFalsified isSatisfied conflict openOf sameLiteral only unitOf firstUnit lowestOpen wordOf byteOf placeOf
-    valuesOf trailOf turn decide next total count run answerAt valuesAt trailAt tests.all tests.any tests.each cut wellCut isList repeats goesWith noState entryOf
-    stateIn resumption
+    valuesOf trailOf turn decide next total count run answerAt valuesAt trailAt tests.all tests.any tests.each cut wellCut isList repeats
+    goesWith noState entryOf stateIn resumption
 cases = refl

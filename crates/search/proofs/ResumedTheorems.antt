@@ -35,8 +35,8 @@ module _ (list : List ℤ) (v : ℕ) (values : List ℕ) (trail : List ℤ) (p :
       (λ r. (r, sym (ap (λ o. o .outcome .answer) (r .ends)) ∙ e)) (called list v values trail p budget)
 
   -- "none", where the state is reached from a fresh start, only if no assignment satisfies all clauses
-  pub none-unsatisfiable : (k : ℕ) (steps : Steps) → after (clausesOf list) v k [] ≡ some (startOf v values trail p) → call .outcome .answer ≡ none steps
-      → (a : List ℕ) → Satisfying v (clausesOf list) a → ⊥
+  pub none-unsatisfiable : (k : ℕ) (steps : Steps) → after (clausesOf list) v k [] ≡ some (startOf v values trail p)
+      → call .outcome .answer ≡ none steps → (a : List ℕ) → Satisfying v (clausesOf list) a → ⊥
   none-unsatisfiable k steps r e =
       let c = answered (none steps) (λ n d. let z : _≡_ {A = ℕ} 0 1 = cc in omega arith) e in
       rules.none-reached (clausesOf list) v k budget (stepsOf p) steps (startOf v values trail p) r (was-none ending steps (c .1))

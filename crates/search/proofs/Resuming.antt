@@ -129,8 +129,8 @@ module _ (list : List ℤ) (v : ℕ) (values : List ℕ) (trail : List ℤ) (p :
   holds-left : Stored v s (take v values′) (take v trail′) (length s)
   holds-left =
       stored v s
-      (spent-open v (clausesOf list) (ranged v list (fine-list v list (ran .is-list))) m (stepsOf p) t from s (held list v values trail p m ran .was-open)
-      (spending .1))
+      (spent-open v (clausesOf list) (ranged v list (fine-list v list (ran .is-list))) m (stepsOf p) t from s
+      (held list v values trail p m ran .was-open) (spending .1))
       values′ trail′
       (take-at (valuesOf v s) (drop v values) v (length-values v s))
       (take-at (trailOf v s) (drop v trail) v (length-trail v s))
@@ -146,7 +146,8 @@ module _ (list : List ℤ) (v : ℕ) (values : List ℕ) (trail : List ℤ) (p :
   finish-later end = rw (values-behind, trail-behind) refl
 
   module _ (n : ℕ) (few : total (stepsOf p) + (m + n) ≤ stepLimit) where
-    goes-on : resumption list v values′ trail′ position′ n ≡ finishAt v values′ trail′ (resumedRun list v t (begin list v values′ trail′ position′ n) n)
+    goes-on : resumption list v values′ trail′ position′ n
+        ≡ finishAt v values′ trail′ (resumedRun list v t (begin list v values′ trail′ position′ n) n)
     goes-on =
         resumed.runs list v values′ trail′ position′ n (ran .is-list)
         (omega (arith, length-append (valuesOf v s) (drop v values), length-values v s))

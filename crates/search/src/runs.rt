@@ -35,7 +35,8 @@ pub(crate) fn go_on(
     requires { ⌜ total (stepsOf position) + budget ≤ stepLimit ⌝ }
     ensures { λ r. ⌜ ((state : State) → Stored (length (now (values .entry))) state (now (values .entry)) (now (trail .entry)) (position .length)
         → Finished (length (now (values .entry)))
-        (resumedRun (now (list .entry)) (length (now (values .entry))) (stepsOf position) state budget) r (now (values .exit)) (now (trail .exit))) ⌝ }
+        (resumedRun (now (list .entry)) (length (now (values .entry))) (stepsOf position) state budget)
+        r (now (values .exit)) (now (trail .exit))) ⌝ }
 {
     let ran = run(list, values, trail, position, budget);
     let position = ran.position;

@@ -186,8 +186,8 @@ module _ (clauses : List (List ℤ)) (v : ℕ) where
       far-found endFound e s = rw (by-found e) (record { end-is = refl; steps-are = refl; stored = rw (f .stored .used-is) (s .1) })
       far-found (step kind r) e s = absurd (let d : AllSet ≡ To (kindAs kind) (length r) = s .0 in let z : _≡_ {A = ℕ} 0 1 = cc in omega arith)
 
-      pub far-on : (k : StepKind) (m : ℕ) (q : Position) → 0 < left → q ≡ positionOf m (count (kindOf k) (stepsOf p)) → (x : Next) → next clauses v (f .at) ≡ x
-          → Stepped v (f .at) x (To k m) values' trail' → Far budget t state values' trail' q (left - 1)
+      pub far-on : (k : StepKind) (m : ℕ) (q : Position) → 0 < left → q ≡ positionOf m (count (kindOf k) (stepsOf p))
+          → (x : Next) → next clauses v (f .at) ≡ x → Stepped v (f .at) x (To k m) values' trail' → Far budget t state values' trail' q (left - 1)
       far-on k m q h a endNone e s = absurd (let d : To k m ≡ NoneLeft = s .0 in let z : _≡_ {A = ℕ} 0 1 = cc in omega arith)
       far-on k m q h a endFound e s = absurd (let d : To k m ≡ AllSet = s .0 in let z : _≡_ {A = ℕ} 0 1 = cc in omega arith)
       far-on k m q h a (step kind r) e s =
@@ -240,6 +240,6 @@ pub record Loop (clauses : List (List ℤ)) (budget : ℕ) (values₀ : List ℕ
       → Far clauses (length values₀) budget (stepsOf p₀) state values trail p left
 
 -- a step more is done, and one less is left
-pub figure-on : (p q : Position) (kind : StepKind) (m left s : ℕ) → q ≡ positionOf m (count (kindOf kind) (stepsOf p)) → 0 < left → total (stepsOf p) + left ≡ s
-    → total (stepsOf q) + (left - 1) ≡ s
+pub figure-on : (p q : Position) (kind : StepKind) (m left s : ℕ) → q ≡ positionOf m (count (kindOf kind) (stepsOf p)) → 0 < left
+    → total (stepsOf p) + left ≡ s → total (stepsOf q) + (left - 1) ≡ s
 figure-on p q kind m left s a h e = omega (arith, ap (λ i. total (stepsOf i)) a, total-count (kindOf kind) (stepsOf p))

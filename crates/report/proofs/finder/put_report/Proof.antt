@@ -38,7 +38,8 @@ slice-aggregate-put-end c = search needs
 -- the steps fit, by the case that the end is
 step-figure-requires : tie.Need-step-figure-requires
 step-figure-requires c κs =
-    c .before .before .before .before .before .before .before .before .pre .1 .1 _ (ap (λ a. stepsIn (answerOf a)) (c .before .before .before .ended2 .given .1))
+    let s = c .before .before .before .before .before .before .before .before in
+    s .pre .1 .1 _ (ap (λ a. stepsIn (answerOf a)) (c .before .before .before .ended2 .given .1))
 
 put-end-requires : tie.Need-put-end-requires
 put-end-requires c κs = search needs
@@ -51,7 +52,8 @@ slice-aggregate-put-end-2 c = search needs
 
 step-figure-requires-2 : tie.Need-step-figure-requires-2
 step-figure-requires-2 c κs =
-    c .before .before .before .before .before .before .before .before .pre .1 .1 _ (ap (λ a. stepsIn (answerOf a)) (c .before .before .before .ended3 .given .1))
+    let s = c .before .before .before .before .before .before .before .before in
+    s .pre .1 .1 _ (ap (λ a. stepsIn (answerOf a)) (c .before .before .before .ended3 .given .1))
 
 put-end-requires-2 : tie.Need-put-end-requires-2
 put-end-requires-2 c κs = search needs
@@ -114,6 +116,6 @@ pub put-report-spec : {M : Type 1} → statement M
 put-report-spec =
     tie.close
     (tie.spec enum-known-ended put-found-requires enum-known-ended-2 slice-aggregate-put-end step-figure-requires
-    put-end-requires enum-known-ended-3 slice-aggregate-put-end-2 step-figure-requires-2 put-end-requires-2 enum-known-ended-4 slice-aggregate-put-end-3
-    number-requires cast-put-end put-end-requires-3 same-length returns same-length-2 returns-2 same-length-3 returns-3
-    same-length-4 returns-4)
+    put-end-requires enum-known-ended-3 slice-aggregate-put-end-2 step-figure-requires-2 put-end-requires-2
+    enum-known-ended-4 slice-aggregate-put-end-3 number-requires cast-put-end put-end-requires-3 same-length returns
+    same-length-2 returns-2 same-length-3 returns-3 same-length-4 returns-4)
