@@ -149,6 +149,10 @@ module _ (v : ℕ) (ws : List ℤ) (e : isList v ws ≡ true) where
   pub list-most-variables : v ≤ 16000
   list-most-variables = between-high 1 16000 v list-variables
 
+  pub list-most-words : length ws ≤ 2147483647
+  unfolding isList
+  list-most-words = leb-true (length ws) 2147483647 (and-left (leb (length ws) 2147483647) _ (and-right (between 1 16000 v) _ e))
+
   pub list-well-cut : wellCutWords v ws ≡ true
   unfolding isList
   list-well-cut = and-right (leb (length ws) 2147483647) _ (and-right (between 1 16000 v) _ e)

@@ -1,8 +1,9 @@
--- The text of a clause list, line by line, and its length: the text never passes the room that is asked for it.
-use mathlib.Core.Path.{_≡_, refl, ap}
-use mathlib.Core.Bool.{true, false}
+-- The text of a clause list, line by line, and how long it can be.
+use mathlib.Core.Path.{_≡_, refl, sym, ap, _∙_}
+use mathlib.Core.Bool.{Bool, true, false}
 use mathlib.Core.List.{List, [], _∷_, _++_}
-use Prim.Native.Nat.{ℕ, suc, _+_, _*_, _<_, _≤_}
+use Prim.Native.Nat.{ℕ, suc, _+_, _*_, _^_, _<_, _≤_}
+use native.Mathlib.Numerals.{add-one}
 use native.Mathlib.Omega.{arith}
 use lib.Dec.{ltb}
 use lib.IntN.{ℤ, pos, negsuc, natAbs}
@@ -16,19 +17,28 @@ use Rattle.text.proofs.Decimals.{decimal-few, decimal-short}
 use Rattle.literal.specs.Literals.{isLiteral, isPositive}
 use Rattle.literal.proofs.Words.{literal-high}
 use Rattle.clause_list.specs.ClauseList.{clausesOf, wordsOf, isList}
-use Rattle.clause_list.proofs.Laws.{list-clauses, list-literals, list-most-variables}
-use Rattle.dimacs.specs.Text.{literalText, clauseLine, clauseLines, header, textOf, textRoom}
+use Rattle.clause_list.proofs.Laws.{list-clauses, list-literals, list-most-variables, list-most-words}
+use Rattle.dimacs.specs.Text.{literalText, clauseLine, clauseLines, header, textOf}
 
 -- a literal by its sign
-pub positive-text : (l : ℤ) → isPositive l ≡ true → literalText l ≡ decimal (natAbs l)
+positive-text : (l : ℤ) → isPositive l ≡ true → literalText l ≡ decimal (natAbs l)
 unfolding literalText
 positive-text (pos n) e = refl
 positive-text (negsuc n) e = clash false e refl
 
-pub negative-text : (l : ℤ) → isPositive l ≡ false → 1 ≤ natAbs l → literalText l ≡ 45 ∷ decimal (natAbs l)
+negative-text : (l : ℤ) → isPositive l ≡ false → 1 ≤ natAbs l → literalText l ≡ 45 ∷ decimal (natAbs l)
 unfolding literalText
 negative-text (pos n) e h = clash (ltb 0 n) (lt-ltb 0 n h) e
 negative-text (negsuc n) e h = refl
+
+-- the same by what `variable` and `is_positive` answer for the literal's word
+module _ {l word : ℤ} {n : ℕ} {sign : Bool} (e : word ≡ l) (v : n ≡ natAbs word) (s : sign ≡ isPositive word) where
+  pub positive-word : sign ≡ true → literalText l ≡ decimal n
+  positive-word t = positive-text l (ap isPositive (sym e) ∙ sym s ∙ t) ∙ ap decimal (ap natAbs (sym e) ∙ sym v)
+
+  pub negative-word : sign ≡ false → 1 ≤ natAbs l → literalText l ≡ 45 ∷ decimal n
+  negative-word f h =
+      negative-text l (ap isPositive (sym e) ∙ sym s ∙ f) h ∙ ap (λ m. 45 ∷ decimal m) (ap natAbs (sym e) ∙ sym v)
 
 -- a clause from a literal on
 pub line-from : (clause : List ℤ) (i : ℕ) → i < length clause
@@ -39,6 +49,16 @@ line-from clause i h = rw (drop-cons clause i (pos 0) h)
 pub line-end : (clause : List ℤ) (i : ℕ) → length clause ≤ i → clauseLine (drop i clause) ≡ 48 ∷ 10 ∷ []
 unfolding clauseLine
 line-end clause i h = rw (drop-of-length-le clause h)
+
+pub line-length : (clause : List ℤ) (i : ℕ) → i < length clause
+    → length (clauseLine (drop i clause)) ≡ length (literalText (getD clause i (pos 0))) + 1 + length (clauseLine (drop (i + 1) clause))
+line-length clause i h =
+    omega (
+      arith,
+      ap length (line-from clause i h),
+      length-append (literalText (getD clause i (pos 0))) (32 ∷ clauseLine (drop (suc i) clause)),
+      ap (λ (k : ℕ). length (clauseLine (drop k clause))) (add-one i),
+    )
 
 pub lines-none : clauseLines [] ≡ []
 unfolding clauseLines
@@ -89,19 +109,27 @@ pub text-parts : (v : ℕ) (ws : List ℤ) → header v (length (clausesOf ws)) 
 unfolding textOf
 text-parts v ws = refl
 
--- the text never passes its room
-pub text-fits : (v : ℕ) (ws : List ℤ) → isList v ws ≡ true → length (textOf v ws) ≤ textRoom ws
-unfolding textOf textRoom
-text-fits v ws e =
-    let cs = clausesOf ws in
-    let most = list-most-variables v ws e in
-    let lines = lines-short v cs most (list-literals v ws e) in
-    omega (
-      arith,
-      length-append (header v (length cs)) (clauseLines cs),
-      header-length v (length cs),
-      decimal-short 4 v (omega (arith, most)),
-      decimal-few (length cs),
-      lines,
-      ap length (list-clauses v ws e),
-    )
+pub text-length : (v : ℕ) (ws : List ℤ)
+    → length (textOf v ws) ≡ length (header v (length (clausesOf ws))) + length (clauseLines (clausesOf ws))
+unfolding textOf
+text-length v ws = length-append (header v (length (clausesOf ws))) (clauseLines (clausesOf ws))
+
+module _ (v : ℕ) (ws : List ℤ) (e : isList v ws ≡ true) where
+  -- at most 7 bytes for each word, and 14 for the header: what a clause leaves of its words pays for the digits of the number of clauses
+  pub text-short : length (textOf v ws) ≤ 7 * length ws + 14
+  text-short =
+      let cs = clausesOf ws in
+      let most = list-most-variables v ws e in
+      omega (
+        arith,
+        text-length v ws,
+        header-length v (length cs),
+        decimal-short 4 v (omega (arith, most)),
+        decimal-few (length cs),
+        lines-short v cs most (list-literals v ws e),
+        ap length (list-clauses v ws e),
+      )
+
+  -- number 12 lets at most 2^31 - 1 words pass, so that the length of the text is a number of 64 bits, far from the end
+  pub text-counts : length (textOf v ws) < 2 ^ 64
+  text-counts = omega (arith, text-short, list-most-words v ws e)

@@ -1,19 +1,21 @@
--- A walk over the clauses of a list, by their counts.
+-- A walk over the clauses of a list, by their counts, and what is counted on it.
 use mathlib.Core.Path.{_≡_, sym, ap, _∙_, subst}
 use mathlib.Core.Bool.{true}
-use mathlib.Core.List.{List}
+use mathlib.Core.List.{List, []}
 use Prim.Native.Nat.{ℕ, suc, _+_, _-_, _<_, _≤_}
 use native.Mathlib.Numerals.{add-one}
 use native.Mathlib.Omega.{arith}
 use lib.IntN.{ℤ, pos}
-use lib.ListN.{length, getD, take, drop}
+use lib.ListN.{length, getD, take, drop, length-append, drop-of-length-le}
 use Rattle.prelude.specs.Tests.{all}
 use Rattle.prelude.proofs.Laws.{all-at}
 use Rattle.literal.specs.Literals.{countOf, isLiteral}
 use Rattle.literal.proofs.Words.{literal-low}
-use Rattle.clause_list.specs.ClauseList.{isList}
-use Rattle.clause_list.proofs.Laws.{ClauseAt, clause-at, wellCutWords, list-well-cut}
+use Rattle.clause_list.specs.ClauseList.{clausesOf, isList}
+use Rattle.clause_list.proofs.Laws.{ClauseAt, clause-at, wellCutWords, list-well-cut, clauses-nil}
+use Rattle.dimacs.specs.Text.{clauseLine, clauseLines}
 use Rattle.dimacs.specs.Private.{Listed, Proper}
+use Rattle.dimacs.proofs.Lines.{lines-none, lines-more}
 
 -- a clause starts at the place, or the list ends there
 pub record At (ws : List ℤ) (i : ℕ) : Type 0 where
@@ -37,6 +39,44 @@ module _ (ws : List ℤ) (i n : ℕ) (a : At ws i) (h : i < length ws) (c : n �
 
   pub next : Listed ws → At ws (suc (i + n))
   next l = record { within = here l .fits; cut = λ v e. clause-here v e .rest }
+
+-- the clauses before a place, and the bytes of their lines, were counted
+pub record Counted (ws : List ℤ) (i clauses lines : ℕ) : Type 0 where
+  pub at : At ws i
+  pub clauses-left : clauses + length (clausesOf (drop i ws)) ≡ length (clausesOf ws)
+  pub lines-left : lines + length (clauseLines (clausesOf (drop i ws))) ≡ length (clauseLines (clausesOf ws))
+
+pub counted-none : (ws : List ℤ) → Counted ws 0 0 0
+counted-none ws = record { at = at-start ws; clauses-left = omega arith; lines-left = omega arith }
+
+module _ {ws : List ℤ} {i clauses lines : ℕ} (k : Counted ws i clauses lines) where
+  -- with the clause at the place
+  pub counted-next : (l : Listed ws) (n b : ℕ) → i < length ws → n ≡ countOf (getD ws i (pos 0))
+      → b ≡ length (clauseLine (take n (drop (suc i) ws))) → Counted ws (suc (i + n)) (clauses + 1) (lines + b)
+  counted-next l n b h c e =
+      let clause = here ws i n (k .at) h c l in
+      let line = clauseLine (take n (drop (suc i) ws)) in
+      let rest = clausesOf (drop (suc (i + n)) ws) in
+      record {
+        at = next ws i n (k .at) h c l;
+        clauses-left = omega (arith, k .clauses-left, ap length (clause .clauses));
+        lines-left =
+            omega (
+              arith,
+              k .lines-left,
+              ap (λ cs. length (clauseLines cs)) (clause .clauses),
+              ap length (lines-more (take n (drop (suc i) ws)) rest),
+              length-append line (clauseLines rest),
+            );
+      }
+
+  -- no clause is left
+  pub counted-all : length ws ≤ i → (clauses ≡ length (clausesOf ws)) × (lines ≡ length (clauseLines (clausesOf ws)))
+  counted-all h =
+      let none : clausesOf (drop i ws) ≡ [] = ap clausesOf (drop-of-length-le ws h) ∙ clauses-nil in (
+        omega (arith, k .clauses-left, ap length none),
+        omega (arith, k .lines-left, ap (λ cs. length (clauseLines cs)) none, ap length lines-none),
+      )
 
 -- the words between a count and the next one are a clause's
 pub part : (ws : List ℤ) (i n : ℕ) → take (((i + 1) + n) - (i + 1)) (drop (i + 1) ws) ≡ take n (drop (suc i) ws)

@@ -1,6 +1,6 @@
 -- The text of a clause list in the DIMACS CNF format (document 01, "The finder program", case K1).
 use mathlib.Core.List.{List, [], _∷_, _++_}
-use Prim.Native.Nat.{ℕ, suc, _+_, _*_}
+use Prim.Native.Nat.{ℕ, suc}
 use lib.IntN.{ℤ, pos, negsuc}
 use lib.ListN.{length}
 use Rattle.text.specs.Texts.{bytesOf, decimal}
@@ -26,7 +26,3 @@ header v c = bytesOf "p cnf " ++ (decimal v ++ (bytesOf " " ++ (decimal c ++ byt
 
 unfoldable pub textOf : ℕ → List ℤ → List ℕ
 textOf v ws = header v (length (clausesOf ws)) ++ clauseLines (clausesOf ws)
-
--- "Clause text needs 7 times the list's words, plus 32 bytes"
-unfoldable pub textRoom : List ℤ → ℕ
-textRoom ws = 7 * length ws + 32

@@ -1,12 +1,12 @@
 // Clause text in the DIMACS CNF format (document 01): its size, and the text itself.
 use answer::TextSize;
+use measure::measure;
 use refusal::Refusal;
 use text::put_bytes;
 use text::put_decimal;
 ghost use mathlib.Core.Path.{_≡_};
 ghost use Prim.Native.Nat.{_≤_};
 ghost use lib.IntN.{natAbs};
-ghost use lib.ListN.{length};
 ghost use Rattle.text.specs.Puts.{Room, Put};
 ghost use Rattle.clause_list.specs.ClauseList.{clausesOf};
 ghost use Rattle.dimacs.specs.Text.{literalText, clauseLine, clauseLines, header};
@@ -14,6 +14,7 @@ ghost use Rattle.dimacs.specs.Answers.{answerOf, sizeAnswer, writeAnswer
 ghost use Rattle.dimacs.specs.Private.{Proper, Listed};
 
 pub mod answer;
+mod measure;
 
 // Puts a literal: a minus where it says that its variable is false, then the variable.
 fn put_literal(text: &mut [u8], at: usize, l: i32) -> usize
@@ -49,21 +50,6 @@ fn put_clause(text: &mut [u8], at: usize, clause: &[i32]) -> usize
     end + 2
 }
 
-// The number of clauses of a list.
-fn clause_count(list: &[i32]) -> usize
-    requires { ⌜ Listed (now list) ⌝ }
-    ensures { λ r. ⌜ r ≡ length (clausesOf (now (list .entry))) ⌝ }
-{
-    let mut clauses: usize = 0;
-    let mut i = 0;
-    while i < list.len() {
-        let head = list[i];
-        i += 1 + literal::count(head) as usize;
-        clauses += 1;
-    }
-    clauses
-}
-
 // Puts the line of every clause of a list.
 fn put_clauses(text: &mut [u8], at: usize, list: &[i32]) -> usize
     requires { ⌜ Listed (now list) ⌝ }
@@ -95,14 +81,15 @@ fn put_header(text: &mut [u8], v: usize, clauses: usize) -> usize
     feed + 1
 }
 
-// The bytes to lend for the text of a list with v variables.
+// The length of the text of a list with v variables.
 pub fn size(list: &[i32], v: u32) -> TextSize
     ensures { λ r. ⌜ answerOf r ≡ sizeAnswer v (now (list .entry)) ⌝ }
 {
     if !clause_list::is_list(list, v) {
         return TextSize::Refused(Refusal::List);
     }
-    TextSize::Bytes(7 * list.len() + 32)
+    let measured = measure(list, v);
+    TextSize::Bytes(measured.bytes)
 }
 
 // Writes the text of a list with v variables, and answers its bytes.
@@ -110,15 +97,14 @@ pub fn write(list: &[i32], v: u32, text: &mut [u8]) -> TextSize
     ensures { λ r. ⌜ answerOf r ≡ writeAnswer v (now (list .entry)) (now (text .entry)) ⌝ }
     ensures { λ r. ⌜ now (text .exit) ≡ textAfter v (now (list .entry)) (now (text .entry)) ⌝ }
 {
-    let room = size(list, v);
-    let TextSize::Bytes(needed) = room else {
-        return room;
-    };
-    if text.len() < needed {
+    if !clause_list::is_list(list, v) {
+        return TextSize::Refused(Refusal::List);
+    }
+    let measured = measure(list, v);
+    if text.len() < measured.bytes {
         return TextSize::Refused(Refusal::Short);
     }
-    let clauses = clause_count(list);
-    let start = put_header(text, v as usize, clauses);
+    let start = put_header(text, v as usize, measured.clauses);
     let end = put_clauses(text, start, list);
     TextSize::Bytes(end)
 }

@@ -1,4 +1,5 @@
-// Text in a lent slice: pieces, numbers in decimal, lines. Each function puts a piece where there is room, and answers where it ends.
+// Text in a lent slice: pieces, numbers in decimal, lines. Each function that puts a piece does so where there is room, and answers where it ends.
+ghost use mathlib.Core.Path.{_≡_};
 ghost use Prim.Native.Nat.{_≤_};
 ghost use lib.ListN.{length};
 ghost use Rattle.text.specs.Texts.{decimal, endLine};
@@ -31,6 +32,19 @@ pub fn put_decimal(text: &mut [u8], at: usize, n: usize) -> usize
     let last = put_decimal(text, at, n / 10);
     text[last] = 48 + (n % 10) as u8;
     last + 1
+}
+
+// The number of digits that a number has in decimal.
+pub fn decimal_length(n: usize) -> usize
+    ensures { λ r. ⌜ r ≡ length (decimal n) ⌝ }
+{
+    let mut digits = 1;
+    let mut rest = n;
+    while 9 < rest {
+        rest = rest / 10;
+        digits += 1;
+    }
+    digits
 }
 
 // Puts a word, a number and the end of the line at the start of the text.

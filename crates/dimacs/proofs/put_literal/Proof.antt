@@ -10,24 +10,21 @@ use Rattle.text.proofs.Puts.{put-byte, put-both, put-as, put-length}
 use Rattle.literal.specs.Literals.{isPositive}
 use Rattle.literal.proofs.Signs.{back}
 use Rattle.dimacs.specs.Text.{literalText}
-use Rattle.dimacs.proofs.Lines.{positive-text, negative-text}
+use Rattle.dimacs.proofs.Lines.{positive-word, negative-word}
 use Rattle.dimacs.proofs.put_literal.Statement.{statement}
 use Rattle.dimacs.proofs.put_literal.Tie as tie
 
 -- the text of the literal, by its sign
 positive : (c : tie.Then1) → literalText (c .before .before .before .before .args .l) ≡ decimal (c .before .before .variable .result)
 positive c =
-    let l = c .before .before .before .before .args .l in
-    let e = back l (c .before .before .before .before .fits .l) in
-    positive-text l (ap isPositive (sym e) ∙ sym (c .before .is-positive .ensures) ∙ c .if1 .taken)
-    ∙ ap decimal (ap natAbs (sym e) ∙ sym (c .before .before .variable .ensures))
+    let s = c .before .before .before .before in
+    positive-word (back (s .args .l) (s .fits .l)) (c .before .before .variable .ensures) (c .before .is-positive .ensures) (c .if1 .taken)
 
 negative : (c : tie.Else1) → literalText (c .before .before .before .before .args .l) ≡ 45 ∷ decimal (c .before .before .variable .result)
 negative c =
-    let l = c .before .before .before .before .args .l in
-    let e = back l (c .before .before .before .before .fits .l) in
-    negative-text l (ap isPositive (sym e) ∙ sym (c .before .is-positive .ensures) ∙ c .if1 .left) (c .before .before .before .before .pre .0)
-    ∙ ap (λ n. 45 ∷ decimal n) (ap natAbs (sym e) ∙ sym (c .before .before .variable .ensures))
+    let s = c .before .before .before .before in
+    negative-word (back (s .args .l) (s .fits .l)) (c .before .before .variable .ensures) (c .before .is-positive .ensures) (c .if1 .left)
+    (s .pre .0)
 
 variable-requires : tie.Need-variable-requires
 variable-requires c κs = search needs
