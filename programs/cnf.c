@@ -3,10 +3,10 @@
 #include <signal.h>
 #include <stdint.h>
 
-uint32_t fawnloom_cnf(int32_t list[262144], uint8_t text[1835040]);
+uint32_t fawnloom_cnf(int32_t list[262144], uint8_t text[1835022]);
 
 static int32_t list[262144];
-static uint8_t text[1835040];
+static uint8_t text[1835022];
 
 int main(void) {
     /* a reader that went away is a write that fails, and is told, and not a signal */

@@ -31,7 +31,7 @@ fn clauses(name: &[u8]) {
     io::write_all(1, b"\n");
     let fd = open(name);
     let mut list = [0i32; 262144];
-    let mut text = [0u8; 1835040];
+    let mut text = [0u8; 1835022];
     console_cnf::print_clauses(fd, &mut list, &mut text);
     libc::close(fd);
 }

@@ -1,8 +1,8 @@
 -- What `cnf` prints, by the length of the input, and the text of a list that was written.
 use mathlib.Core.Path.{_≡_, sym, ap, _∙_}
 use mathlib.Core.Bool.{true}
-use mathlib.Core.List.{List}
-use Prim.Native.Nat.{ℕ, _+_, _*_, _≤_, _<_}
+use mathlib.Core.List.{List, _++_}
+use Prim.Native.Nat.{ℕ, _≤_, _<_}
 use native.Mathlib.Omega.{arith}
 use lib.IntN.{ℤ}
 use lib.ListN.{length, take, drop, length-append}
@@ -15,11 +15,13 @@ use Rattle.clauses_rules.specs.Whole.{words, wordTotal}
 use Rattle.clauses_rules.proofs.Theorems.{listed}
 use Rattle.clauses.specs.Answers.{fits, writeAnswer, listAfter}
 use Rattle.clauses.proofs.Answered.{count-fits, write-fits}
-use Rattle.dimacs.specs.Text.{textOf, textRoom}
+use Rattle.dimacs.specs.Text.{textOf}
 use Rattle.dimacs.specs.Answers as dimacs
-use Rattle.dimacs.specs.Answers.{bytes, textAfter}
-use Rattle.dimacs.proofs.Lines.{text-fits}
-use Rattle.dimacs.proofs.Answers.{write-bytes, after-bytes}
+use Rattle.dimacs.specs.Answers.{bytes, sizeAnswer, textAfter}
+use Rattle.dimacs.specs.Exact.{Exact}
+use Rattle.dimacs.proofs.Lines.{text-short}
+use Rattle.dimacs.proofs.Answers.{size-bytes}
+use Rattle.dimacs.proofs.Exact.{not-both, to-the-byte}
 use Rattle.cnf_text.specs.Private.{PrintsText}
 use Rattle.cnf_text.specs.Printed.{textAs, clauseText, listLeft}
 
@@ -42,7 +44,7 @@ module _ (input : List ℕ) (list : List ℤ) where
 
   -- the list that was written
   module _ (v c w : ℕ) (e : writeAnswer input list ≡ fits v c w) where
-    pub written-room : w ≤ length list
+    written-room : w ≤ length list
     written-room = write-fits input list v c w e .room
 
     pub written-inside : w ≤ length (listAfter input list)
@@ -57,6 +59,13 @@ module _ (input : List ℕ) (list : List ℤ) where
         let d = count-fits input v c w (l .counted) in
         rw (l .front, d .variables) (listed input (d .layout) (d .accepted) (d .small) (omega (arith, d .words, l .room)))
 
+    -- 7 bytes for each of 262,144 words, and 14 more, are enough for every text
+    pub written-fits : length list ≤ 262144 → length (textOf v (take w (listAfter input list))) ≤ 1835022
+    written-fits h =
+        let ws = take w (listAfter input list) in
+        let few : length list ≤ 2147483647 = omega arith in
+        omega (arith, text-short v ws (written-listed few), length-take-le w (listAfter input list) written-inside, written-room)
+
     pub written-text : length input ≤ 4096 → textOf v (take w (listAfter input list)) ≡ clauseText input list
     written-text h =
         ap (textOf v) (write-fits input list v c w e .front) ∙ ap (λ a. textAs a (sheetOf input)) (sym e) ∙ sym (short-clauses h)
@@ -69,22 +78,25 @@ module _ {text lent left : List ℕ} {end : ℕ} (p : PrintsText text lent left 
       let l : end ≤ length left = omega (arith, e .ends, ap length (e .stands), length-append text (drop (length text) lent)) in
       (l, sym (length-take-le end left l))
 
--- `dimacs::write` of a list that is one, where there is room
-module _ (v : ℕ) (ws : List ℤ) (lent left : List ℕ) (e : isList v ws ≡ true) (h : 7 * length ws + 32 ≤ length lent) where
-  room : textRoom ws ≤ length lent
-  unfolding textRoom
-  room = h
+-- a list that is one has a figure
+pub not-refused : (v : ℕ) (ws : List ℤ) → isList v ws ≡ true → (k : ℕ) → dimacs.refused k ≡ sizeAnswer v ws → ⊥
+not-refused v ws e k a = not-both (a ∙ size-bytes v ws e)
 
-  pub writes-text : left ≡ textAfter v ws lent → (n : ℕ) → bytes n ≡ dimacs.writeAnswer v ws lent → PrintsText (textOf v ws) lent left n
-  writes-text l n a =
-      let k : bytes n ≡ bytes (length (textOf v ws)) = a ∙ write-bytes v ws lent e room in
-      record {
-        room = omega (arith, text-fits v ws e, room);
-        prints = record { ends = cc; stands = l ∙ after-bytes v ws lent e room };
-      }
+-- the text of a list, in as many bytes of a slice as it has
+module _ (v : ℕ) (ws : List ℤ) (lent : List ℕ) (h : length (textOf v ws) ≤ length lent) (n : ℕ) (s : sizeAnswer v ws ≡ bytes n) where
+  exact : Exact v ws n (take n lent)
+  exact = to-the-byte v ws n s (take n lent)
 
-  pub not-refused : (n : ℕ) → dimacs.refused n ≡ dimacs.writeAnswer v ws lent → ⊥
-  not-refused n a =
-      let k : dimacs.refused n ≡ bytes (length (textOf v ws)) = a ∙ write-bytes v ws lent e room in
-      let z : _≡_ {A = ℕ} 0 1 = cc in
-      omega arith
+  pub part-inside : n ≤ length lent
+  part-inside = omega (arith, exact .length-of-text)
+
+  pub part-printed : PrintsText (textOf v ws) lent (textAfter v ws (take n lent) ++ drop n lent) n
+  part-printed = record {
+    room = h;
+    prints = record {
+      ends = exact .length-of-text;
+      stands =
+          ap (λ part. part ++ drop n lent) (exact .filled (length-take-le n lent part-inside))
+          ∙ ap (λ k. textOf v ws ++ drop k lent) (exact .length-of-text);
+    };
+  }

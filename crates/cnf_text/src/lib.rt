@@ -1,7 +1,7 @@
 // What `cnf` prints for an input.
 ghost use mathlib.Core.Path.{_≡_};
 ghost use mathlib.Core.Bool.{true};
-ghost use Prim.Native.Nat.{_+_, _*_, _≤_};
+ghost use Prim.Native.Nat.{_≤_};
 ghost use lib.ListN.{length, take};
 ghost use Rattle.text.specs.Texts.{Prints};
 ghost use Rattle.clause_list.specs.ClauseList.{isList};
@@ -13,23 +13,26 @@ use clauses::answer::Size;
 use dimacs::answer::TextSize;
 use text::put_end;
 
-// The text of a list's first words, which are a list of clauses.
+// The text of a list's first words, which are a list of clauses. It is lent as many bytes as it has.
 fn put_clauses(text: &mut [u8], list: &[i32], size: Size) -> usize
     requires { ⌜ size .words ≤ length (now list) ⌝ }
     requires { ⌜ isList (size .variables) (take (size .words) (now list)) ≡ true ⌝ }
-    requires { ⌜ 7 * size .words + 32 ≤ length (now text) ⌝ }
+    requires { ⌜ length (textOf (size .variables) (take (size .words) (now list))) ≤ length (now text) ⌝ }
     ensures { λ r. ⌜ PrintsText (textOf (size .variables) (take (size .words) (now (list .entry)))) (now (text .entry)) (now (text .exit)) r ⌝ }
 {
     let w = size.words;
-    let written = dimacs::write(&list[..w], size.variables as u32, text);
-    match written {
-        TextSize::Bytes(n) => n,
-        TextSize::Refused(_) => 0,
-    }
+    let words = &list[..w];
+    let v = size.variables as u32;
+    let sized = dimacs::size(words, v);
+    let TextSize::Bytes(n) = sized else {
+        return 0;
+    };
+    dimacs::write(words, v, &mut text[..n]);
+    n
 }
 
 // Reads the input as a sheet, and writes its clause text, or the number of a refusal, to the front of the text.
-pub fn clause_text(input: &[u8], list: &mut [i32; 262144], text: &mut [u8; 1835040]) -> usize
+pub fn clause_text(input: &[u8], list: &mut [i32; 262144], text: &mut [u8; 1835022]) -> usize
     ensures { λ r. ⌜ (r ≤ length (now (text .exit))) × (r ≡ length (take r (now (text .exit)))) ⌝ }
     ensures { λ r. ⌜ Prints (clauseText (now (input .entry)) (now (list .entry))) (now (text .entry)) (now (text .exit)) r ⌝ }
     ensures { λ r. ⌜ now (list .exit) ≡ listLeft (now (input .entry)) (now (list .entry)) ⌝ }

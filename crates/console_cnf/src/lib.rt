@@ -3,10 +3,11 @@ ghost use Prim.Native.Nat.{_≤_};
 ghost use Rattle.io.specs.Counts.{Counts};
 use cnf_text::clause_text;
 
-// The clause words of `cnf`, and the bytes of their text.
+// The clause words of `cnf`.
 const WORDS: usize = 262144;
 
-const BYTES: usize = 1835040;
+// No text of so many words is longer: 7 bytes for each word, and 14 more (`written-fits`, crate `cnf_text`).
+const BYTES: usize = 1835022;
 
 // Prints the first n bytes of a text.
 fn print_text(text: &[u8], n: usize) -> bool

@@ -13,11 +13,11 @@ use Rattle.prelude.proofs.Laws.{decided}
 use Rattle.clause_list.specs.ClauseList.{isList}
 use Rattle.dimacs.specs.Text.{textOf}
 use Rattle.dimacs.specs.Answers.{bytes, refused, sizeAnswer, writeAnswer, textAfter}
-use Rattle.dimacs.specs.Exact.{Exact, ToTheByte}
+use Rattle.dimacs.specs.Exact.{ToTheByte}
 use Rattle.dimacs.proofs.Answers.{size-refused, size-bytes, write-short, after-short, write-bytes, after-bytes}
 
 -- no answer is both a number of bytes and a refusal
-not-both : {k n : ℕ} → refused k ≡ bytes n → ⊥
+pub not-both : {k n : ℕ} → refused k ≡ bytes n → ⊥
 not-both {k} {n} e =
     let z : _≡_ {A = ℕ} 0 1 = cc in
     omega arith

@@ -18,7 +18,7 @@ use Rattle.clauses_rules.specs.Gates.{remaining, or, inputClauses, gatesClauses
 use Rattle.clauses_rules.specs.Translation.{afterRounds, translate}
 use Rattle.clauses_rules.specs.Whole.{series, markClauses, rootWalk, clauses, words, variableTotal}
 use Rattle.clauses.specs.Answers.{countAnswer, writeAnswer, listAfter}
-use Rattle.dimacs.specs.Text.{literalText, clauseLine, clauseLines, header, textOf, textRoom}
+use Rattle.dimacs.specs.Text.{literalText, clauseLine, clauseLines, header, textOf}
 use Rattle.dimacs.specs.Answers as text
 use Rattle.search_rules.specs.Rules.{truthOf, negated, literal, isFalsified, isSatisfied, conflict, openOf, sameLiteral, only, unitOf}
 use Rattle.search_rules.specs.Rules.{firstUnit, lowestOpen, wordOf, byteOf, placeOf, valuesOf, trailOf, turn, decide, next}
@@ -35,7 +35,7 @@ unfolding rowOf each all any digits decimal tables.table shapeStep freeStep visi
     counted scoped declared nodesFine shaped rooted walkable reading symbolOf treeStep firstCell withinScopes rounds
     valueOf evaluation.truthOf marksHold holds heldAnswer checkAnswer builder.each remaining or inputClauses gatesClauses afterRounds translate
     series markClauses rootWalk clauses words wordsOf variableTotal countAnswer writeAnswer listAfter cut wellCut isList
-    literalText clauseLine clauseLines header textOf textRoom text.sizeAnswer text.writeAnswer text.textAfter
+    literalText clauseLine clauseLines header textOf text.sizeAnswer text.writeAnswer text.textAfter
     truthOf negated literal isFalsified isSatisfied conflict openOf sameLiteral only unitOf firstUnit lowestOpen
     wordOf byteOf placeOf valuesOf trailOf turn decide next total count run answerAt valuesAt trailAt outcome
     readBackAnswer instanceAfter finding relationLines findingText slicesAfter clauseText listLeft

@@ -1,7 +1,7 @@
 -- What is shown of a row of the table: what each public call and both programs answer, and what they leave in every slice that is lent.
 use mathlib.Core.Path.{_≡_}
 use mathlib.Core.List.{List, [], _∷_, _++_}
-use Prim.Native.Nat.{ℕ, _+_, _*_}
+use Prim.Native.Nat.{ℕ}
 use lib.IntN.{ℤ, pos}
 use lib.ListN.{length, take, drop, replicate}
 use Rattle.text.specs.Texts.{bytesOf}
@@ -111,6 +111,7 @@ inFull (table.fitting f) =
     let values = front (f .values) (lent .values) in
     let trail = front (f .trail) (lent .trail) in
     let instance = front (f .instance) (lent .instance) in
+    let textSize = text.bytes (length (bytesOf (f .text))) in
     fitting
     record {
       reading = accepted (layout (f .nodes));
@@ -126,8 +127,8 @@ inFull (table.fitting f) =
     }
     record {
       search = record { answer = f .search; values = values; trail = trail };
-      sizing = text.bytes (7 * f .size + 32);
-      texting = text.bytes (length (bytesOf (f .text)));
+      sizing = textSize;
+      texting = textSize;
       text = front (bytesOf (f .text)) lentText;
     }
 -- a refusal: the number everywhere, and every slice as it was

@@ -14,7 +14,7 @@ use Rattle.dimacs.specs.Text.{textOf}
 use Rattle.cnf_text.specs.Private.{PrintsText}
 use Rattle.cnf_text.specs.Printed.{textAs}
 use Rattle.cnf_text.proofs.Texts.{long-clauses, long-list, short-clauses, short-list, text-counts}
-use Rattle.cnf_text.proofs.Texts.{written-room, written-inside, written-listed, written-text}
+use Rattle.cnf_text.proofs.Texts.{written-inside, written-listed, written-fits, written-text}
 use Rattle.cnf_text.proofs.clause_text.Statement.{statement}
 use Rattle.cnf_text.proofs.clause_text.Tie as tie
 
@@ -71,7 +71,7 @@ put-clauses-requires c κs =
       written-inside (s .args .input .now) (s .args .list .now) _ _ _ e,
       (
         written-listed (s .args .input .now) (s .args .list .now) _ _ _ e (omega arith),
-        omega (arith, written-room (s .args .input .now) (s .args .list .now) _ _ _ e),
+        omega (arith, written-fits (s .args .input .now) (s .args .list .now) _ _ _ e (omega arith)),
       ),
     )
 

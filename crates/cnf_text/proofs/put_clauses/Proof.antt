@@ -1,75 +1,79 @@
--- `put_clauses` meets its contract: a list that is one is not refused.
-use mathlib.Core.Path.{_≡_, refl, sym, ap, _∙_}
-use Prim.Native.Nat.{ℕ, _+_, _*_, _≤_}
+-- `put_clauses` meets its contract: a list that is one has a figure, and a slice of as many bytes is filled.
+use mathlib.Core.Path.{_≡_, sym, ap, _∙_}
+use mathlib.Core.List.{List}
+use Prim.Native.Nat.{_≤_}
 use native.Mathlib.Omega.{arith}
+use lib.IntN.{ℤ}
 use lib.ListN.{length, take}
 use lib.Seq.{length-take-le}
 use borrow.Author.Needs.{needs}
-use denote.Enum.Declared.{tagOf}
-use Rattle.refusal.specs.Refusals.{numberOf}
 use Rattle.clause_list.proofs.Laws.{list-most-variables}
-use Rattle.dimacs.specs.declared.answer.TextSize.{TextSize}
-use Rattle.dimacs.specs.declared.answer.TextSize.the-variants.{Bytes, Refused}
-use Rattle.dimacs.specs.Answers.{refused, answerOf}
-use Rattle.dimacs.proofs.answer.TextSize.{the-type}
-use Rattle.cnf_text.proofs.Texts.{writes-text, not-refused}
+use Rattle.dimacs.specs.Answers.{bytes, answerOf, sizeAnswer}
+use Rattle.cnf_text.proofs.Texts.{not-refused, part-inside, part-printed}
 use Rattle.cnf_text.proofs.put_clauses.Statement.{statement}
 use Rattle.cnf_text.proofs.put_clauses.Tie as tie
 
--- a refusal has the number of one
-was-refused : (r : TextSize) → tagOf the-type r ≡ 1 → (n : ℕ) × (answerOf r ≡ refused n)
-was-refused (Bytes n) e = absurd (omega arith)
-was-refused (Refused x) e = (numberOf x, refl)
-
 -- the words
-module _ (s : tie.Start) where
-  size-is : length (take (s .args .size .words) (s .args .list .now)) ≡ s .args .size .words
-  size-is = length-take-le (s .args .size .words) (s .args .list .now) (s .pre .0)
+size-is : (s : tie.Start) → length (take (s .args .size .words) (s .args .list .now)) ≡ s .args .size .words
+size-is s = length-take-le (s .args .size .words) (s .args .list .now) (s .pre .0)
 
-  has-room : 7 * length (take (s .args .size .words) (s .args .list .now)) + 32 ≤ length (s .args .text .now)
-  has-room = omega (arith, size-is, s .pre .1 .1)
+slice-aggregate-words : tie.Need-slice-aggregate-words
+slice-aggregate-words c = sym (size-is (c .before .before))
 
-slice-aggregate-write : tie.Need-slice-aggregate-write
-slice-aggregate-write c = sym (size-is (c .before .before))
-
-cast-write : tie.Need-cast-write
-cast-write c =
+cast-v : tie.Need-cast-v
+cast-v c =
     let s = c .before .before .before in
     omega (arith, list-most-variables (s .args .size .variables) (take (s .args .size .words) (s .args .list .now)) (s .pre .1 .0))
 
-write-requires : tie.Need-write-requires
-write-requires c κs = search needs
+size-requires : tie.Need-size-requires
+size-requires c κs = search needs
 
-enum-known-written : tie.Need-enum-known-written
-enum-known-written c = search needs
+enum-known-sized : tie.Need-enum-known-sized
+enum-known-sized c = search needs
 
 enum-told : tie.Need-enum-told
 enum-told c = search needs
 
+returns : tie.Need-returns
+returns c =
+    let s = c .before .before .before .before .before .before in
+    let a = ap answerOf (sym (c .enum-told .given .1)) ∙ c .before .before .size .ensures in
+    absurd (not-refused (s .args .size .variables) (take (s .args .size .words) (s .args .list .now)) (s .pre .1 .0) _ a)
+
+-- the figure
+abbrev start : tie.After-sized → tie.Start
+start c = c .before .before .before .before .before .before
+
+abbrev words : tie.After-sized → List ℤ
+words c = take (start c .args .size .words) (start c .args .list .now)
+
+figure : (c : tie.After-sized) → sizeAnswer (start c .args .size .variables) (words c) ≡ bytes (c .sized .given .0 .0)
+figure c = sym (c .before .before .size .ensures) ∙ ap answerOf (c .sized .given .1)
+
+inside : (c : tie.After-sized) → c .sized .given .0 .0 ≤ length (start c .args .text .now)
+inside c = part-inside (start c .args .size .variables) (words c) (start c .args .text .now) (start c .pre .1 .1) _ (figure c)
+
+slice-relend-prefix-write : tie.Need-slice-relend-prefix-write
+slice-relend-prefix-write c = inside (c .before)
+
+slice-aggregate-write : tie.Need-slice-aggregate-write
+slice-aggregate-write c = sym (length-take-le _ _ (inside (c .before .before)))
+
+write-requires : tie.Need-write-requires
+write-requires c κs = search needs
+
 same-length : tie.Need-same-length
 same-length c = search needs
 
-returns : tie.Need-returns
-returns c =
-    let k = c .before .before .before .before .before in
-    let s = k .before .before .before .before .before in
-    writes-text (s .args .size .variables) (take (s .args .size .words) (s .args .list .now)) (s .args .text .now) _ (s .pre .1 .0) (has-room s)
-    (k .write .ensures .1) _ (ap answerOf (sym (c .before .written .given .1)) ∙ k .write .ensures .0)
-
-same-length-2 : tie.Need-same-length-2
-same-length-2 c = search needs
-
 returns-2 : tie.Need-returns-2
 returns-2 c =
-    let k = c .before .before .before .before in
-    let s = k .before .before .before .before .before in
-    let r = was-refused (k .write .result) (c .before .match .keys2) in
-    absurd
-    (not-refused (s .args .size .variables) (take (s .args .size .words) (s .args .list .now)) (s .args .text .now) (s .args .text .now)
-    (s .pre .1 .0) (has-room s) (r .0) (sym (r .1) ∙ k .write .ensures .0))
+    let k = c .before .before .before .before .before in
+    let s = start k in
+    let p = part-printed (s .args .size .variables) (words k) (s .args .text .now) (s .pre .1 .1) _ (figure k) in
+    rw (c .before .before .write .ensures .1) p
 
 pub put-clauses-spec : {M : Type 1} → statement M
 put-clauses-spec =
     tie.close
-    (tie.spec slice-aggregate-write cast-write write-requires enum-known-written enum-told same-length returns
-    same-length-2 returns-2)
+    (tie.spec slice-aggregate-words cast-v size-requires enum-known-sized enum-told returns slice-relend-prefix-write
+    slice-aggregate-write write-requires same-length returns-2)

@@ -2,12 +2,10 @@
 use mathlib.Core.Path.{_≡_, sym, ap, _∙_}
 use mathlib.Core.List.{_∷_}
 use native.Mathlib.Omega.{arith}
-use lib.IntN.{natAbs}
 use lib.ListN.{length, length-set}
 use borrow.Author.Needs.{needs}
 use Rattle.text.specs.Texts.{decimal}
 use Rattle.text.proofs.Puts.{put-byte, put-both, put-as, put-length}
-use Rattle.literal.specs.Literals.{isPositive}
 use Rattle.literal.proofs.Signs.{back}
 use Rattle.dimacs.specs.Text.{literalText}
 use Rattle.dimacs.proofs.Lines.{positive-word, negative-word}

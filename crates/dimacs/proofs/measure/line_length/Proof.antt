@@ -1,5 +1,5 @@
 -- `line_length` meets its contract. The loop's invariant: the bytes counted and those of the line from the next literal on are all.
-use mathlib.Core.Path.{_≡_, sym, ap, _∙_}
+use mathlib.Core.Path.{_≡_, ap}
 use Prim.Native.Nat.{_+_, _-_, _≤_}
 use native.Mathlib.Omega.{arith}
 use lib.IntN.{pos}

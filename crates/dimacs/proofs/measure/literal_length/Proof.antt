@@ -1,14 +1,11 @@
 -- `literal_length` meets its contract.
-use mathlib.Core.Path.{_≡_, sym, ap, _∙_}
-use mathlib.Core.List.{_∷_}
+use mathlib.Core.Path.{sym, ap, _∙_}
 use Prim.Native.Nat.{_^_, _<_}
 use native.Mathlib.Omega.{arith}
 use lib.ListN.{length}
 use borrow.Author.Needs.{needs}
-use Rattle.text.specs.Texts.{decimal}
 use Rattle.text.proofs.Decimals.{decimal-short}
 use Rattle.literal.proofs.Signs.{back}
-use Rattle.dimacs.specs.Text.{literalText}
 use Rattle.dimacs.proofs.Lines.{positive-word, negative-word}
 use Rattle.dimacs.proofs.measure.literal_length.Statement.{statement}
 use Rattle.dimacs.proofs.measure.literal_length.Tie as tie
