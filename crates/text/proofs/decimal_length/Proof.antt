@@ -35,12 +35,12 @@ loop-less c = omega arith
 loop-again : tie.Need-loop-again Inv-loop μ-loop
 loop-again c =
     let loop = c .before .loop in
-    omega (arith, loop .inv, length-more (loop .rest) (c .loop-test .taken))
+    omega (arith, loop .inv, length-more (loop .rest) (omega (arith, c .loop-test .taken)))
 
 returns : tie.Need-returns Inv-loop μ-loop
 returns c =
     let loop = c .before .loop in
-    omega (arith, loop .inv, ap length (decimal-one (loop .rest) (c .loop-test .left)))
+    omega (arith, loop .inv, ap length (decimal-one (loop .rest) (omega (arith, c .loop-test .left))))
 
 pub decimal-length-spec : {M : Type 1} → statement M
 decimal-length-spec =
