@@ -1,5 +1,5 @@
 -- A walk over the clauses of a list, by their counts, and what is counted on it.
-use mathlib.Core.Path.{_≡_, sym, ap, _∙_, subst}
+use mathlib.Core.Path.{_≡_, refl, sym, ap, _∙_, subst}
 use mathlib.Core.Bool.{true}
 use mathlib.Core.List.{List, []}
 use Prim.Native.Nat.{ℕ, suc, _+_, _-_, _<_, _≤_}
@@ -28,17 +28,30 @@ at-start ws = record { within = omega arith; cut = list-well-cut-here }
     list-well-cut-here : (v : ℕ) → isList v ws ≡ true → wellCutWords v ws ≡ true
     list-well-cut-here v e = list-well-cut v ws e
 
-module _ (ws : List ℤ) (i n : ℕ) (a : At ws i) (h : i < length ws) (c : n ≡ countOf (getD ws i (pos 0))) where
-  clause-here : (v : ℕ) → isList v ws ≡ true → ClauseAt v ws i n
+-- the count at a place, and the clause that it heads
+abbrev pub countAt : List ℤ → ℕ → ℕ
+countAt ws i = countOf (getD ws i (pos 0))
+
+module _ (ws : List ℤ) (i : ℕ) (a : At ws i) (h : i < length ws) where
+  clause-here : (v : ℕ) → isList v ws ≡ true → ClauseAt v ws i (countAt ws i)
   clause-here v e =
       let k = clause-at v ws i h (a .cut v e) in
-      subst (ClauseAt v ws i) (sym (ap countOf (k .head)) ∙ sym c) k
+      subst (ClauseAt v ws i) (sym (ap countOf (k .head))) k
 
-  pub here : (l : Listed ws) → ClauseAt (l .variables) ws i n
+  pub here : (l : Listed ws) → ClauseAt (l .variables) ws i (countAt ws i)
   here l = clause-here (l .variables) (l .passes)
 
-  pub next : Listed ws → At ws (suc (i + n))
-  next l = record { within = here l .fits; cut = λ v e. clause-here v e .rest }
+  pub next : Listed ws → {end : ℕ} → end ≡ suc (i + countAt ws i) → At ws end
+  next l {end} e = rw e (record { within = here l .fits; cut = λ v e. clause-here v e .rest })
+
+-- the words between a count and the next one are a clause's
+abbrev pub clauseAt : List ℤ → ℕ → List ℤ
+clauseAt ws i = take (countAt ws i) (drop (suc i) ws)
+
+pub part : (ws : List ℤ) (i end : ℕ) → end ≡ suc (i + countAt ws i) → take (end - (i + 1)) (drop (i + 1) ws) ≡ clauseAt ws i
+part ws i end h =
+    let e : end - (i + 1) ≡ countAt ws i = omega arith in
+    rw (e, add-one)
 
 -- the clauses before a place, and the bytes of their lines, were counted
 pub record Counted (ws : List ℤ) (i clauses lines : ℕ) : Type 0 where
@@ -51,22 +64,22 @@ counted-none ws = record { at = at-start ws; clauses-left = omega arith; lines-l
 
 module _ {ws : List ℤ} {i clauses lines : ℕ} (k : Counted ws i clauses lines) where
   -- with the clause at the place
-  pub counted-next : (l : Listed ws) (n b : ℕ) → i < length ws → n ≡ countOf (getD ws i (pos 0))
-      → b ≡ length (clauseLine (take n (drop (suc i) ws))) → Counted ws (suc (i + n)) (clauses + 1) (lines + b)
-  counted-next l n b h c e =
-      let clause = here ws i n (k .at) h c l in
-      let line = clauseLine (take n (drop (suc i) ws)) in
-      let rest = clausesOf (drop (suc (i + n)) ws) in
+  pub counted-next : Listed ws → i < length ws → {end b : ℕ} → end ≡ suc (i + countAt ws i) → b ≡ length (clauseLine (clauseAt ws i))
+      → Counted ws end (clauses + 1) (lines + b)
+  counted-next l h {end} {b} e f =
+      let clause = here ws i (k .at) h l in
+      let rest = clausesOf (drop (suc (i + countAt ws i)) ws) in
+      rw e
       record {
-        at = next ws i n (k .at) h c l;
+        at = next ws i (k .at) h l refl;
         clauses-left = omega (arith, k .clauses-left, ap length (clause .clauses));
         lines-left =
             omega (
               arith,
               k .lines-left,
               ap (λ cs. length (clauseLines cs)) (clause .clauses),
-              ap length (lines-more (take n (drop (suc i) ws)) rest),
-              length-append line (clauseLines rest),
+              ap length (lines-more (clauseAt ws i) rest),
+              length-append (clauseLine (clauseAt ws i)) (clauseLines rest),
             );
       }
 
@@ -77,12 +90,6 @@ module _ {ws : List ℤ} {i clauses lines : ℕ} (k : Counted ws i clauses lines
         omega (arith, k .clauses-left, ap length none),
         omega (arith, k .lines-left, ap (λ cs. length (clauseLines cs)) none, ap length lines-none),
       )
-
--- the words between a count and the next one are a clause's
-pub part : (ws : List ℤ) (i n : ℕ) → take (((i + 1) + n) - (i + 1)) (drop (i + 1) ws) ≡ take n (drop (suc i) ws)
-part ws i n =
-    let e : ((i + 1) + n) - (i + 1) ≡ n = omega arith in
-    rw (e, add-one)
 
 pub proper : (v : ℕ) (clause : List ℤ) → all (isLiteral v) clause ≡ true → Proper clause
 proper v clause e i h = literal-low v (getD clause i (pos 0)) (all-at (isLiteral v) clause e i (pos 0) h)

@@ -4,6 +4,7 @@ use measure::measure;
 use refusal::Refusal;
 use text::put_bytes;
 use text::put_decimal;
+use walk::clause_end;
 ghost use mathlib.Core.Path.{_≡_};
 ghost use Prim.Native.Nat.{_≤_};
 ghost use lib.IntN.{natAbs};
@@ -15,6 +16,7 @@ ghost use Rattle.dimacs.specs.Private.{Proper, Listed};
 
 pub mod answer;
 mod measure;
+mod walk;
 
 // Puts a literal: a minus where it says that its variable is false, then the variable.
 fn put_literal(text: &mut [u8], at: usize, l: i32) -> usize
@@ -59,9 +61,8 @@ fn put_clauses(text: &mut [u8], at: usize, list: &[i32]) -> usize
     let mut end = at;
     let mut i = 0;
     while i < list.len() {
-        let head = list[i];
         let first = i + 1;
-        let next = first + literal::count(head) as usize;
+        let next = clause_end(list, i);
         end = put_clause(text, end, &list[first..next]);
         i = next;
     }

@@ -7,6 +7,7 @@ ghost use lib.ListN.{length};
 ghost use Rattle.clause_list.specs.ClauseList.{clausesOf, isList};
 ghost use Rattle.dimacs.specs.Text.{literalText, clauseLine, header, textOf};
 ghost use Rattle.dimacs.specs.Private.{Proper};
+use crate::walk::clause_end;
 use text::decimal_length;
 
 // The number of a list's clauses, and the bytes of its text.
@@ -60,12 +61,11 @@ pub fn measure(list: &[i32], v: u32) -> Measured
     let mut lines = 0;
     let mut i = 0;
     while i < list.len() {
-        let head = list[i];
         let first = i + 1;
-        let next = first + literal::count(head) as usize;
-        lines += line_length(&list[first..next]);
+        let end = clause_end(list, i);
+        lines += line_length(&list[first..end]);
         clauses += 1;
-        i = next;
+        i = end;
     }
     let bytes = header_length(v as usize, clauses) + lines;
     Measured { clauses, bytes }
