@@ -1,7 +1,7 @@
 //! The cases K1 to K10 of document 01, and the traps that it names.
 
 use crate::clauses::{count, translate, write, Size};
-use crate::dimacs::{parse, text};
+use crate::dimacs::{parse, size, text, write as write_text};
 use crate::finder::{find, finder};
 use crate::long_search::long;
 use crate::meaning::check;
@@ -267,6 +267,39 @@ fn the_sum_does_not_wrap() {
     assert_eq!(Steps::default().sum(), 0);
     assert_eq!(Steps::new(1, 20, 300).sum(), 321);
     assert_eq!(Steps::new(most, most, most).sum(), 3 * ((1 << 64) - 1));
+}
+
+/// K1's text has 41 bytes, in lines of 10, 4, 7, 7, 9 and 4.
+#[test]
+fn a_text_to_the_byte() {
+    let list = [1, 1, 2, 4, -2, 2, 4, -3, 3, -4, 2, 3, 1, 4];
+    assert_eq!((size(&list, 4), size(&[], 16_000), size(&list, 3)), (Ok(41), Ok(14), Err(LIST)));
+    for (length, left) in [(41, ""), (42, "#"), (200, &"#".repeat(159))] {
+        let mut out = vec![b'#'; length];
+        assert_eq!(write_text(&list, 4, &mut out), Ok(41));
+        assert_eq!(String::from_utf8(out).unwrap(), TEXT.to_owned() + left);
+    }
+    for length in 0..41 {
+        let mut out = vec![b'#'; length];
+        assert_eq!((write_text(&list, 3, &mut out), write_text(&list, 4, &mut out)), (Err(LIST), Err(SHORT)));
+        assert_eq!(out, vec![b'#'; length]);
+    }
+}
+
+/// Each further digit, and a minus, is one byte more; a clause has three for its 0.
+#[test]
+fn each_digit_is_a_byte() {
+    let edges =
+        [(1, 1), (9, 1), (10, 2), (99, 2), (100, 3), (999, 3), (1_000, 4), (9_999, 4), (10_000, 5), (16_000, 5)];
+    for (edge, digits) in edges {
+        assert_eq!(size(&[1, edge], 16_000), Ok(14 + digits + 3));
+        assert_eq!(size(&[1, -edge], 16_000), Ok(14 + 1 + digits + 3));
+        assert_eq!(size(&[], edge as u32), Ok(9 + digits));
+    }
+    let counts = [(1, 1), (9, 1), (10, 2), (99, 2), (100, 3), (9_999, 4), (10_000, 5), (99_999, 5), (100_000, 6)];
+    for (clauses, digits) in counts {
+        assert_eq!(size(&[1, 1].repeat(clauses), 1), Ok(9 + digits + 4 * clauses as u64));
+    }
 }
 
 #[test]

@@ -1,13 +1,7 @@
-//! Clause text in the DIMACS CNF format, and a strict reader of it (document 01, numbers 12 and 13).
+//! Clause text in the DIMACS CNF format, and a strict reader of it (document 01, numbers 12 and 13; document 02, Change 4).
 
 use crate::search::cut;
 use crate::sheet::SHORT;
-
-/// The bytes that a text call needs: 7 times the list's words, plus 32; number 12.
-pub fn size(list: &[i32], v: u32) -> Result<u64, u32> {
-    cut(list, v)?;
-    Ok(7 * list.len() as u64 + 32)
-}
 
 /// The text of a list, or number 12.
 pub fn text(list: &[i32], v: u32) -> Result<String, u32> {
@@ -22,14 +16,20 @@ pub fn text(list: &[i32], v: u32) -> Result<String, u32> {
     Ok(text)
 }
 
+/// The sizing call: number 12, else the text's length.
+pub fn size(list: &[i32], v: u32) -> Result<u64, u32> {
+    Ok(text(list, v)?.len() as u64)
+}
+
 /// The text call: numbers 12 and 13, else the bytes written at the front of the slice.
 pub fn write(list: &[i32], v: u32, out: &mut [u8]) -> Result<u64, u32> {
-    let needed = size(list, v)?;
-    let text = text(list, v)?;
-    if (out.len() as u64) < needed {
-        return Err(SHORT);
-    }
-    out[..text.len()].copy_from_slice(text.as_bytes());
+    put(&text(list, v)?, out)
+}
+
+/// A text to the front of a slice: number 13 where the slice is shorter than it.
+pub fn put(text: &str, out: &mut [u8]) -> Result<u64, u32> {
+    let front = out.get_mut(..text.len()).ok_or(SHORT)?;
+    front.copy_from_slice(text.as_bytes());
     Ok(text.len() as u64)
 }
 

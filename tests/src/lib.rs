@@ -5,6 +5,7 @@
 pub mod brute;
 pub mod clauses;
 pub mod deep;
+pub mod digits;
 pub mod dimacs;
 pub mod every_kind;
 pub mod finder;

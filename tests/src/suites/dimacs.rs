@@ -1,11 +1,13 @@
-//! Clause text: the sizing figure, the text byte for byte in slices that are exact, one byte short, and
-//! longer with a known filling behind; texts parsed back; minisat, cadical and picosat read them.
+//! Clause text: the sizing figure is the text's length; the text byte for byte in slices that are exact, one byte shorter and
+//! longer, much longer, random shorter and empty, with a known filling; texts parsed back; minisat, cadical and picosat read them.
 
-use super::{agree, covered, shown};
+use super::lengths::Met;
+use super::{agree, shown};
 use crate::solver::{solve, SOLVERS};
 use crate::{Outcome, Run};
 use reference::clauses::translate;
-use reference::dimacs::{parse, size, write};
+use reference::digits;
+use reference::dimacs::{parse, put, text};
 use reference::random::Source;
 use reference::random_list::{damage, list};
 use reference::random_sheet::{gates_of, sheet, style};
@@ -15,43 +17,106 @@ use reference::sheet::read;
 /// What stands in the slice before the call.
 const FILLING: u8 = b'#';
 
+/// K1; no clause; a clause that ends in the lowest literal; ten clauses of literals on both sides of each further digit.
+const MARKED: [(&[i32], u32, &str); 4] = [
+    (&[1, 1, 2, 4, -2, 2, 4, -3, 3, -4, 2, 3, 1, 4], 4, "p cnf 4 5\n1 0\n4 -2 0\n4 -3 0\n-4 2 3 0\n4 0\n"),
+    (&[], 1, "p cnf 1 0\n"),
+    (&[2, 16_000, -16_000], 16_000, "p cnf 16000 1\n16000 -16000 0\n"),
+    (
+        &[
+            1, 1, 1, -9, 1, 10, 1, -99, 1, 100, 1, -999, 1, 1_000, 1, -9_999, 1, 10_000, 8, 9, -10, 99, -100, 999,
+            -1_000, 9_999, -10_000,
+        ],
+        10_000,
+        "p cnf 10000 10\n1 0\n-9 0\n10 0\n-99 0\n100 0\n-999 0\n1000 0\n-9999 0\n10000 0\n\
+         9 -10 99 -100 999 -1000 9999 -10000 0\n",
+    ),
+];
+
+/// A list, and its text or number 12.
+struct Case {
+    name: String,
+    words: Vec<i32>,
+    v: u32,
+    want: Result<String, u32>,
+}
+
+impl Case {
+    fn new(name: String, (words, v): (Vec<i32>, u32)) -> Case {
+        let want = text(&words, v);
+        Case { name, words, v, want }
+    }
+
+    fn asked(&self) -> String {
+        format!("{}, v {}, list {}", self.name, self.v, shown(&self.words))
+    }
+
+    /// Both calls, the text in slices of all kinds of lengths. Gives the bytes of the slice that is as long as the text.
+    fn compare(&self, source: &mut Source, met: &mut Met) -> Result<Vec<u8>, String> {
+        let size = self.want.as_ref().map(|text| text.len() as u64).map_err(|&number| number);
+        agree(library::text_size(&self.words, self.v), size, || format!("size, {}", self.asked()))?;
+        let exact = size.unwrap_or(40) as usize;
+        let far = 7 * self.words.len() + 32 + source.below(9);
+        for length in [exact - 1, exact + 1, far, source.below(exact), 0] {
+            self.slice(length, met)?;
+        }
+        let bytes = self.slice(exact, met)?;
+        if size.is_ok() {
+            let back = parse(&bytes);
+            agree(back, Ok((self.v, cut(&self.words, self.v).expect("a good list"))), || self.asked())?;
+            met.list(&self.words, self.v);
+        }
+        Ok(bytes)
+    }
+
+    /// The text call with a slice of so many bytes, the whole slice compared.
+    fn slice(&self, length: usize, met: &mut Met) -> Result<Vec<u8>, String> {
+        let (mut got, mut want) = (vec![FILLING; length], vec![FILLING; length]);
+        let wanted = self.want.as_ref().map_err(|&number| number).and_then(|text| put(text, &mut want));
+        let answer = library::text(&self.words, self.v, &mut got);
+        let asked = || format!("a slice of {length} bytes, {}", self.asked());
+        agree(answer, wanted, asked)?;
+        if got != want {
+            let at = (0..length).find(|&at| got[at] != want[at]).unwrap_or(0);
+            let from = |bytes: &[u8]| String::from_utf8_lossy(&bytes[at..length.min(at + 40)]).into_owned();
+            agree(from(&got), from(&want), || format!("from byte {at} of {}", asked()))?;
+        }
+        met.call(answer, self.want.as_ref().ok().map(String::len), length);
+        Ok(got)
+    }
+}
+
+/// The texts that were written by hand, and the lists of all digits.
+fn known(run: &Run, met: &mut Met) -> Result<(), String> {
+    let source = &mut Source::new(run.seed, "dimacs, known", 0);
+    for (words, v, by_hand) in MARKED {
+        let case = Case { name: "by hand".into(), words: words.to_vec(), v, want: Ok(by_hand.into()) };
+        agree(text(words, v).as_deref(), Ok(by_hand), || format!("reference, {}", case.asked()))?;
+        case.compare(source, met)?;
+    }
+    for (number, list) in digits::few().into_iter().chain(digits::many()).enumerate() {
+        Case::new(format!("digits {number}"), list).compare(source, met)?;
+    }
+    Ok(())
+}
+
 pub fn run(run: &Run) -> Outcome {
-    let mut tally = [("a text", 0), ("number 12", 0), ("number 13", 0), ("a solver", 0)];
-    for case in run.cases(3_000) {
-        let source = &mut Source::new(run.seed, "dimacs", case);
-        let (mut words, mut v) = some_list(source, case);
+    let mut met = Met::nothing();
+    known(run, &mut met)?;
+    for number in run.cases(3_000) {
+        let source = &mut Source::new(run.seed, "dimacs", number);
+        let (mut words, mut v) = some_list(source, number);
         if source.chance(1, 4) {
             damage(source, &mut words, &mut v);
         }
-        let asked = || format!("case {case}, v {v}, list {}", shown(&words));
-        let needed = size(&words, v);
-        agree(library::text_size(&words, v), needed, asked)?;
-        let exact = needed.unwrap_or(40) as usize;
-        for length in [exact, exact - 1, exact + 1 + source.below(9), source.below(exact)] {
-            let (mut got, mut want) = (vec![FILLING; length], vec![FILLING; length]);
-            let (answer, wanted) = (library::text(&words, v, &mut got), write(&words, v, &mut want));
-            agree(answer, wanted, asked)?;
-            agree(&got, &want, asked)?;
-            match answer {
-                Ok(bytes) => {
-                    tally[0].1 += 1;
-                    let back = parse(&got[..bytes as usize]);
-                    agree(back, Ok((v, cut(&words, v).expect("a good list"))), asked)?;
-                }
-                Err(12) => tally[1].1 += 1,
-                Err(_) => tally[2].1 += 1,
-            }
-            if answer.is_ok() && case % 100 == 0 && length == exact {
-                read_by_solvers(&got[..answer.unwrap_or(0) as usize], v)?;
-                tally[3].1 += 3;
-            }
+        let case = Case::new(format!("case {number}"), (words, v));
+        let bytes = case.compare(source, &mut met)?;
+        if case.want.is_ok() && number % 100 == 0 {
+            read_by_solvers(&bytes, v)?;
+            met.read_by(SOLVERS.len());
         }
     }
-    covered(&tally, 50)?;
-    let [(_, texts), (_, list), (_, short), (_, solvers)] = tally;
-    Ok(format!(
-        "{texts} texts agree, {list} number 12, {short} number 13; {solvers} readings by solvers without a complaint"
-    ))
+    met.line()
 }
 
 fn some_list(source: &mut Source, case: u64) -> (Vec<i32>, u32) {
@@ -65,6 +130,9 @@ fn some_list(source: &mut Source, case: u64) -> (Vec<i32>, u32) {
         if let Ok(clauses) = read(&sheet.bytes()).and_then(|sheet| translate(&sheet)) {
             return (clauses.words(), clauses.variables);
         }
+    }
+    if source.chance(1, 3) {
+        return digits::list(source);
     }
     list(source)
 }

@@ -9,6 +9,7 @@ mod commands;
 mod count;
 mod dimacs;
 mod failures;
+mod lengths;
 mod onward;
 mod programs;
 mod read;

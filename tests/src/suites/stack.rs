@@ -104,9 +104,10 @@ fn list_calls(depths: &mut Depths, list: &[i32], v: u32, asked: &str) -> Result<
         (answers, call.values, call.trail, call.position)
     };
     call(depths, 9, || resumed(library::resume), resumed(reference::resume::resume), asked)?;
-    call(depths, 7, || library::text_size(list, v), reference::dimacs::size(list, v), asked)?;
+    let size = reference::dimacs::size(list, v);
+    call(depths, 7, || library::text_size(list, v), size, asked)?;
     let printed = |text: fn(&[i32], u32, &mut [u8]) -> Result<u64, u32>| {
-        let mut bytes = vec![0; 7 * list.len() + 32];
+        let mut bytes = vec![0; size.unwrap_or(0) as usize];
         (text(list, v, &mut bytes), bytes)
     };
     call(depths, 8, || printed(library::text), printed(reference::dimacs::write), asked)
