@@ -5,6 +5,7 @@
 mod idle;
 mod resuming;
 mod search;
+mod text;
 mod translation;
 mod worked;
 
@@ -161,6 +162,14 @@ fn giving_up() {
     println!("number 10: {} µs at 16,001 variables, {} µs at 1,475,543,040 gates", just.as_micros(), far.as_micros());
 }
 
+/// Clause text: the lists of the sheets, a large one, and one that no sheet has.
+fn texts(lists: &[Clauses], large: &Clauses) {
+    let list = |clauses: &Clauses| (clauses.words(), clauses.variables);
+    text::texts("300 random sheets", &lists.iter().map(list).collect::<Vec<_>>());
+    text::texts("a large sheet", &[list(large)]);
+    text::texts("a random list", &[text::random_list(1_000_000, SEED)]);
+}
+
 fn main() {
     let sheets = sheets(300);
     let lists: Vec<Clauses> = sheets.iter().map(|(_, clauses)| clauses.clone()).collect();
@@ -176,6 +185,7 @@ fn main() {
     let k1 = read(&[1, 0, 1, 2, 0, 0, 0, 4, 1, 0, 0, 0, 0, 6, 1, 0, 0, 22, 0, 0]).and_then(|sheet| translate(&sheet));
     resuming::number_14("a state of K1", &[k1.expect("a list")], 5_000, 20_000);
     translations(&sheets);
+    texts(&lists, &large[0]);
     giving_up();
     idle::walks();
     worked::table();
