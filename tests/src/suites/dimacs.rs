@@ -17,7 +17,7 @@ use reference::sheet::read;
 /// What stands in the slice before the call.
 const FILLING: u8 = b'#';
 
-/// K1; no clause; a clause that ends in the lowest literal; ten clauses of literals on both sides of each further digit.
+/// K1; no clause; the last variable with both signs; ten clauses of literals on both sides of each further digit.
 const MARKED: [(&[i32], u32, &str); 4] = [
     (&[1, 1, 2, 4, -2, 2, 4, -3, 3, -4, 2, 3, 1, 4], 4, "p cnf 4 5\n1 0\n4 -2 0\n4 -3 0\n-4 2 3 0\n4 0\n"),
     (&[], 1, "p cnf 1 0\n"),
@@ -56,15 +56,16 @@ impl Case {
         let size = self.want.as_ref().map(|text| text.len() as u64).map_err(|&number| number);
         agree(library::text_size(&self.words, self.v), size, || format!("size, {}", self.asked()))?;
         let exact = size.unwrap_or(40) as usize;
+        let bytes = self.slice(exact, met)?;
+        // what was to be lent before Change 4, and more
         let far = 7 * self.words.len() + 32 + source.below(9);
         for length in [exact - 1, exact + 1, far, source.below(exact), 0] {
             self.slice(length, met)?;
         }
-        let bytes = self.slice(exact, met)?;
         if size.is_ok() {
-            let back = parse(&bytes);
-            agree(back, Ok((self.v, cut(&self.words, self.v).expect("a good list"))), || self.asked())?;
-            met.list(&self.words, self.v);
+            let clauses = cut(&self.words, self.v).expect("a good list");
+            met.list(&clauses, self.v);
+            agree(parse(&bytes), Ok((self.v, clauses)), || self.asked())?;
         }
         Ok(bytes)
     }

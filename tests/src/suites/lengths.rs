@@ -1,13 +1,12 @@
 //! What the suite `dimacs` met: answers, slices, and the lengths of the numbers in the texts.
 
 use super::covered;
-use reference::search::cut;
 
 /// How often each was met.
 pub struct Met {
     answers: [(&'static str, usize); 3],
     slices: [(&'static str, usize); 6],
-    /// Lists with a literal of each length, without and with a minus.
+    /// Lists with a positive, and with a negative literal of each length.
     literals: [[usize; 5]; 2],
     /// Lists whose v, and whose number of clauses, has each length.
     variables: [usize; 5],
@@ -60,8 +59,7 @@ impl Met {
     }
 
     /// A list whose text agreed.
-    pub fn list(&mut self, words: &[i32], v: u32) {
-        let clauses = cut(words, v).expect("a good list");
+    pub fn list(&mut self, clauses: &[Vec<i32>], v: u32) {
         let mut met = [[false; 5]; 2];
         clauses.iter().flatten().for_each(|&l| met[usize::from(l < 0)][place(l.unsigned_abs())] = true);
         for (times, met) in self.literals.iter_mut().flatten().zip(met.iter().flatten()) {
@@ -81,8 +79,8 @@ impl Met {
         covered(&self.answers, 50)?;
         covered(&self.slices, 1_000)?;
         covered(&[("a solver", self.solvers)], 50)?;
-        each_length("a literal without a minus", &self.literals[0], 200)?;
-        each_length("a literal with a minus", &self.literals[1], 200)?;
+        each_length("a positive literal", &self.literals[0], 200)?;
+        each_length("a negative literal", &self.literals[1], 200)?;
         each_length("a number of variables", &self.variables, 100)?;
         each_length("a number of clauses", &self.clauses, 2)?;
         let [(_, texts), (_, list), (_, short)] = self.answers;
@@ -98,6 +96,6 @@ impl Met {
 /// That numbers of one digit and of each further length came up in enough lists.
 fn each_length(what: &str, lists: &[usize], least: usize) -> Result<(), String> {
     let named: Vec<(String, usize)> =
-        lists.iter().zip(1..).map(|(&times, digits)| (format!("{what}, digits {digits},"), times)).collect();
+        lists.iter().zip(1..).map(|(&times, digits)| (format!("{what} with {digits} digit(s)"), times)).collect();
     named.iter().try_for_each(|(what, times)| covered(&[(what.as_str(), *times)], least))
 }
