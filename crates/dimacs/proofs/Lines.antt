@@ -115,7 +115,8 @@ unfolding textOf
 text-length v ws = length-append (header v (length (clausesOf ws))) (clauseLines (clausesOf ws))
 
 module _ (v : ℕ) (ws : List ℤ) (e : isList v ws ≡ true) where
-  -- at most 7 bytes for each word, and 14 for the header: what a clause leaves of its words pays for the digits of the number of clauses
+  -- at most 7 bytes for each word and 14 more, which are the header's where there is no clause: the five bytes that each clause leaves
+  -- pay for the digits of their number
   pub text-short : length (textOf v ws) ≤ 7 * length ws + 14
   text-short =
       let cs = clausesOf ws in
@@ -130,6 +131,6 @@ module _ (v : ℕ) (ws : List ℤ) (e : isList v ws ≡ true) where
         ap length (list-clauses v ws e),
       )
 
-  -- number 12 lets at most 2^31 - 1 words pass, so that the length of the text is a number of 64 bits, far from the end
-  pub text-counts : length (textOf v ws) < 2 ^ 64
-  text-counts = omega (arith, text-short, list-most-words v ws e)
+  -- number 12 lets at most 2^31 - 1 words pass: the length of the text is a number of 64 bits, by far
+  pub text-length-fits : length (textOf v ws) < 2 ^ 34
+  text-length-fits = omega (arith, text-short, list-most-words v ws e)

@@ -8,7 +8,7 @@ use Rattle.clause_list.specs.ClauseList.{clausesOf}
 use Rattle.clause_list.proofs.Laws.{ClauseAt, clauses-few}
 use Rattle.dimacs.specs.Text.{clauseLine, clauseLines, header, textOf}
 use Rattle.dimacs.specs.Private.{Listed}
-use Rattle.dimacs.proofs.Lines.{text-length, text-counts}
+use Rattle.dimacs.proofs.Lines.{text-length, text-length-fits}
 use Rattle.dimacs.proofs.Walks.{countAt, clauseAt, here, part, proper, Counted, counted-none, counted-next, counted-all}
 use Rattle.dimacs.proofs.measure.measure.Statement.{statement}
 use Rattle.dimacs.proofs.measure.measure.Tie as tie
@@ -60,11 +60,11 @@ part-line-length-start c = omega (arith, c .clause-end .ensures)
 part-line-length-end : tie.Need-part-line-length-end Inv-loop μ-loop
 part-line-length-end c = omega (arith, c .clause-end .ensures, clause c .fits)
 
--- the lines are a part of the text, whose length is a number of 64 bits
-fitting : (s : tie.Start Inv-loop μ-loop) → length (clauseLines (clausesOf (s .args .list .now))) < 2 ^ 64
+-- the lines are a part of the text, whose length fits
+fitting : (s : tie.Start Inv-loop μ-loop) → length (clauseLines (clausesOf (s .args .list .now))) < 2 ^ 34
 fitting s =
     let a = s .args in
-    omega (arith, text-length (a .v) (a .list .now), text-counts (a .v) (a .list .now) (s .pre))
+    omega (arith, text-length (a .v) (a .list .now), text-length-fits (a .v) (a .list .now) (s .pre))
 
 -- what is counted with the clause, whose line has so many bytes
 counting : (c : tie.After-clause-end Inv-loop μ-loop)
@@ -129,7 +129,7 @@ whole c =
 add-bytes : tie.Need-add-bytes Inv-loop μ-loop
 add-bytes c =
     let s = c .before .before .before in
-    omega (arith, whole c, text-counts (s .args .v) (s .args .list .now) (s .pre))
+    omega (arith, whole c, text-length-fits (s .args .v) (s .args .list .now) (s .pre))
 
 returns : tie.Need-returns Inv-loop μ-loop
 returns c = (counted-all (c .before .before .loop .inv) (c .before .loop-test .left) .0, whole c)
