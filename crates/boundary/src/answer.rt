@@ -16,7 +16,7 @@ pub struct CountAnswer {
     pub words: usize,
 }
 
-// The bytes of a clause text: those that it needs, or those written.
+// The bytes that a clause text has, which are those written; 0 under a refusal.
 #[repr(C)]
 pub struct TextAnswer {
     pub refusal: u32,
