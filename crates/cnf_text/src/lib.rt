@@ -27,6 +27,7 @@ fn put_clauses(text: &mut [u8], list: &[i32], size: Size) -> usize
     let TextSize::Bytes(n) = sized else {
         return 0;
     };
+    // a slice of the text's length is filled, and the call answers n again
     dimacs::write(words, v, &mut text[..n]);
     n
 }

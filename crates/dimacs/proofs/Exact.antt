@@ -42,8 +42,8 @@ module _ (v : ℕ) (ws : List ℤ) (n : ℕ) (s : sizeAnswer v ws ≡ bytes n) w
     same : n ≤ length text → writeAnswer v ws text ≡ bytes n
     same h = write-bytes v ws text sized-list (omega (arith, sized-length)) ∙ ap bytes (sym sized-length)
 
-    short-alone : writeAnswer v ws text ≡ refused 13 → length text < n
-    short-alone e =
+    only-short : writeAnswer v ws text ≡ refused 13 → length text < n
+    only-short e =
         ⊎-elim
         (λ t. absurd (not-both (sym e ∙ same (leb-true n (length text) t))))
         (λ f. leb-false n (length text) f)
@@ -65,7 +65,7 @@ pub to-the-byte : ToTheByte
 to-the-byte v ws n s text = record {
   length-of-text = sized-length v ws n s;
   short = short v ws n s text;
-  short-alone = short-alone v ws n s text;
+  only-short = only-short v ws n s text;
   unchanged = unchanged v ws n s text;
   same = same v ws n s text;
   filled = filled v ws n s text;

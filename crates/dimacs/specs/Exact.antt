@@ -13,7 +13,7 @@ pub record Exact (v : ℕ) (ws : List ℤ) (n : ℕ) (text : List ℕ) : Type 0 
   pub length-of-text : n ≡ length (textOf v ws)
   -- 13 exactly where the slice is shorter, and then nothing is changed
   pub short : length text < n → writeAnswer v ws text ≡ refused 13
-  pub short-alone : writeAnswer v ws text ≡ refused 13 → length text < n
+  pub only-short : writeAnswer v ws text ≡ refused 13 → length text < n
   pub unchanged : length text < n → textAfter v ws text ≡ text
   -- else the call answers the same number, and a slice of as many bytes is filled to its last
   pub same : n ≤ length text → writeAnswer v ws text ≡ bytes n

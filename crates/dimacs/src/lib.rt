@@ -1,4 +1,4 @@
-// Clause text in the DIMACS CNF format (document 01): its size, and the text itself.
+// Clause text in the DIMACS CNF format (document 01): its length, and the text itself.
 use answer::TextSize;
 use measure::measure;
 use refusal::Refusal;
