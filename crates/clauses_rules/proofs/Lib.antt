@@ -11,6 +11,7 @@ pub mod Ranges
 pub mod Parts
 pub mod Bytes
 pub mod Match
+pub mod Order
 pub mod Accepted
 pub mod Listed
 pub mod Series

@@ -6,6 +6,7 @@ use mathlib.Core.List.{List, _++_, map}
 use Prim.Native.Nat.{ℕ, _≤_}
 use lib.ListN.{length}
 use Rattle.prelude.specs.Tests.{any}
+use Rattle.prelude.specs.Order.{NoneBefore}
 use Rattle.literal.specs.Literals.{Literal, positive}
 use Rattle.clause_list.specs.ClauseList.{isList}
 use Rattle.sheet_rules.specs.declared.Layout.{Layout}
@@ -27,6 +28,7 @@ use Rattle.clauses_rules.proofs.Build.{One}
 use Rattle.clauses_rules.proofs.Connect.{values-mean, mean-values, mean-some, right-or}
 use Rattle.clauses_rules.proofs.Walk.{Ready, right-translate, right-translate-formula}
 use Rattle.clauses_rules.proofs.Match.{reads-instance, exactly-one}
+use Rattle.clauses_rules.proofs.Order.{read-back-before}
 use Rattle.clauses_rules.proofs.Accepted.{accepted-rows}
 use Rattle.clauses_rules.proofs.Listed.{words-listed}
 
@@ -96,6 +98,13 @@ module _ (s : List ℕ) (layout : Layout) (taken : reading s ≡ accepted layout
     (λ h i p. let o = match .once i p in h (o .assignment) (o .satisfying)),
     λ h a p. h (readBack (sheetOf s) a) (match .reads a p),
   )
+
+  -- the first satisfying assignment reads back to the first instance that satisfies
+  pub first : (a : List ℕ) → Assignment (sheetOf s) a → NoneBefore (Assignment (sheetOf s)) a
+      → NoneBefore (Solution (sheetOf s)) (readBack (sheetOf s) a)
+  first a h none-before i p before =
+      let o = match .once i p in
+      none-before (o .assignment) (o .satisfying) (read-back-before (sheetOf s) (o .assignment) a (o .satisfying) h (rw (o .reads) before))
 
   -- `listed`: the search takes the clauses as they are written, where they fit the limits
   pub listed : variableTotal (sheetOf s) ≤ 16000 → wordTotal (sheetOf s) ≤ 2147483647

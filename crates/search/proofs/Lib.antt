@@ -2,10 +2,12 @@ pub mod Theorems
 pub mod Cases
 pub mod ResumedCases
 pub mod Outcomes
+mod FoundRuns
 pub mod Resumptions
 pub mod ResumedCalls
 pub mod Resuming
 pub mod ResumedTheorems
+pub mod First
 pub mod Counters
 pub mod MoreSteps
 pub mod OpenSlices

@@ -2,22 +2,23 @@
 use mathlib.Core.Path.{_≡_, sym, _∙_, ap}
 use mathlib.Core.Bool.{true, false}
 use mathlib.Core.Logic.{⊎-elim, _↔_}
-use mathlib.Core.List.{List, [], _++_}
+use mathlib.Core.List.{List, []}
 use mathlib.Core.Option.{some}
 use Prim.Native.Nat.{ℕ, _+_, _≤_}
 use native.Mathlib.Omega.{arith}
 use lib.IntN.{ℤ}
-use lib.ListN.{length, take, drop}
+use lib.ListN.{length, take}
+use Rattle.prelude.specs.Order.{NoneBefore}
 use Rattle.clause_list.specs.ClauseList.{clausesOf, isList, Satisfying}
 use Rattle.search_rules.specs.declared.Steps.{Steps}
 use Rattle.search_rules.specs.declared.Position.{Position}
 use Rattle.search_rules.specs.Run.{End, after, EndedWithin}
 use Rattle.search_rules.specs.Held.{stepsOf}
-use Rattle.search_rules.proofs.Ranges.{fine-list, ranged}
 use Rattle.search_rules.proofs.Theorems as rules
-use Rattle.search.specs.Answers.{Answer, found, none, spent, refused, answerAt, valuesAt}
+use Rattle.search.specs.Answers.{Answer, found, none, spent, refused, answerAt}
 use Rattle.search.specs.Resumed.{Resumption, startOf, declinesState, resumedRun, resumption}
-use Rattle.search.proofs.Outcomes.{was-none, was-found, was-spent, was-taken, found-values}
+use Rattle.search.proofs.Outcomes.{was-none, was-spent, was-taken}
+use Rattle.search.proofs.FoundRuns.{satisfies, first}
 use Rattle.search.proofs.Resumptions.{takes}
 use Rattle.search.proofs.ResumedCalls.{Runs, called}
 
@@ -43,15 +44,18 @@ module _ (list : List ℤ) (v : ℕ) (values : List ℕ) (trail : List ℤ) (p :
 
   -- "found", from any state, only with values, each 0 or 1, that satisfy every clause
   pub found-satisfies : (steps : Steps) → call .outcome .answer ≡ found steps → Satisfying v (clausesOf list) (take v (call .outcome .values))
-  unfolding valuesAt
   found-satisfies steps e =
-      let c = answered (found steps) (λ n d. let z : _≡_ {A = ℕ} 0 1 = cc in omega arith) e in
-      let w = was-found ending steps (c .1) in
-      let q : call .outcome .values ≡ valuesAt v ending ++ drop v values =
-      ap (λ o. o .outcome .values) (c .0 .ends) in
-      rw (q, w .1, found-values v (w .0) values)
-      (rules.found-satisfies (clausesOf list) v (ranged v list (fine-list v list (c .0 .is-list))) budget (stepsOf p) steps
-      (startOf v values trail p) (w .0) (w .1))
+      let c = answered (found steps) (λ n d. let z : _≡_ {A = ℕ} 0 1 = cc in omega arith) e .0 in
+      satisfies list v budget (stepsOf p) (startOf v values trail p) values trail (c .is-list) (call .outcome) (ap (λ o. o .outcome) (c .ends))
+      steps e
+
+  -- and, where the state is reached from a fresh start, with the first such values
+  pub found-first : (k : ℕ) (steps : Steps) → after (clausesOf list) v k [] ≡ some (startOf v values trail p)
+      → call .outcome .answer ≡ found steps → NoneBefore (Satisfying v (clausesOf list)) (take v (call .outcome .values))
+  found-first k steps r e =
+      let c = answered (found steps) (λ n d. let z : _≡_ {A = ℕ} 0 1 = cc in omega arith) e .0 in
+      first list v budget (stepsOf p) (startOf v values trail p) values trail (c .is-list) (call .outcome) (ap (λ o. o .outcome) (c .ends))
+      steps e k r
 
   -- a call over a list, with room, that 14 does not decline
   module _ (is : isList v list ≡ true) (wide : v ≤ length values) (deep : v ≤ length trail)

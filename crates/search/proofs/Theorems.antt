@@ -3,7 +3,7 @@
 use mathlib.Core.Path.{_≡_, refl, sym, _∙_, ap}
 use mathlib.Core.Bool.{Bool, true, false}
 use mathlib.Core.Logic.{_⊎_, inl, inr, ⊎-elim, _↔_}
-use mathlib.Core.List.{List, [], _++_, map}
+use mathlib.Core.List.{List, [], _++_}
 use mathlib.Core.Option.{some}
 use Prim.Native.Nat.{ℕ, _≤_}
 use native.Mathlib.Omega.{arith}
@@ -12,15 +12,16 @@ use lib.Dec.{leb}
 use lib.IntN.{ℤ}
 use lib.ListN.{length, take, drop}
 use borrow.Author.Tests.{leb-true, leb-false}
+use Rattle.prelude.specs.Order.{NoneBefore}
 use Rattle.clause_list.specs.ClauseList.{clausesOf, isList, Satisfying}
 use Rattle.search_rules.specs.declared.Steps.{Steps}
-use Rattle.search_rules.specs.Rules.{State, valuesOf, trailOf, settle}
+use Rattle.search_rules.specs.Rules.{State, valuesOf, trailOf}
 use Rattle.search_rules.specs.Run.{zeros, total, after, EndedWithin}
-use Rattle.search_rules.proofs.Ranges.{fine-list, ranged}
 use Rattle.search_rules.proofs.Theorems as rules
 use Rattle.search.specs.Answers.{Answer, found, none, spent, refused, answerAt, valuesAt, trailAt, Outcome, refuse, finish}
 use Rattle.search.specs.Answers.{searchRun, outcome}
-use Rattle.search.proofs.Outcomes.{no-list, short-values, short-trail, runs, was-none, was-found, was-spent, found-values}
+use Rattle.search.proofs.Outcomes.{no-list, short-values, short-trail, runs, was-none, was-spent}
+use Rattle.search.proofs.FoundRuns.{satisfies, first}
 
 module _ (list : List ℤ) (v : ℕ) (values : List ℕ) (trail : List ℤ) (budget : ℕ) where
   abbrev call : Outcome
@@ -57,14 +58,16 @@ module _ (list : List ℤ) (v : ℕ) (values : List ℕ) (trail : List ℤ) (bud
 
   -- "found" only with values, each 0 or 1, that satisfy every clause
   pub found-satisfies : (steps : Steps) → call .answer ≡ found steps → Satisfying v (clausesOf list) (take v (call .values))
-  unfolding valuesAt
   found-satisfies steps e =
       let r = answered (found steps) (λ n d. let z : _≡_ {A = ℕ} 0 1 = cc in omega arith) e in
-      let w = was-found (searchRun list v budget) steps (r .1) in
-      let s = rules.found-satisfies (clausesOf list) v (ranged v list (fine-list v list (r .0 .is-list))) budget zeros steps [] (w .0) (w .1) in
-      let q : call .values ≡ map settle (valuesOf v (w .0)) ++ drop v values =
-      ap (λ o. o .values) (r .0 .ends) ∙ ap (λ x. valuesAt v x ++ drop v values) (w .1) in
-      rw (q, found-values v (w .0) values) s
+      satisfies list v budget zeros [] values trail (r .0 .is-list) call (r .0 .ends) steps e
+
+  -- and with the first such values
+  pub found-first : (steps : Steps) → call .answer ≡ found steps → NoneBefore (Satisfying v (clausesOf list)) (take v (call .values))
+  unfolding after
+  found-first steps e =
+      let r = answered (found steps) (λ n d. let z : _≡_ {A = ℕ} 0 1 = cc in omega arith) e in
+      first list v budget zeros [] values trail (r .0 .is-list) call (r .0 .ends) steps e 0 refl
 
   -- "spent", of a call that is not refused, exactly when no end is reached after at most the budget's steps
   pub spent-exactly : isList v list ≡ true → v ≤ length values → v ≤ length trail

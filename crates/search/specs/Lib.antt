@@ -2,4 +2,5 @@
 pub mod Answers
 pub mod Resumed
 pub mod Resuming
+pub mod First
 pub mod Inner

@@ -36,7 +36,7 @@ module _ (v : ℕ) where
         rw e (let o = first-unit-open v (valuesOf v state) l clauses ranged u in (o .0, o .1, h))
     step-stays state x (decides e c u low) h = rw e ((omega arith, let w = low .within in omega (arith, length-values v state)), low .is-open, h)
 
-    open-keeps : (state : State) (kind : Kind) (s : State) → WasOpen v state → next clauses v state ≡ step kind s → WasOpen v s
+    pub open-keeps : (state : State) (kind : Kind) (s : State) → WasOpen v state → next clauses v state ≡ step kind s → WasOpen v s
     open-keeps state kind s h e = rw e at (step-stays state (next clauses v state) (view clauses v state) h)
 
     -- the state that a spent run leaves is one

@@ -69,6 +69,10 @@ small-at [] i h = omega arith
 small-at (b ∷ values) zero h = h .0
 small-at (b ∷ values) (suc i) h = small-at values i (h .1)
 
+-- the byte of each variable
+pub byte-at : (v : ℕ) (state : State) (i : ℕ) → getD (valuesOf v state) i 2 ≤ 3
+byte-at v state i = small-at (valuesOf v state) i (bytes v state)
+
 settle-true : (b : ℕ) → truthOf b ≡ satisfied → settle b ≡ 1
 unfolding truthOf
 settle-true zero e = cc
@@ -76,7 +80,7 @@ settle-true (suc zero) e = refl
 settle-true (suc (suc zero)) e = cc
 settle-true (suc (suc (suc b))) e = cc
 
-settle-false : (b : ℕ) → b ≤ 3 → negated (truthOf b) ≡ satisfied → settle b ≡ 0
+pub settle-false : (b : ℕ) → b ≤ 3 → negated (truthOf b) ≡ satisfied → settle b ≡ 0
 unfolding truthOf negated
 settle-false zero h e = refl
 settle-false (suc zero) h e = cc
@@ -118,17 +122,27 @@ module _ (v : ℕ) (values : List ℕ) (size : length values ≡ v) (small : Byt
       let b = or-false _ _ e in
       rw (clause-holds clause (h .0) (b .0)) (clauses-hold clauses (h .1) (unfold conflict in b .1))
 
-module _ (clauses : List (List ℤ)) (v : ℕ) (ranged : Ranged v clauses) where
-  found-step : (state : State) (x : Next) → Step clauses v state x → x ≡ endFound → Satisfying v clauses (map settle (valuesOf v state))
+module _ (clauses : List (List ℤ)) (v : ℕ) where
+  -- the rules end so where no clause is false and all variables are set
+  abbrev Ended : State → Type 0
+  Ended state = (conflict (valuesOf v state) clauses ≡ false) × Full (valuesOf v state)
+
+  found-step : (state : State) (x : Next) → Step clauses v state x → x ≡ endFound → Ended state
   found-step state x (ends-none d c t) e = absurd (let z : _≡_ {A = ℕ} 0 1 = cc in omega arith)
-  found-step state x (ends-found d c u f) e = record {
-    size = length-map (valuesOf v state) settle ∙ length-values v state;
-    bits = bits (valuesOf v state) (bytes v state) f;
-    holds = clauses-hold v (valuesOf v state) (length-values v state) (bytes v state) f clauses ranged c;
-  }
+  found-step state x (ends-found d c u f) e = (c, f)
   found-step state x (backtracks d c t) e = absurd (let z : _≡_ {A = ℕ} 0 1 = cc in omega arith)
   found-step state x (propagates d c u) e = absurd (let z : _≡_ {A = ℕ} 0 1 = cc in omega arith)
   found-step state x (decides d c u l) e = absurd (let z : _≡_ {A = ℕ} 0 1 = cc in omega arith)
 
-  pub found-satisfying : (state : State) → next clauses v state ≡ endFound → Satisfying v clauses (map settle (valuesOf v state))
-  found-satisfying state e = found-step state (next clauses v state) (view clauses v state) e
+  pub found-ended : (state : State) → next clauses v state ≡ endFound → Ended state
+  found-ended state e = found-step state (next clauses v state) (view clauses v state) e
+
+  pub found-satisfying : Ranged v clauses → (state : State) → next clauses v state ≡ endFound
+      → Satisfying v clauses (map settle (valuesOf v state))
+  found-satisfying ranged state e =
+      let p = found-ended state e in
+      record {
+        size = length-map (valuesOf v state) settle ∙ length-values v state;
+        bits = bits (valuesOf v state) (bytes v state) (p .1);
+        holds = clauses-hold v (valuesOf v state) (length-values v state) (bytes v state) (p .1) clauses ranged (p .0);
+      }

@@ -5,8 +5,9 @@ pub mod StepView
 pub mod Invariant
 pub mod Found
 pub mod Reached
-pub mod Theorems
 pub mod Again
+pub mod First
+pub mod Theorems
 pub mod Counting
 pub mod Trails
 mod Conditions

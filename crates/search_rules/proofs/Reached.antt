@@ -38,6 +38,19 @@ module _ (clauses : List (List ℤ)) (v : ℕ) where
   after-end (suc n) state s (inl h) e = absurd (let d : none ≡ some s = rw (h, after) at e in let z : _≡_ {A = ℕ} 0 1 = cc in omega arith)
   after-end (suc n) state s (inr h) e = absurd (let d : none ≡ some s = rw (h, after) at e in let z : _≡_ {A = ℕ} 0 1 = cc in omega arith)
 
+  -- what every step keeps is kept by any number of them
+  module _ (P : State → Type 0) (keep : (state : State) (kind : Kind) (s : State) → P state → next clauses v state ≡ step kind s → P s) where
+    pub after-keeps : (n : ℕ) (start state : State) → P start → after clauses v n start ≡ some state → P state
+    unfolding after
+    after-keeps zero start state p e = let q : start ≡ state = cc in rw q at p
+    after-keeps (suc n) start state p e = by (next clauses v start) refl (λ s. after-keeps n s state) e
+      where
+        by : (x : Next) → next clauses v start ≡ x → ((s : State) → P s → after clauses v n s ≡ some state → P state)
+            → elim x as (λ _. Option State) [ endNone ↦ none | endFound ↦ none | step kind s ↦ after clauses v n s ] ≡ some state → P state
+        by endNone d on e = absurd (let z : _≡_ {A = ℕ} 0 1 = cc in omega arith)
+        by endFound d on e = absurd (let z : _≡_ {A = ℕ} 0 1 = cc in omega arith)
+        by (step kind s) d on e = on s (keep start kind s p d) e
+
   -- so many steps from the start, all counted
   pub record Reached (t₀ : Steps) (start : State) (t : Steps) (state : State) : Type 0 where
     pub done : ℕ
@@ -61,6 +74,11 @@ module _ (clauses : List (List ℤ)) (v : ℕ) where
       → Ends (λ t' s. Reached t start t' s) clauses v (total t + n) end
   reached-ends n t start end e =
       run-ends clauses v (λ t' s. Reached t start t' s) (reached-step t start) n t start end (reached-start t start) e
+
+  -- and by the steps from a state that led to its start
+  pub reached-from : (k : ℕ) (first start : State) {t t' : Steps} {s : State} → after clauses v k first ≡ some start → (r : Reached t start t' s)
+      → after clauses v (k + r .done) first ≡ some s
+  reached-from k first start e r = after-add k (r .done) first start e ∙ r .is-after
 
   pub ended-none : (n : ℕ) (t t' : Steps) (start : State) → run clauses v n t start ≡ wasNone t' → EndedWithin clauses v n start
   unfolding Ends

@@ -1,4 +1,4 @@
--- What the answers of a search mean: none-unsatisfiable, found-satisfies, spent-exactly and resume.
+-- What the answers of a search mean: none-unsatisfiable, found-satisfies, found-first, spent-exactly and resume.
 -- Each is stated over a run of the rules first, and then, as far as it speaks of a call, over the outcome that `search` ensures.
 use mathlib.Core.Path.{_≡_, refl}
 use mathlib.Core.Logic.{⊎-elim, _↔_}
@@ -8,6 +8,7 @@ use Prim.Native.Nat.{ℕ, zero, suc, _+_}
 use native.Mathlib.Omega.{arith}
 use native.Mathlib.Nat.{zero-add, suc-add}
 use lib.IntN.{ℤ}
+use Rattle.prelude.specs.Order.{NoneBefore}
 use Rattle.clause_list.specs.ClauseList.{Satisfying}
 use Rattle.search_rules.specs.declared.Steps.{Steps}
 use Rattle.search_rules.specs.Rules.{State, Kind, Next, endNone, endFound, step, valuesOf, next}
@@ -18,34 +19,21 @@ use Rattle.search_rules.proofs.Ranges.{Ranged}
 use Rattle.search_rules.proofs.StepView.{Ends, run-ends}
 use Rattle.search_rules.proofs.Invariant.{follows-keeps, follows-not-none}
 use Rattle.search_rules.proofs.Found.{found-satisfying}
-use Rattle.search_rules.proofs.Reached.{spending, spent-not-ended, ended-or-spent}
+use Rattle.search_rules.proofs.First.{none-before}
+use Rattle.search_rules.proofs.Reached.{after-keeps, reached-ends, reached-from, spending, spent-not-ended, ended-or-spent}
 
 module _ (clauses : List (List ℤ)) (v : ℕ) where
-  -- the rules' steps keep what every satisfying assignment has
-  follows-after : (a : List ℕ) → Satisfying v clauses a → (n : ℕ) (start state : State) → Follows (assignment a) start
-      → after clauses v n start ≡ some state → Follows (assignment a) state
-  unfolding after
-  follows-after a s zero start state f e = let q : start ≡ state = cc in rw q at f
-  follows-after a s (suc n) start state f e = by (next clauses v start) refl (λ s' g. follows-after a s n s' state g) e
-    where
-      by : (x : Next) → next clauses v start ≡ x
-          → ((s' : State) → Follows (assignment a) s' → after clauses v n s' ≡ some state → Follows (assignment a) state)
-          → elim x as (λ _. Option State) [ endNone ↦ none | endFound ↦ none | step kind s' ↦ after clauses v n s' ] ≡ some state
-          → Follows (assignment a) state
-      by endNone d on e = absurd (let z : _≡_ {A = ℕ} 0 1 = cc in omega arith)
-      by endFound d on e = absurd (let z : _≡_ {A = ℕ} 0 1 = cc in omega arith)
-      by (step kind s') d on e = on s' (follows-keeps clauses v (assignment a) (model-of a clauses (s .holds)) start kind s' f d) e
-
   -- "none" from a state that the rules reach from a fresh start only if no assignment satisfies all clauses
   pub none-reached : (k budget : ℕ) (t t' : Steps) (state : State) → after clauses v k [] ≡ some state
       → run clauses v budget t state ≡ wasNone t' → (a : List ℕ) → Satisfying v clauses a → ⊥
   unfolding Ends Follows
   none-reached k budget t t' state r e a s =
       let m = model-of a clauses (s .holds) in
-      let p = run-ends clauses v (λ t state. Follows (assignment a) state)
-      (λ t state kind s f d. follows-keeps clauses v (assignment a) m state kind s f d) budget t state (wasNone t')
-      (follows-after a s k [] state tt r) e in
-      follows-not-none clauses v (assignment a) m (p .0) (p .1) (p .2)
+      let p = reached-ends clauses v budget t state (wasNone t') e in
+      follows-not-none clauses v (assignment a) m (p .0)
+      (after-keeps clauses v (Follows (assignment a)) (follows-keeps clauses v (assignment a) m) (k + p .1 .done) [] (p .0) tt
+      (reached-from clauses v k [] state r (p .1)))
+      (p .2)
 
   -- and so from a fresh start
   pub none-unsatisfiable : (budget : ℕ) (t : Steps) → run clauses v budget zeros [] ≡ wasNone t → (a : List ℕ) → Satisfying v clauses a → ⊥
@@ -59,6 +47,14 @@ module _ (clauses : List (List ℤ)) (v : ℕ) where
   found-satisfies r budget t t' state s e =
       let p = run-ends clauses v (λ t state. Unit {0}) (λ t state kind s f d. tt) budget t state (wasFound t' s) tt e in
       found-satisfying clauses v r s (p .1)
+
+  -- "found", from a state that the rules reach from a fresh start, with the first of all assignments that satisfy every clause
+  pub found-first : Ranged v clauses → (k budget : ℕ) (t t' : Steps) (state s : State) → after clauses v k [] ≡ some state
+      → run clauses v budget t state ≡ wasFound t' s → NoneBefore (Satisfying v clauses) (map settle (valuesOf v s))
+  unfolding Ends
+  found-first ranged k budget t t' state s r e =
+      let p = reached-ends clauses v budget t state (wasFound t' s) e in
+      none-before clauses v ranged (k + p .0 .done) s (reached-from clauses v k [] state r (p .0)) (p .1)
 
   -- "spent" exactly when no end is reached after at most n steps
   pub spent-exactly : (n : ℕ) (t : Steps) (start : State)

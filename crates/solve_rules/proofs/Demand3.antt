@@ -5,22 +5,24 @@ use mathlib.Core.List.{List, _++_}
 use Prim.Native.Nat.{ℕ}
 use lib.IntN.{ℤ}
 use lib.ListN.{take, drop}
+use Rattle.prelude.specs.Order.{NoneBefore}
 use Rattle.clause_list.specs.ClauseList.{clausesOf, isList, Satisfying}
 use Rattle.sheet_rules.specs.Blocks.{sheetOf}
 use Rattle.relational.specs.Cells.{cellCount}
 use Rattle.clauses_rules.specs.Whole.{words, variableTotal, clauseTotal, wordTotal, readBack}
 use Rattle.clauses_rules.specs.Matching.{Solution}
-use Rattle.clauses_rules.proofs.Theorems.{match, none, listed}
+use Rattle.clauses_rules.proofs.Theorems.{match, none, first, listed}
 use Rattle.search_rules.specs.declared.Steps.{Steps}
 use Rattle.search_rules.specs.declared.Position.{Position}
 use Rattle.search.specs.Answers.{found, searchRun}
 use Rattle.search.proofs.Outcomes.{runs, was-taken}
-use Rattle.search.proofs.Theorems.{none-unsatisfiable, found-satisfies, spent-exactly}
+use Rattle.search.proofs.Theorems.{none-unsatisfiable, found-satisfies, found-first, spent-exactly}
 use Rattle.search.proofs.ResumedTheorems as again
 use Rattle.solve_rules.specs.Answers.{instanceAfter}
 use Rattle.solve_rules.specs.Finding.{Slices}
+use Rattle.solve_rules.specs.Smallest.{Smallest}
 use Rattle.solve_rules.specs.Demand3 as d
-use Rattle.solve_rules.specs.Demand3.{FitsLimits, FitSlices, ReadsBack, ReadsSolution, ReadBackOnce, Answered}
+use Rattle.solve_rules.specs.Demand3.{FitsLimits, FitSlices, ReadsBack, ReadsSolution, ReadsSmallest, ReadBackOnce, Answered}
 use Rattle.solve_rules.specs.Demand3.{ResumedAnswered, Demanded, Demand3}
 use Rattle.solve_rules.proofs.Calls.{counts, writes, writes-words, reads-back, instance-after, same-instance}
 
@@ -54,6 +56,13 @@ module _ (s : List ℕ) (lent : Slices) (h : FitsLimits s) (k : FitSlices s lent
   reads : (a : List ℕ) → Satisfying v (clausesOf written) a → ReadsSolution s a (lent .instance)
   reads a p = record { instance = readBack (sheetOf s) a; reads = back a p; solves = solves a p }
 
+  -- what is read back from the first satisfying assignment is the smallest
+  smallest : (a : List ℕ) → Satisfying v (clausesOf written) a → NoneBefore (Satisfying v (clausesOf written)) a
+      → ReadsSmallest s a (lent .instance)
+  smallest a p none-before instance r =
+      subst (λ (i : List ℕ). Smallest (sheetOf s) i) (same-instance s a (lent .instance) _ _ (back a p) r)
+      (first s (h .layout) (h .accepted) a (of-sheet p) (λ b q. none-before b (as-written q)))
+
   once : (instance : List ℕ) → Solution (sheetOf s) instance → ReadBackOnce s lent v w instance
   once instance p =
       let o = match s (h .layout) (h .accepted) .once instance p in
@@ -76,6 +85,9 @@ module _ (s : List ℕ) (lent : Slices) (h : FitsLimits s) (k : FitSlices s lent
         none-only = λ steps e. none s (h .layout) (h .accepted) .0
             λ a p. none-unsatisfiable written v (lent .values) (lent .trail) n steps e a (as-written p);
         found-only = λ steps e. reads _ (found-satisfies written v (lent .values) (lent .trail) n steps e);
+        found-first = λ steps e.
+            smallest _ (found-satisfies written v (lent .values) (lent .trail) n steps e)
+            (found-first written v (lent .values) (lent .trail) n steps e);
         spent-exactly = spent-exactly written v (lent .values) (lent .trail) n is-list (k .values) (k .trail);
       }
 
@@ -85,6 +97,9 @@ module _ (s : List ℕ) (lent : Slices) (h : FitsLimits s) (k : FitSlices s lent
         none-only = λ g steps e. none s (h .layout) (h .accepted) .0
             λ a q. again.none-unsatisfiable written v (lent .values) (lent .trail) p n (g .steps) steps (g .reached) e a (as-written q);
         found-only = λ steps e. reads _ (again.found-satisfies written v (lent .values) (lent .trail) p n steps e);
+        found-first = λ g steps e.
+            smallest _ (again.found-satisfies written v (lent .values) (lent .trail) p n steps e)
+            (again.found-first written v (lent .values) (lent .trail) p n (g .steps) steps (g .reached) e);
         taken = again.not-refused written v (lent .values) (lent .trail) p n is-list (k .values) (k .trail);
         spent-exactly = again.spent-exactly written v (lent .values) (lent .trail) p n is-list (k .values) (k .trail);
       }

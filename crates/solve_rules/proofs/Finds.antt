@@ -54,6 +54,7 @@ module _ (s : List ℕ) (lent : Slices) (budget : ℕ) where
         record {
           instance = r .instance;
           solves = r .solves;
+          smallest = answered s lent h k budget .found-first steps e (r .instance) (r .reads);
           stands = ap (λ a. instanceFor a s (take v (call .values)) (lent .instance)) e ∙ r .reads .copies;
         }
 

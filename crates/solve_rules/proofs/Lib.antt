@@ -1,4 +1,5 @@
 pub mod Calls
+pub mod Smallest
 pub mod Demand3
 pub mod Findings
 pub mod MoreSteps

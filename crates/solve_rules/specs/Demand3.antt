@@ -1,5 +1,5 @@
 -- Demand 3, undivided: what the answers of counting, writing, search and read-back of a sheet say of its instances
--- (document 01, "The words of demand 3"; for resumed calls document 02, Change 1). proofs/Demand3.antt shows it for every sheet that
+-- (document 01, "The words of demand 3"; for resumed calls document 02, Change 1; for the smallest case Change 5). proofs/Demand3.antt shows it for every sheet that
 -- fits the limits, in slices that fit.
 --
 -- The statement speaks of definitions. The contract that ties each one to the code, for every input and with no `requires`:
@@ -36,6 +36,7 @@ use Rattle.search.specs.Answers.{Outcome, found, none, spent, refused, outcome}
 use Rattle.search.specs.Resumed.{startOf, declinesState, resumption}
 use Rattle.solve_rules.specs.Answers.{copied, readBackAnswer, instanceAfter}
 use Rattle.solve_rules.specs.Finding.{Slices}
+use Rattle.solve_rules.specs.Smallest.{Smallest}
 
 -- "A sheet is accepted when none of 1 to 9 below applies to it. Its clauses fit the limits when neither 10 nor the word limit in 12 applies"
 pub record FitsLimits (s : List ℕ) : Type 0 where
@@ -61,6 +62,10 @@ pub record ReadsSolution (s values lent : List ℕ) : Type 0 where
   pub instance : List ℕ
   pub reads : ReadsBack s values lent instance
   pub solves : Solution (sheetOf s) instance
+
+-- no instance within the scopes that satisfies marks and formula comes before the one that read-back answers with these values
+abbrev pub ReadsSmallest : (s values lent : List ℕ) → Type 0
+ReadsSmallest s values lent = (instance : List ℕ) → ReadsBack s values lent instance → Smallest (sheetOf s) instance
 
 -- the calls on a sheet of which counting answers v variables and w words
 module _ (s : List ℕ) (lent : Slices) (v w : ℕ) where
@@ -91,6 +96,8 @@ module _ (s : List ℕ) (lent : Slices) (v w : ℕ) where
     pub none-only : (steps : Steps) → searched n .answer ≡ none steps → (instance : List ℕ) → Solution (sheetOf s) instance → ⊥
     -- "found" only with values that read back to one
     pub found-only : (steps : Steps) → searched n .answer ≡ found steps → ReadsSolution s (take v (searched n .values)) (lent .instance)
+    -- "Whenever the finder prints a case, no instance that satisfies marks and formula comes earlier in that order."
+    pub found-first : (steps : Steps) → searched n .answer ≡ found steps → ReadsSmallest s (take v (searched n .values)) (lent .instance)
     -- "spent" exactly when the step rules have not ended within n steps from the call's start, all open
     pub spent-exactly : ((steps : Steps) × (searched n .answer ≡ spent steps)) ↔ (EndedWithin (clausesOf written) v n [] → ⊥)
 
@@ -113,6 +120,9 @@ module _ (s : List ℕ) (lent : Slices) (v w : ℕ) where
     pub none-only : GoesBack p → (steps : Steps) → resumed p n .answer ≡ none steps → (instance : List ℕ) → Solution (sheetOf s) instance → ⊥
     -- "found" only with values that read back to one, from any state
     pub found-only : (steps : Steps) → resumed p n .answer ≡ found steps → ReadsSolution s (take v (resumed p n .values)) (lent .instance)
+    -- and no such instance comes before that one, where the run goes back to a fresh start
+    pub found-first : GoesBack p → (steps : Steps) → resumed p n .answer ≡ found steps
+        → ReadsSmallest s (take v (resumed p n .values)) (lent .instance)
     -- where 14 does not decline it is no refusal, and
     pub taken : declinesState v (lent .values) (lent .trail) p n ≡ false → (number : ℕ) → resumed p n .answer ≡ refused number → ⊥
     -- "spent" exactly when the step rules have not ended within n steps from the state the call starts in

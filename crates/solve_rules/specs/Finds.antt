@@ -13,12 +13,15 @@ use Rattle.search_rules.specs.declared.Steps.{Steps}
 use Rattle.search_rules.specs.Run.{EndedWithin}
 use Rattle.search.specs.Answers.{Answer, found, none, spent, refused}
 use Rattle.solve_rules.specs.Finding.{Slices}
+use Rattle.solve_rules.specs.Smallest.{Smallest}
 use Rattle.solve_rules.specs.Demand3.{FitsLimits, FitSlices}
 
--- an instance within the scopes that satisfies marks and formula stands in front of the slice; what was lent after it is unchanged
+-- an instance within the scopes that satisfies marks and formula stands in front of the slice, and none that does comes before it
+-- (document 02, Change 5); what was lent after it is unchanged
 pub record Holds (sheet : Sheet) (lent left : List ℕ) : Type 0 where
   pub instance : List ℕ
   pub solves : Solution sheet instance
+  pub smallest : Smallest sheet instance
   pub stands : left ≡ instance ++ drop (length instance) lent
 
 -- the clauses fit the limits and the lent slices, and the step rules have not ended within the budget
@@ -28,7 +31,7 @@ pub record NotEnded (s : List ℕ) (lent : Slices) (budget : ℕ) : Type 0 where
   pub runs : EndedWithin (clausesOf (words (sheetOf s))) (variableTotal (sheetOf s)) budget [] → ⊥
 
 pub record Finds (s : List ℕ) (lent : Slices) (budget : ℕ) (answer : Answer) (left : Slices) : Type 0 where
-  -- "found" only with an instance in the lent slice that satisfies marks and formula
+  -- "found" only with an instance in the lent slice that satisfies marks and formula, the smallest
   pub found-only : (steps : Steps) → answer ≡ found steps → Holds (sheetOf s) (lent .instance) (left .instance)
   -- "none" only if no instance within the scopes satisfies them
   pub none-only : (steps : Steps) → answer ≡ none steps → (instance : List ℕ) → Solution (sheetOf s) instance → ⊥

@@ -1,0 +1,81 @@
+-- Laws of the order of specs/Order.
+use mathlib.Core.Path.{_≡_, refl, sym, _∙_}
+use mathlib.Core.Bool.{true}
+use mathlib.Core.List.{List, [], _∷_}
+use mathlib.Core.Logic.{_⊎_, inl, inr, ⊎-elim}
+use Prim.Native.Nat.{ℕ, zero, suc, _<_}
+use native.Mathlib.Omega.{arith}
+use lib.Dec.{leb}
+use lib.ListN.{length, getD, take}
+use borrow.Author.Tests.{leb-true}
+use Rattle.prelude.specs.Tests.{all}
+use Rattle.prelude.specs.Order.{Before}
+use Rattle.prelude.proofs.Laws.{and-left, and-right}
+
+pub before-irreflexive : (xs : List ℕ) → Before xs xs → ⊥
+unfolding Before
+before-irreflexive [] h = h
+before-irreflexive (x ∷ xs) h = ⊎-elim (λ d. let p = d .0 in let q = d .1 in omega arith) (λ d. before-irreflexive xs (d .1)) h
+
+pub before-transitive : (xs ys zs : List ℕ) → Before xs ys → Before ys zs → Before xs zs
+unfolding Before
+before-transitive [] ys zs h k = absurd h
+before-transitive (x ∷ xs) [] zs h k = absurd h
+before-transitive (x ∷ xs) (y ∷ ys) [] h k = absurd k
+before-transitive (x ∷ xs) (y ∷ ys) (z ∷ zs) h k =
+    ⊎-elim
+    (λ d. ⊎-elim (λ e. let p = d .1 in let q = e .0 in absurd (omega arith)) (λ e. inl (d .0, sym (e .0) ∙ d .1)) k)
+    (λ d. ⊎-elim (λ e. inl (d .0 ∙ e .0, e .1)) (λ e. inr (d .0 ∙ e .0, before-transitive xs ys zs (d .1) (e .1))) k)
+    h
+
+-- ---- of any two lists of bits of one length
+bit-cases : (b : ℕ) → leb b 1 ≡ true → (b ≡ 0) ⊎ (b ≡ 1)
+bit-cases zero h = inl refl
+bit-cases (suc zero) h = inr refl
+bit-cases (suc (suc b)) h = absurd (omega (arith, leb-true (suc (suc b)) 1 h))
+
+module _ (x y : ℕ) (xs ys : List ℕ) (rest : (Before xs ys) ⊎ ((xs ≡ ys) ⊎ (Before ys xs))) where
+  abbrev Compared : Type 0
+  Compared = (Before (x ∷ xs) (y ∷ ys)) ⊎ ((x ∷ xs ≡ y ∷ ys) ⊎ (Before (y ∷ ys) (x ∷ xs)))
+
+  first-same : x ≡ y → Compared
+  unfolding Before
+  first-same e =
+      ⊎-elim (λ h. inl (inr (e, h))) (⊎-elim (λ d. inr (inl (λ i. e i ∷ d i))) (λ h. inr (inr (inr (sym e, h))))) rest
+
+  first-bits : (x ≡ 0) ⊎ (x ≡ 1) → (y ≡ 0) ⊎ (y ≡ 1) → Compared
+  unfolding Before
+  first-bits (inl d) (inl e) = first-same (d ∙ sym e)
+  first-bits (inl d) (inr e) = inl (inl (d, e))
+  first-bits (inr d) (inl e) = inr (inr (inl (e, d)))
+  first-bits (inr d) (inr e) = first-same (d ∙ sym e)
+
+pub before-total : (xs ys : List ℕ) → length xs ≡ length ys → all (λ b. leb b 1) xs ≡ true → all (λ b. leb b 1) ys ≡ true
+    → (Before xs ys) ⊎ ((xs ≡ ys) ⊎ (Before ys xs))
+unfolding all
+before-total [] [] e h k = inr (inl refl)
+before-total [] (y ∷ ys) e h k = absurd (omega arith)
+before-total (x ∷ xs) [] e h k = absurd (omega arith)
+before-total (x ∷ xs) (y ∷ ys) e h k =
+    first-bits x y xs ys (before-total xs ys (omega arith) (and-right (leb x 1) _ h) (and-right (leb y 1) _ k))
+    (bit-cases x (and-left _ _ h)) (bit-cases y (and-left _ _ k))
+
+-- ---- by places
+
+-- 0 and 1 at a place below which two lists are the same
+pub before-at : (i : ℕ) (xs ys : List ℕ) → getD xs i 2 ≡ 0 → getD ys i 2 ≡ 1
+    → ((j : ℕ) → j < i → getD xs j 2 ≡ getD ys j 2) → Before xs ys
+unfolding Before
+before-at i [] ys p q same = omega arith
+before-at i (x ∷ xs) [] p q same = omega arith
+before-at zero (x ∷ xs) (y ∷ ys) p q same = inl (p, q)
+before-at (suc i) (x ∷ xs) (y ∷ ys) p q same =
+    inr (same 0 (omega arith), before-at i xs ys p q (λ j h. same (suc j) (omega arith)))
+
+-- what comes before by its front does so as a whole
+pub before-front : (n : ℕ) (xs ys : List ℕ) → Before (take n xs) (take n ys) → Before xs ys
+unfolding Before
+before-front zero xs ys h = absurd h
+before-front (suc n) [] ys h = absurd h
+before-front (suc n) (x ∷ xs) [] h = absurd h
+before-front (suc n) (x ∷ xs) (y ∷ ys) h = ⊎-elim inl (λ d. inr (d .0, before-front n xs ys (d .1))) h

@@ -1,0 +1,22 @@
+-- The order of instances and of assignments (document 02, Change 5): each is a list of bytes, one for each cell or variable.
+use mathlib.Core.Path.{_≡_}
+use mathlib.Core.Logic.{_⊎_}
+use mathlib.Core.List.{List, [], _∷_}
+use Prim.Native.Nat.{ℕ}
+
+-- "Order instances by their cells in variable order, 0 before 1": of two lists of one length, where they first differ, the one that comes
+-- before has 0 and the other 1
+unfoldable pub Before : List ℕ → List ℕ → Type 0
+Before [] ys = ⊥
+Before (x ∷ xs) [] = ⊥
+Before (x ∷ xs) (y ∷ ys) = ((x ≡ 0) × (y ≡ 1)) ⊎ ((x ≡ y) × Before xs ys)
+
+-- none of those that have a property comes before this one
+abbrev pub NoneBefore : (List ℕ → Type 0) → List ℕ → Type 0
+NoneBefore P xs = (other : List ℕ) → P other → Before other xs → ⊥
+
+-- of those that have a property: none comes before itself, the order passes on, and of any two that differ one comes before the other
+pub record StrictTotalOrder (P : List ℕ → Type 0) : Type 0 where
+  pub irreflexive : (xs : List ℕ) → P xs → Before xs xs → ⊥
+  pub transitive : (xs ys zs : List ℕ) → P xs → P ys → P zs → Before xs ys → Before ys zs → Before xs zs
+  pub total : (xs ys : List ℕ) → P xs → P ys → (Before xs ys) ⊎ ((xs ≡ ys) ⊎ (Before ys xs))

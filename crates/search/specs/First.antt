@@ -1,0 +1,25 @@
+-- What is promised of "found" over any clause list (document 02, Change 5): of the assignments that satisfy every clause, none comes before the
+-- values that are left, in variable order, 0 before 1.
+use mathlib.Core.Path.{_≡_}
+use mathlib.Core.List.{List, []}
+use mathlib.Core.Option.{some}
+use Prim.Native.Nat.{ℕ}
+use lib.IntN.{ℤ}
+use lib.ListN.{take}
+use Rattle.prelude.specs.Order.{NoneBefore}
+use Rattle.clause_list.specs.ClauseList.{clausesOf, Satisfying}
+use Rattle.search_rules.specs.declared.Steps.{Steps}
+use Rattle.search_rules.specs.declared.Position.{Position}
+use Rattle.search_rules.specs.Run.{after}
+use Rattle.search.specs.Answers.{found, outcome}
+use Rattle.search.specs.Resumed.{startOf, resumption}
+
+-- of a call from a fresh start, and of a resumed call where the rules reach its state from one, after some number of steps
+pub record FoundFirst : Type 0 where
+  pub searched : (list : List ℤ) (v : ℕ) (values : List ℕ) (trail : List ℤ) (budget : ℕ) (steps : Steps)
+      → outcome list v values trail budget .answer ≡ found steps
+      → NoneBefore (Satisfying v (clausesOf list)) (take v (outcome list v values trail budget .values))
+  pub resumed : (list : List ℤ) (v : ℕ) (values : List ℕ) (trail : List ℤ) (p : Position) (budget k : ℕ) (steps : Steps)
+      → after (clausesOf list) v k [] ≡ some (startOf v values trail p)
+      → resumption list v values trail p budget .outcome .answer ≡ found steps
+      → NoneBefore (Satisfying v (clausesOf list)) (take v (resumption list v values trail p budget .outcome .values))
