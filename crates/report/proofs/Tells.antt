@@ -23,7 +23,7 @@ use Rattle.solve_rules.specs.Finding.{Slices, finding}
 use Rattle.solve_rules.specs.Finds.{Holds, Finds}
 use Rattle.solve_rules.proofs.Finds.{finds}
 use Rattle.report.specs.Printed.{cellDigit, rowDigits, relationLine, relationLines, report, findingText}
-use Rattle.report.specs.Tells.{ShowsSolution, Tells}
+use Rattle.report.specs.Tells.{ShowsSmallest, Tells}
 use Rattle.report.proofs.Texts.{long-text, short-text}
 
 cell-inside : (sheet : Sheet) (r i j : ℕ) → r < relationCount sheet → i < rowCount sheet r → j < rowLength sheet r
@@ -54,12 +54,13 @@ solution-size : (sheet : Sheet) (instance : List ℕ) → Solution sheet instanc
 unfolding withinScopes
 solution-size sheet instance p = eqb-true (length instance) (cellCount sheet) (and-left (eqb (length instance) (cellCount sheet)) _ (p .within))
 
-shows : (sheet : Sheet) (lent left : List ℕ) (steps : Steps) → Holds sheet lent left → ShowsSolution sheet (report (found steps) sheet left)
+shows : (sheet : Sheet) (lent left : List ℕ) (steps : Steps) → Holds sheet lent left → ShowsSmallest sheet (report (found steps) sheet left)
 shows sheet lent left steps h =
     record {
       steps = total steps;
       instance = h .instance;
       solves = h .solves;
+      smallest = h .smallest;
       shows =
           ap (λ (ls : List ℕ). endLine (bytesOf "found ") (total steps) ++ ls)
           (ap (relationLines sheet) (h .stands)

@@ -41,7 +41,8 @@ report (refused n) sheet instance = endLine (bytesOf "refused ") n
 abbrev pub finderBudget : ℕ
 finderBudget = 1000000
 
--- what is printed of a finding within a budget: "An input over 4,096 bytes is printed as `refused 2` unparsed."
+-- what is printed of a finding within a budget: "An input over 4,096 bytes is printed as `refused 2` unparsed." The case printed is the smallest
+-- (document 02, Change 5): `Tells` says so of this text, and every function that prints it ensures `Tells`.
 unfoldable pub findingText : ℕ → List ℕ → Slices → List ℕ
 findingText budget input lent =
     let f = finding input lent budget in

@@ -1,4 +1,5 @@
--- What a printed text tells of the instances of the sheet that was read: demand 3, from the printed word on.
+-- What a printed text tells of the instances of the sheet that was read: demand 3, and the smallest case of document 02, Change 5, from the
+-- printed word on.
 use mathlib.Core.Path.{_≡_}
 use mathlib.Core.List.{List, _++_}
 use Prim.Native.Nat.{ℕ}
@@ -6,6 +7,7 @@ use Prim.Native.String.{String}
 use Rattle.text.specs.Texts.{bytesOf, endLine}
 use Rattle.sheet_rules.specs.Blocks.{Sheet, sheetOf}
 use Rattle.clauses_rules.specs.Matching.{Solution}
+use Rattle.solve_rules.specs.Smallest.{Smallest}
 use Rattle.report.specs.Printed.{relationLines}
 
 -- the bytes printed start with a word
@@ -13,15 +15,17 @@ pub record StartsWith (word : String) (text : List ℕ) : Type 0 where
   pub rest : List ℕ
   pub parts : bytesOf word ++ rest ≡ text
 
--- the text is the line `found N` and the digits of an instance within the scopes that satisfies marks and formula
-pub record ShowsSolution (sheet : Sheet) (text : List ℕ) : Type 0 where
+-- the text is the line `found N` and the digits of an instance within the scopes that satisfies marks and formula. "Whenever the finder prints
+-- a case, no instance that satisfies marks and formula comes earlier in that order."
+pub record ShowsSmallest (sheet : Sheet) (text : List ℕ) : Type 0 where
   pub steps : ℕ
   pub instance : List ℕ
   pub solves : Solution sheet instance
+  pub smallest : Smallest sheet instance
   pub shows : text ≡ endLine (bytesOf "found ") steps ++ relationLines sheet instance
 
 pub record Tells (input text : List ℕ) : Type 0 where
   -- "none" only if no instance within the scopes satisfies marks and formula
   pub none-only : StartsWith "none" text → (instance : List ℕ) → Solution (sheetOf input) instance → ⊥
-  -- "found" only with one that does
-  pub found-only : StartsWith "found" text → ShowsSolution (sheetOf input) text
+  -- "found" only with one that does, the smallest
+  pub found-only : StartsWith "found" text → ShowsSmallest (sheetOf input) text

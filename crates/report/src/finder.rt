@@ -64,7 +64,8 @@ pub fn put_report(text: &mut [u8], input: &[u8], ended: Search, instance: &[u8])
 }
 
 // Reads the input as a sheet, and writes what the finder prints to the front of the text: with 16,384 clause words, and room for all
-// variables and cells that there can be. `Tells` says of the bytes printed what they mean: demand 3, from the printed word on.
+// variables and cells that there can be. `Tells` says of the bytes printed what they mean, from the printed word on: demand 3, and that the
+// case printed is the smallest.
 pub fn find_text(
     input: &[u8],
     list: &mut [i32; 16384],

@@ -1,17 +1,19 @@
--- The conditions of 14 at their edges and the states that slices hold, computed by the definitions; and why "none" is promised only
--- where a run goes back to a fresh start.
+-- The conditions of 14 at their edges and the states that slices hold, computed by the definitions; and why "none", and that "found"
+-- leaves the first, is promised only where a run goes back to a fresh start.
 use mathlib.Core.Path.{_≡_, refl}
 use mathlib.Core.Bool.{Bool, true, false}
+use mathlib.Core.Logic.{inl}
 use mathlib.Core.List.{List, [], _∷_, _++_, map}
 use Prim.Native.Nat.{ℕ}
 use lib.IntN.{ℤ, pos, negsuc}
 use lib.ListN.{take}
 use Rattle.prelude.specs.Tests.{each, all, any}
+use Rattle.prelude.specs.Order.{Before}
 use Rattle.clause_list.specs.ClauseList.{cut, clausesOf, Satisfying}
 use Rattle.search_rules.specs.declared.Steps.{Steps}
 use Rattle.search_rules.specs.Rules.{truthOf, negated, literal, isFalsified, conflict, sameLiteral, State, propagated, decided}
-use Rattle.search_rules.specs.Rules.{wordOf, byteOf, placeOf, valuesOf, turn, next}
-use Rattle.search_rules.specs.Run.{tally, zeros, total, wasNone, run}
+use Rattle.search_rules.specs.Rules.{firstUnit, lowestOpen, wordOf, byteOf, placeOf, valuesOf, turn, decide, next, settle}
+use Rattle.search_rules.specs.Run.{tally, zeros, total, wasNone, wasFound, run}
 use Rattle.search_rules.specs.Held.{tooLong, strays, repeats, goesWith, contradicts, setOutside, filledOutside, noState, tooMany}
 use Rattle.search_rules.specs.Held.{entryOf, stateIn}
 
@@ -183,3 +185,11 @@ pub not-from-start : (noState 2 values trail 2 ≡ false) × (run clauses 2 0 ze
 unfolding truthOf negated literal isFalsified conflict sameLiteral wordOf byteOf placeOf valuesOf turn next run repeats goesWith noState entryOf
     stateIn each all any cut
 not-from-start = (refl, refl, record { size = refl; bits = refl; holds = refl })
+
+-- No clause, with 1 on the trail: the rules end with "found" at once, and yet an assignment comes before what is left (document 02, Change 5).
+pub not-first : (noState 1 (1 ∷ []) (pos 1 ∷ []) 1 ≡ false)
+    × (run [] 1 0 zeros (stateIn (1 ∷ []) (pos 1 ∷ []) 1) ≡ wasFound zeros (propagated (pos 1) ∷ []))
+    × Satisfying 1 [] (0 ∷ []) × Before (0 ∷ []) (map settle (valuesOf 1 (propagated (pos 1) ∷ [])))
+unfolding truthOf conflict firstUnit lowestOpen wordOf byteOf placeOf valuesOf decide next run repeats goesWith noState entryOf stateIn each all any
+    sameLiteral Before
+not-first = (refl, refl, record { size = refl; bits = refl; holds = refl }, inl (refl, refl))

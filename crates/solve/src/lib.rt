@@ -140,8 +140,9 @@ fn find_accepted(
     }
 }
 
-// From a sheet to an answer: an instance in the lent slice, or that there is none, or that the budget is spent. The answer and what it
-// leaves are those of the definition `finding`; `Finds` says in the paper's words what the answer means: demand 3 of the call.
+// From a sheet to an answer: the smallest instance in the lent slice, or that there is none, or that the budget is spent. The answer and what
+// it leaves are those of the definition `finding`; `Finds` says in the paper's words what the answer means: demand 3 of the call, and that no
+// instance which satisfies marks and formula comes before the one found.
 pub fn find(
     sheet: &[u8],
     list: &mut [i32],
