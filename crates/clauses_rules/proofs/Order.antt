@@ -1,6 +1,6 @@
 -- The order of assignments and that of the instances read back from them: variable 1 is the constant true, and the cells come next.
 use mathlib.Core.Path.{_≡_, refl, sym, _∙_, ap}
-use mathlib.Core.Bool.{true, false}
+use mathlib.Core.Bool.{false}
 use mathlib.Core.List.{List, [], _∷_}
 use mathlib.Core.Logic.{inr, ⊎-elim}
 use Prim.Native.Nat.{ℕ}

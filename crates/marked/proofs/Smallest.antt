@@ -7,7 +7,7 @@ use mathlib.Core.List.{List, [], _∷_, _++_, map}
 use Prim.Native.Nat.{ℕ, zero, suc}
 use Prim.Native.String.{String}
 use lib.IntN.{pos}
-use lib.ListN.{length, replicate}
+use lib.ListN.{replicate}
 use Rattle.prelude.specs.Tests.{each, all, any}
 use Rattle.prelude.specs.Order.{Before}
 use Rattle.text.specs.Texts.{bytesOf, digits, decimal}

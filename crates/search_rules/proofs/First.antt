@@ -1,6 +1,7 @@
 -- What is found first: no satisfying assignment comes before it, in variable order, 0 before 1 (document 02, Change 5).
--- Follows (Invariant.antt) says that each literal which is no decision is forced by the clauses and the decisions before it; and each decision
--- makes the lowest open variable false. So an assignment that has not every literal of the trail leaves it first at a decision, with a 1.
+-- Each literal that was turned or forced is forced by the clauses and the decisions before it: `Follows`, which every step keeps (Invariant.antt).
+-- Each decision made the lowest open variable false: `LowestDecided`. So where a satisfying assignment has not the whole trail, it leaves it first
+-- at a decision, with a 1.
 use mathlib.Core.Path.{_≡_, refl, sym, ap, _∙_}
 use mathlib.Core.Bool.{Bool, true, false, not}
 use mathlib.Core.Logic.{_⊎_, inl, inr, ⊎-elim}
@@ -18,12 +19,12 @@ use Rattle.prelude.proofs.Laws.{clash, all-at}
 use Rattle.prelude.proofs.Order.{before-irreflexive, before-transitive, before-at}
 use Rattle.clause_list.specs.ClauseList.{Satisfying}
 use Rattle.search_rules.specs.Held.{WasOpen}
-use Rattle.search_rules.specs.Rules.{falsified, unassigned, truthOf, negated, Entry, propagated, decided, State, wordOf, byteOf, placeOf, valuesOf}
+use Rattle.search_rules.specs.Rules.{falsified, unassigned, truthOf, negated, Entry, propagated, decided, State, wordOf, byteOf, placeOf}
+use Rattle.search_rules.specs.Rules.{valuesOf, Kind, endFound, step, next, settle}
 use Rattle.search_rules.specs.Run.{after}
-use Rattle.search_rules.specs.Rules.{Kind, Next, endNone, endFound, step, turn, next, settle}
 use Rattle.search_rules.proofs.Assignments.{Assignment, assignment, holds, Has, Agrees, Follows, values-agree, model-of}
 use Rattle.search_rules.proofs.Ranges.{Ranged}
-use Rattle.search_rules.proofs.StepView.{Full, Step, ends-none, ends-found, backtracks, propagates, decides, view}
+use Rattle.search_rules.proofs.StepView.{Full, Kept, steps-keep}
 use Rattle.search_rules.proofs.Invariant.{length-values, follows-keeps}
 use Rattle.search_rules.proofs.Found.{byte-at, settle-false, found-ended}
 use Rattle.search_rules.proofs.Reached.{after-keeps}
@@ -36,29 +37,16 @@ LowestDecided v (propagated l ∷ state) = LowestDecided v state
 LowestDecided v (decided i ∷ state) = ((j : ℕ) → j < i → getD (valuesOf v state) j 2 ≡ 2 → ⊥) × LowestDecided v state
 
 -- every step keeps it
-module _ (v : ℕ) where
-  abbrev Stays : Next → Type 0
-  Stays endNone = Unit {0}
-  Stays endFound = Unit {0}
-  Stays (step kind s) = LowestDecided v s
-
-  turn-stays : (state : State) → LowestDecided v state → Stays (turn state)
-  unfolding turn LowestDecided
-  turn-stays [] h = tt
-  turn-stays (propagated l ∷ state) h = turn-stays state h
-  turn-stays (decided i ∷ state) h = h .1
-
-  module _ (clauses : List (List ℤ)) where
-    step-stays : (state : State) (x : Next) → Step clauses v state x → LowestDecided v state → Stays x
-    unfolding LowestDecided
-    step-stays state x (ends-none e c t) h = rw e tt
-    step-stays state x (ends-found e c u f) h = rw e tt
-    step-stays state x (backtracks e c t) h = rw e (rw t at (turn-stays state h))
-    step-stays state x (propagates e c u) h = rw e h
-    step-stays state x (decides e c u low) h = rw e (low .below, h)
-
-    pub lowest-keeps : (state : State) (kind : Kind) (s : State) → LowestDecided v state → next clauses v state ≡ step kind s → LowestDecided v s
-    lowest-keeps state kind s h e = rw e at (step-stays state (next clauses v state) (view clauses v state) h)
+module _ (clauses : List (List ℤ)) (v : ℕ) where
+  lowest-kept : Kept clauses v (LowestDecided v)
+  unfolding LowestDecided
+  lowest-kept =
+      record {
+        on-opening = λ l state h. h;
+        on-turning = λ i state h. h .1;
+        on-propagation = λ l state u h. h;
+        on-decision = λ i state low h. (low .below, h);
+      }
 
 -- the assignment leaves the values: it has a 1 where they say false, and below that place all is set and it agrees
 pub record Leaves (a : Assignment) (values : List ℕ) : Type 0 where
@@ -188,5 +176,5 @@ module _ (clauses : List (List ℤ)) (v : ℕ) (ranged : Ranged v clauses) (n : 
   none-before a s =
       not-before clauses v state (found-ended clauses v state ends .1) a s
       (kept (WasOpen v) (open-keeps v clauses ranged) tt)
-      (kept (LowestDecided v) (lowest-keeps v clauses) tt)
+      (kept (LowestDecided v) (steps-keep clauses v (LowestDecided v) (lowest-kept clauses v)) tt)
       (kept (Follows (assignment a)) (follows-keeps clauses v (assignment a) (model-of a clauses (s .holds))) tt)

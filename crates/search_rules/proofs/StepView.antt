@@ -102,6 +102,35 @@ module _ (clauses : List (List ℤ)) (v : ℕ) where
       by true c = ⊎-elim (λ d. ends-none d c d) (λ d. backtracks (d .1) c (d .1)) (turns-of state)
       by false c = unit (firstUnit values clauses) refl c
 
+-- a property of states that a step of each kind keeps: where a literal's variable opens again, where a decision is turned, and so on
+pub record Kept (clauses : List (List ℤ)) (v : ℕ) (P : State → Type 0) : Type 0 where
+  pub on-opening : (l : ℤ) (state : State) → P (propagated l ∷ state) → P state
+  pub on-turning : (i : ℕ) (state : State) → P (decided i ∷ state) → P (propagated (pos (suc i)) ∷ state)
+  pub on-propagation : (l : ℤ) (state : State) → firstUnit (valuesOf v state) clauses ≡ some l → P state → P (propagated l ∷ state)
+  pub on-decision : (i : ℕ) (state : State) → Lowest (valuesOf v state) i → P state → P (decided i ∷ state)
+
+module _ (clauses : List (List ℤ)) (v : ℕ) (P : State → Type 0) (kept : Kept clauses v P) where
+  abbrev Leads : Next → Type 0
+  Leads endNone = Unit {0}
+  Leads endFound = Unit {0}
+  Leads (step kind s) = P s
+
+  turn-leads : (state : State) → P state → Leads (turn state)
+  unfolding turn
+  turn-leads [] p = tt
+  turn-leads (propagated l ∷ state) p = turn-leads state (kept .on-opening l state p)
+  turn-leads (decided i ∷ state) p = kept .on-turning i state p
+
+  step-leads : (state : State) (x : Next) → Step clauses v state x → P state → Leads x
+  step-leads state x (ends-none e c t) p = rw e tt
+  step-leads state x (ends-found e c u f) p = rw e tt
+  step-leads state x (backtracks e c t) p = rw e (rw t at (turn-leads state p))
+  step-leads state x (propagates {l = l} e c u) p = rw e (kept .on-propagation l state u p)
+  step-leads state x (decides {i = i} e c u low) p = rw e (kept .on-decision i state low p)
+
+  pub steps-keep : (state : State) (kind : Kind) (s : State) → P state → next clauses v state ≡ step kind s → P s
+  steps-keep state kind s p e = rw e at (step-leads state (next clauses v state) (view clauses v state) p)
+
 pub total-count : (kind : Kind) (t : Steps) → total (count kind t) ≡ suc (total t)
 unfolding total count
 total-count propagation t = omega arith

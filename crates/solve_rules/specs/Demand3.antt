@@ -1,6 +1,6 @@
 -- Demand 3, undivided: what the answers of counting, writing, search and read-back of a sheet say of its instances
--- (document 01, "The words of demand 3"; for resumed calls document 02, Change 1; for the smallest case Change 5). proofs/Demand3.antt shows it for every sheet that
--- fits the limits, in slices that fit.
+-- (document 01, "The words of demand 3"; document 02, Change 1, for resumed calls, and Change 5 for the smallest case). proofs/Demand3.antt
+-- shows it for every sheet that fits the limits, in slices that fit.
 --
 -- The statement speaks of definitions. The contract that ties each one to the code, for every input and with no `requires`:
 --   `reading`                          `sheet::read`: its answer equals it
