@@ -1,6 +1,7 @@
 -- The smallest case (document 02, Change 5).
 use mathlib.Core.Path.{_≡_}
 use mathlib.Core.Bool.{true}
+use mathlib.Core.Logic.{_↔_}
 use mathlib.Core.List.{List}
 use Prim.Native.Nat.{ℕ}
 use Rattle.prelude.specs.Order.{NoneBefore, StrictTotalOrder}
@@ -15,3 +16,8 @@ Smallest sheet instance = NoneBefore (Solution sheet) instance
 -- that order is a strict total order on the instances of a sheet
 abbrev pub InstancesOrdered : Type 0
 InstancesOrdered = (sheet : Sheet) → StrictTotalOrder (λ (instance : List ℕ). withinScopes sheet instance ≡ true)
+
+-- "Roasters compare printed cases between releases": two sheets that the same instances satisfy have one smallest, and so has a sheet
+abbrev pub SameSmallest : Type 0
+SameSmallest = (sheet other : Sheet) → ((instance : List ℕ) → Solution sheet instance ↔ Solution other instance)
+    → (i j : List ℕ) → Solution sheet i → Smallest sheet i → Solution other j → Smallest other j → i ≡ j
