@@ -1,6 +1,6 @@
 //! The implementation held to itself: by meaning and by clauses, the same instances satisfy.
 
-use crate::brute::{assignments, holds, instances};
+use crate::brute::{assignments, first_assignments, holds, instances, least};
 use crate::clauses::{translate, MET};
 use crate::finder::finder;
 use crate::random::Source;
@@ -59,6 +59,7 @@ fn the_search_agrees_with_all_assignments() {
             End::Spent => panic!("case {case} is spent"),
         }
         assert!(all.iter().all(|values| clauses.iter().all(|clause| holds(clause, values))));
+        assert_eq!(first_assignments(v, &clauses, 2), all[..all.len().min(2)], "case {case}");
         ends[usize::from(all.is_empty())] += 1;
     }
     assert!(ends[0] > 500 && ends[1] > 500, "{ends:?}");
@@ -75,9 +76,9 @@ fn the_finder_prints_the_first_instance() {
         }
         let printed = finder(&sheet.bytes());
         let (head, lines) = printed.split_once('\n').unwrap();
-        match instances(&sheet).first() {
+        match least(&sheet) {
             _ if head == "refused 13" => {}
-            Some(first) => assert!(head.starts_with("found ") && lines == crate::finder::lines(&sheet, first)),
+            Some(first) => assert!(head.starts_with("found ") && lines == crate::finder::lines(&sheet, &first)),
             None => assert!(head.starts_with("none ") && lines.is_empty()),
         }
     }

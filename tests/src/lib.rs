@@ -29,4 +29,6 @@ mod cases;
 #[cfg(test)]
 mod counts;
 #[cfg(test)]
+mod least_cases;
+#[cfg(test)]
 mod resume_cases;
