@@ -4,11 +4,14 @@ use crate::{Outcome, Run};
 use std::fmt::Debug;
 
 mod callers;
+mod chains;
 mod check;
 mod commands;
 mod count;
 mod dimacs;
+mod earlier;
 mod failures;
+mod least;
 mod lengths;
 mod onward;
 mod programs;

@@ -1,9 +1,11 @@
 //! The program behind `./find --on`: where the finder ends it prints the same; where the finder is spent it goes on, says so,
-//! and prints the end with the total of steps.
+//! and prints the end with the total of steps. What it prints is the least instance where there are few cells.
 
+use super::least::{printed_cells, Tally};
 use super::programs::{is_long, program, program_says, some_input};
 use super::{agree, covered, hex};
 use crate::{Outcome, Run};
+use reference::brute;
 use reference::finder::{finder, finder_on};
 use reference::long_search::{long, of_15_625};
 use reference::random::Source;
@@ -35,25 +37,37 @@ fn long_searches(run: &Run) -> Vec<Long> {
 }
 
 pub fn run(run: &Run) -> Outcome {
-    let mut ended = 0;
+    let (mut ended, mut least) = (0, Tally::default());
     for case in run.cases(40) {
         let bytes = some_input(&mut Source::new(run.seed, "onward", case));
         if !is_long(&bytes) {
-            agree(program(PROGRAM, &bytes)?, finder(&bytes), || format!("case {case}, sheet {}", hex(&bytes)))?;
+            let asked = || format!("case {case}, sheet {}", hex(&bytes));
+            let printed = program(PROGRAM, &bytes)?;
+            agree(&printed, &finder(&bytes), asked)?;
+            least.compare_printed(&printed, &bytes, asked)?;
             ended += 1;
         }
     }
     covered(&[("an end of the finder", ended)], 20)?;
-    let sheets = long_searches(run);
+    least.covered(2, 0)?;
+    let (sheets, mut beyond) = (long_searches(run), 0);
     for (sheet, first, all, spent) in &sheets {
         let bytes = sheet.bytes();
         let said: String = (1..=*spent).map(|calls| format!("find: {calls}000000 steps\n")).collect();
         agree(&program("finder", &bytes)?, first, || format!("finder, sheet {}", hex(&bytes)))?;
-        agree(program_says(PROGRAM, &bytes)?, (all.clone(), said), || format!("sheet {}", hex(&bytes)))?;
+        let printed = program_says(PROGRAM, &bytes)?;
+        agree(&printed, &(all.clone(), said), || format!("sheet {}", hex(&bytes)))?;
+        if all.starts_with("found ") {
+            let asked = || format!("the least by brute force, sheet {}", hex(&bytes));
+            agree(Some(printed_cells(&printed.0)), brute::least(sheet), asked)?;
+            beyond += 1;
+        }
     }
+    covered(&[("a case found beyond the budget", beyond)], 1)?;
     let (sheet, _, all, _) = &sheets[1];
     command(&sheet.bytes(), all)?;
-    Ok(format!("{ended} inputs as by the finder, {} at the end of its budget and beyond", sheets.len()))
+    let least = format!("{}; {beyond} beyond the budget too", least.said());
+    Ok(format!("{ended} inputs as by the finder, {} at the end of its budget and beyond; {least}", sheets.len()))
 }
 
 /// `./find --on FILE` prints what the program prints.

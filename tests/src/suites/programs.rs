@@ -1,11 +1,13 @@
-//! The programs `finder` and `cnf`, run whole: line for line against the reference, the verdict against
-//! minisat and cadical on the clause text that `cnf` prints, and against brute force where there are few cells.
+//! The programs `finder` and `cnf`, run whole: line for line against the reference; the verdict, and that no case is ahead of
+//! the one printed, against minisat and cadical on the clause text that `cnf` prints, and against brute force where there are
+//! few cells.
 
+use super::earlier::nothing_ahead;
+use super::least::{printed_cells, Tally};
 use super::{agree, covered, hex};
 use crate::solver::solve;
 use crate::{Outcome, Run};
-use reference::brute::instances;
-use reference::clauses::translate;
+use reference::clauses::{count, translate};
 use reference::dimacs::text;
 use reference::finder::{finder, BYTES};
 use reference::random::Source;
@@ -33,7 +35,8 @@ fn full_list() -> Result<(), String> {
 
 pub fn run(run: &Run) -> Outcome {
     full_list()?;
-    let mut tally = [("found", 0), ("none", 0), ("refused", 0), ("brute force", 0), ("a solver", 0)];
+    let mut tally = [("found", 0), ("none", 0), ("refused", 0), ("a solver", 0), ("a case with a 1", 0)];
+    let mut least = Tally::default();
     for case in run.cases(150) {
         let source = &mut Source::new(run.seed, "programs", case);
         let bytes = some_input(source);
@@ -43,27 +46,17 @@ pub fn run(run: &Run) -> Outcome {
         let asked = || format!("case {case}, sheet {}", hex(&bytes));
         let printed = program("finder", &bytes)?;
         agree(&printed, &finder(&bytes), || format!("finder, {}", asked()))?;
+        least.compare_printed(&printed, &bytes, asked)?;
         let cnf = program("cnf", &bytes)?;
         agree(&cnf, &clause_text(&bytes), || format!("cnf, {}", asked()))?;
-        let head = printed.split(' ').next().unwrap_or("");
-        match head {
-            "found" => tally[0].1 += 1,
-            "none" => tally[1].1 += 1,
-            _ => tally[2].1 += 1,
-        }
-        if head != "found" && head != "none" {
-            continue;
-        }
-        let sheet = read(&bytes).expect("an accepted sheet");
-        if sheet.cells() <= 9 {
-            agree(head == "found", !instances(&sheet).is_empty(), || format!("brute force, {}", asked()))?;
+        let end = ["found ", "none "].iter().position(|head| printed.starts_with(head));
+        tally[end.unwrap_or(2)].1 += 1;
+        if end.is_some() {
+            let v = count(&bytes).expect("a list").variables;
+            let cells = by_solver(["minisat", "cadical"][case as usize % 2], (&cnf, v), &printed, asked)?;
             tally[3].1 += 1;
+            tally[4].1 += usize::from(cells.contains(&1));
         }
-        let solver = ["minisat", "cadical"][case as usize % 2];
-        let v = translate(&sheet).expect("a list").variables;
-        let verdict = solve(solver, cnf.as_bytes(), v)?;
-        agree(head == "found", verdict.is_satisfiable(), || format!("{solver}, {}", asked()))?;
-        tally[4].1 += 1;
     }
     if run.long && run.seed == 1 {
         // some 2^10 times the search of five in four: the budget of 1,000,000 is spent
@@ -71,9 +64,28 @@ pub fn run(run: &Run) -> Outcome {
         agree(program("finder", &bytes)?.as_str(), "spent 1000000\n", || hex(&bytes))?;
     }
     covered(&tally, 8)?;
-    let [(_, found), (_, none), (_, refused), (_, brute), (_, solved)] = tally;
-    let all = found + none + refused;
-    Ok(format!("{all} inputs agree: {found} found, {none} none, {refused} refused; {brute} by brute force, {solved} by solvers"))
+    least.covered(8, 0)?;
+    let [(_, found), (_, none), (_, refused), (_, solved), (_, ones)] = tally;
+    let (all, least) = (found + none + refused, least.said());
+    let solvers = format!("{solved} by solvers, by which nothing is ahead of the cases ({ones} with a 1)");
+    Ok(format!("{all} inputs agree: {found} found, {none} none, {refused} refused; {solvers}; {least}"))
+}
+
+/// The verdict on the text of v variables is that of the finder; and nothing is ahead of the case that this prints,
+/// whose cells are given.
+fn by_solver(
+    solver: &str,
+    (cnf, v): (&str, u32),
+    printed: &str,
+    asked: impl Fn() -> String,
+) -> Result<Vec<u8>, String> {
+    let (found, cells) = (printed.starts_with("found "), printed_cells(printed));
+    let verdict = solve(solver, cnf.as_bytes(), v)?;
+    agree(found, verdict.is_satisfiable(), || format!("{solver}, {}", asked()))?;
+    if found {
+        nothing_ahead(solver, (cnf, v), &cells, asked)?;
+    }
+    Ok(cells)
 }
 
 pub fn some_input(source: &mut Source) -> Vec<u8> {

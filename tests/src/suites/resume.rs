@@ -1,7 +1,9 @@
-//! A stopped search taken up again: chains of calls against one run, damaged states, states that no search leaves, calls
+//! A stopped search taken up again: chains of calls (`chains.rs`), damaged states, states that no search leaves, calls
 //! after an end, counters from 0, from anything and up to 2^64 - 1. Answers, slices, what is behind them and the record are
 //! compared each time. A caller in C is in `callers.rs`.
 
+use super::chains::chain;
+use super::least::Tally as LeastTally;
 use super::search::some_list;
 use super::{agree, callers, covered, shown};
 use crate::{Outcome, Run};
@@ -50,10 +52,11 @@ fn count(tally: &mut Tally, places: Vec<usize>) {
 pub fn run(run: &Run) -> Outcome {
     marked()?;
     let (mut tally, mut calls, mut chained, mut ended) = (TALLY, 0, [0; 3], 0);
+    let mut least = LeastTally::default();
     for number in run.cases(1_500) {
         let source = &mut Source::new(run.seed, "resume, chains", number);
         let (list, v) = some_list(source, number);
-        let (end, made) = chain(source, &list, v, number)?;
+        let (end, made) = chain(source, &list, v, number, &mut least)?;
         chained[end as usize] += 1;
         calls += made;
         ended += usize::from(after_an_end(source, &list, v, number)?);
@@ -73,8 +76,10 @@ pub fn run(run: &Run) -> Outcome {
     }
     covered(&tally, 50)?;
     covered(&[("found by a chain", chained[0]), ("none", chained[1]), ("spent", chained[2]), ("an end", ended)], 100)?;
+    least.covered(30, 30)?;
     let callers = callers::run(run)?;
-    Ok(format!("{}; {ended} taken up after an end; {}; {callers}", chains(chained, calls), others(&tally)))
+    let chains = format!("{}, of several calls {}", chains(chained, calls), least.said());
+    Ok(format!("{chains}; {ended} taken up after an end; {}; {callers}", others(&tally)))
 }
 
 /// What is said of the chains.
@@ -112,13 +117,13 @@ fn marked() -> Result<(), String> {
 }
 
 /// Counters, in any way, that come to exactly 2^64 - 1 with the steps allowed.
-fn up_to_the_limit(source: &mut Source, allowed: u64) -> Steps {
+pub fn up_to_the_limit(source: &mut Source, allowed: u64) -> Steps {
     let spreads = spreads(source, MOST - allowed);
     source.pick(&spreads)
 }
 
 /// Steps to allow: none, one, few, many; few over a long list.
-fn cut(source: &mut Source, list: &[i32], v: u32) -> u64 {
+pub fn cut(source: &mut Source, list: &[i32], v: u32) -> u64 {
     let most = if v > 400 { 10 } else { 100_000 / (1 + list.len() as u64) };
     let few = source.below(20) as u64;
     if source.chance(1, 8) {
@@ -129,14 +134,14 @@ fn cut(source: &mut Source, list: &[i32], v: u32) -> u64 {
 }
 
 /// That two calls left the same: slices to their ends, and the record.
-fn same(got: &Call, want: &Call, asked: impl Fn() -> String) -> Result<(), String> {
+pub fn same(got: &Call, want: &Call, asked: impl Fn() -> String) -> Result<(), String> {
     agree(&got.values, &want.values, &asked)?;
     agree(&got.trail, &want.trail, &asked)?;
     agree(got.position, want.position, &asked)
 }
 
 /// A call by both sides over slices of their own: the places in the tally of what it met.
-fn compare(call: &Call, what: impl Fn() -> String) -> Result<Vec<usize>, String> {
+pub fn compare(call: &Call, what: impl Fn() -> String) -> Result<Vec<usize>, String> {
     let (mut ours, mut theirs) = (call.clone(), call.clone());
     let want = theirs.make(resume);
     let got = ours.make(library::resume);
@@ -184,91 +189,6 @@ fn met(call: &Call, answer: Result<Answer, u32>) -> usize {
         (Err(_), [_, ..]) => OUTCOMES - 1,
         (Err(number), []) => 3 + usize::from(number != LIST),
     }
-}
-
-/// What calls with these cuts come to: the last answer, what is left, and how many were made.
-struct Chain {
-    last: Result<Answer, u32>,
-    left: Call,
-    made: usize,
-}
-
-/// Calls from a start on, up to an end or to the last cut. The first may be `search` itself, which starts from all open over
-/// slices with anything in them.
-fn calls(start: &Call, cuts: &[u64], search_first: bool) -> Chain {
-    let (mut left, mut made, v) = (start.clone(), 0, start.v as usize);
-    let mut last = Ok(Answer { end: End::Spent, steps: Steps::default() });
-    if search_first {
-        left.values[..v].fill(7);
-        left.trail[..v].fill(-7);
-        last = library::search(&start.list, start.v, &mut left.values, &mut left.trail, cuts[0]);
-        let length = left.trail[..v].iter().take_while(|&&word| word != 0).count();
-        left.position = Position { length, steps: last.map_or(Steps::default(), |answer| answer.steps) };
-        made = 1;
-    }
-    while made < cuts.len() && last.is_ok_and(|answer| answer.end == End::Spent) {
-        left.budget = cuts[made];
-        last = left.make(library::resume);
-        made += 1;
-    }
-    Chain { last, left, made }
-}
-
-/// Where a chain starts, and what its calls are allowed.
-struct Start {
-    call: Call,
-    cuts: Vec<u64>,
-    /// A fresh start, whatever the counters.
-    fresh: bool,
-    /// The counters and all cuts together come to exactly 2^64 - 1.
-    at_the_limit: bool,
-}
-
-/// A fresh start or a state not reached; counters of 0, any, or as many as the cuts let pass.
-fn some_start(source: &mut Source, list: &[i32], v: u32) -> Start {
-    let cuts: Vec<u64> = (0..source.between(1, 12)).map(|_| cut(source, list, v)).collect();
-    let (fresh, counts) = (source.chance(3, 4), source.below(4));
-    let mut call = match fresh {
-        true => Call::fresh(source, list, v),
-        false => Call::unreached(source, list, v),
-    };
-    match counts {
-        0 => call.position.steps = up_to_the_limit(source, cuts.iter().sum()),
-        1 => call.position.steps = counters(source),
-        _ => {}
-    }
-    Start { call, cuts, fresh, at_the_limit: counts == 0 }
-}
-
-/// A chain of calls against one run of both sides with the steps allowed in all; from a fresh start against `search` too.
-/// The end, and the number of calls.
-fn chain(source: &mut Source, list: &[i32], v: u32, number: u64) -> Result<(End, usize), String> {
-    let Start { call: start, cuts, fresh, at_the_limit } = some_start(source, list, v);
-    let before = start.position.steps;
-    let search_first = fresh && before == Steps::default() && source.chance(2, 3);
-    let Chain { last, left, made } = calls(&start, &cuts, search_first);
-    let allowed = cuts[..made].iter().sum();
-    let asked = || format!("case {number}, v {v}, cuts {cuts:?}, {:?}, list {}", start.position, shown(list));
-    let answer = last.map_err(|number| format!("refused {number}: {}", asked()))?;
-    for side in [resume, library::resume] {
-        let mut one = Call { budget: allowed, ..start.clone() };
-        agree(last, one.make(side), asked)?;
-        same(&left, &one, asked)?;
-    }
-    if fresh {
-        let mut one = start.clone();
-        let searched = library::search(list, v, &mut one.values, &mut one.trail, allowed);
-        agree(last, searched.map(|Answer { end, steps }| Answer { end, steps: before + steps }), asked)?;
-        agree((&left.values, &left.trail), (&one.values, &one.trail), asked)?;
-    }
-    if at_the_limit {
-        // all that is left, and one more
-        let rest = (u128::from(MOST) - answer.steps.sum()) as u64;
-        for budget in [rest, rest + 1] {
-            compare(&Call { budget, ..left.clone() }, || format!("at the end of a chain, {}", asked()))?;
-        }
-    }
-    Ok((answer.end, made))
 }
 
 /// What the reference answers from a fresh start, with other steps done before.

@@ -1,6 +1,8 @@
 //! The search: answer, steps of each kind, values and trail for random lists and lists of sheets, good and damaged,
-//! with budgets of none, one, few and many; verdicts against minisat.
+//! with budgets of none, one, few and many; verdicts against minisat; over few variables what is found is the first
+//! satisfying assignment.
 
+use super::least::Tally;
 use super::{agree, covered, shown};
 use crate::solver::solve;
 use crate::{Outcome, Run};
@@ -87,13 +89,17 @@ fn compare_marked(case: &Marked) -> Result<(), String> {
 pub fn run(run: &Run) -> Outcome {
     MARKED.iter().try_for_each(compare_marked)?;
     let mut tally = ENDS.map(|end| (end, 0));
-    let (mut solved, mut steps) = (0, Steps::default());
+    let (mut solved, mut steps, mut least) = (0, Steps::default(), Tally::default());
     for number in run.cases(4_000) {
         let source = &mut Source::new(run.seed, "search", number);
         let case = some_case(source, number);
-        let (end, done) = compare(&case, number)?;
+        let (answer, values) = compare(&case, number)?;
+        let end = place(answer);
         tally[end].1 += 1;
-        steps = steps + done;
+        steps = steps + answer.map_or(Steps::default(), |answer| answer.steps);
+        if let Ok(Answer { end, steps }) = answer {
+            least.compare_list((&case.list, case.v), (end, steps.turns), &values, || asked(&case, number))?;
+        }
         if end <= 1 && number % 50 == 0 {
             let text = text(&case.list, case.v).expect("a good list");
             let verdict = solve("minisat", text.as_bytes(), case.v)?;
@@ -105,10 +111,12 @@ pub fn run(run: &Run) -> Outcome {
     let Steps { forces, choices, turns } = steps;
     let kinds = [("a force", forces), ("a choice", choices), ("a turn", turns)];
     covered(&kinds.map(|(kind, times)| (kind, times as usize)), 300)?;
+    least.covered(100, 50)?;
     let all: usize = tally.iter().map(|(_, times)| times).sum();
     let times: Vec<String> = tally.iter().map(|(end, times)| format!("{times} {end}")).collect();
     let steps = format!("{forces} forces, {choices} choices and {turns} turns");
-    Ok(format!("{all} runs of {steps} agree: {}; {solved} verdicts of minisat too", times.join(", ")))
+    let too = format!("{solved} verdicts of minisat too; {}", least.said());
+    Ok(format!("{all} runs of {steps} agree: {}; {too}", times.join(", ")))
 }
 
 /// A random list, or that of a random sheet, with its variables.
@@ -160,21 +168,28 @@ fn of_sheet(sheet: &reference::sheet::Sheet) -> (Vec<i32>, u32) {
     }
 }
 
-/// Both searches over slices with a known filling; the place of the end in the tally, and the steps.
-fn compare(case: &Case, number: u64) -> Result<(usize, Steps), String> {
+/// Both searches over slices with a known filling: the answer of both, and the library's values.
+fn compare(case: &Case, number: u64) -> Result<(Result<Answer, u32>, Vec<u8>), String> {
     let (mut values, mut trail) = (vec![7; case.values], vec![-7; case.trail]);
     let (mut got_values, mut got_trail) = (values.clone(), trail.clone());
     let want = search(&case.list, case.v, &mut values, &mut trail, case.budget);
     let got = library::search(&case.list, case.v, &mut got_values, &mut got_trail, case.budget);
-    let asked = || format!("case {number}, v {}, budget {}, list {}", case.v, case.budget, shown(&case.list));
+    let asked = || asked(case, number);
     agree(got, want, asked)?;
-    agree(got_values, values, asked)?;
+    agree(&got_values, &values, asked)?;
     agree(got_trail, trail, asked)?;
-    Ok(match want {
-        Ok(answer) if answer.end == End::Found => (0, answer.steps),
-        Ok(answer) if answer.end == End::None => (1, answer.steps),
-        Ok(answer) => (2, answer.steps),
-        Err(12) => (3, Steps::default()),
-        Err(_) => (4, Steps::default()),
-    })
+    Ok((got, got_values))
+}
+
+fn asked(case: &Case, number: u64) -> String {
+    format!("case {number}, v {}, budget {}, list {}", case.v, case.budget, shown(&case.list))
+}
+
+/// The place of an answer in the tally.
+fn place(answer: Result<Answer, u32>) -> usize {
+    match answer {
+        Ok(answer) => answer.end as usize,
+        Err(12) => 3,
+        Err(_) => 4,
+    }
 }

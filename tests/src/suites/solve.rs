@@ -1,5 +1,8 @@
-//! Read-back and the whole run over lent slices, each slice compared to its end.
+//! Read-back and the whole run over lent slices, each slice compared to its end; what a whole run finds, and a chain of calls
+//! over the sheet's list, is the least instance where there are few cells.
 
+use super::chains::{calls, Chain};
+use super::least::{Least, Tally};
 use super::search::FEW;
 use super::{agree, covered, hex};
 use crate::{Outcome, Run};
@@ -10,6 +13,7 @@ use reference::random::Source;
 use reference::random_damage::any;
 use reference::random_list::budget;
 use reference::random_sheet::{gates_of, pigeonhole, sheet, style};
+use reference::random_state::Call;
 use reference::search::{Answer, End, Steps};
 use reference::sheet::read;
 
@@ -32,40 +36,99 @@ fn marked() -> Result<(), String> {
     Ok(())
 }
 
+const TALLY: [(&str, usize); 9] = [
+    ("found", 0),
+    ("none", 0),
+    ("spent", 0),
+    ("a refused find", 0),
+    ("a read-back", 0),
+    ("a refused read-back", 0),
+    ("with a force", 0),
+    ("with a choice", 0),
+    ("with a turn", 0),
+];
+
 pub fn run(run: &Run) -> Outcome {
     marked()?;
-    let mut tally = [
-        ("found", 0),
-        ("none", 0),
-        ("spent", 0),
-        ("a refused find", 0),
-        ("a read-back", 0),
-        ("a refused read-back", 0),
-        ("with a force", 0),
-        ("with a choice", 0),
-        ("with a turn", 0),
-    ];
+    let (mut tally, mut whole, mut chained) = (TALLY, Tally::default(), Tally::default());
     for case in run.cases(2_000) {
         let source = &mut Source::new(run.seed, "solve", case);
-        let style = style(source);
-        let bytes = match source.below(12) {
-            0 => any(source),
-            1 if case % 20 == 0 => gates_of(15_990 + source.below(20)).bytes(),
-            2 if case % 4 == 0 => pigeonhole(source.below(2) as u8, source.between(2, 4) as u8, 3).bytes(),
-            3 => long(&[(source.between(1, 3) as u8, source.below(3) as u8)], 0, source.chance(1, 2)).bytes(),
-            _ => sheet(source, style).bytes(),
-        };
-        let (ended, steps) = compare_find(source, &bytes, case)?;
+        let bytes = some_sheet(source, case);
+        let (answer, instance) = compare_find(source, &bytes, case)?;
+        let (ended, steps) = answer.map_or((3, Steps::default()), |answer| (answer.end as usize, answer.steps));
         tally[ended].1 += 1;
         for (at, taken) in [(6, steps.forces), (7, steps.choices), (8, steps.turns)] {
             tally[at].1 += usize::from(taken > 0);
         }
         let back = compare_read_back(source, &bytes, case)?;
         tally[4 + usize::from(!back)].1 += 1;
+        if let Some(least) = few_cells(&bytes) {
+            let asked = |how| format!("{how}, case {case}, sheet {}", hex(&bytes));
+            compare_least(&mut whole, &least, (answer, &instance), || asked("find"))?;
+            let in_calls = in_calls(source, &bytes);
+            let (answer, instance) = in_calls.map_err(|number| format!("refused {number}, {}", asked("in calls")))?;
+            compare_least(&mut chained, &least, (Ok(answer), &instance), || asked("in calls"))?;
+        }
     }
     covered(&tally, 50)?;
+    whole.covered(50, 20)?;
+    chained.covered(100, 50)?;
     let times: Vec<String> = tally.iter().map(|(what, times)| format!("{times} {what}")).collect();
-    Ok(format!("whole runs and read-backs agree: {}", times.join(", ")))
+    let least = format!("{}; through resumed calls {}", whole.said(), chained.said());
+    Ok(format!("whole runs and read-backs agree: {}; {least}", times.join(", ")))
+}
+
+fn some_sheet(source: &mut Source, case: u64) -> Vec<u8> {
+    let style = style(source);
+    match source.below(12) {
+        0 => any(source),
+        1 if case % 20 == 0 => gates_of(15_990 + source.below(20)).bytes(),
+        2 if case % 4 == 0 => pigeonhole(source.below(2) as u8, source.between(2, 4) as u8, 3).bytes(),
+        3 => long(&[(source.between(1, 3) as u8, source.below(3) as u8)], 0, source.chance(1, 2)).bytes(),
+        _ => sheet(source, style).bytes(),
+    }
+}
+
+/// The least instance of a sheet that has a list and few cells.
+fn few_cells(bytes: &[u8]) -> Option<Least> {
+    let sheet = read(bytes).ok().filter(|_| count(bytes).is_ok())?;
+    Least::of_sheet(&sheet)
+}
+
+/// The library's answer, where it is an end, against brute force: what stands in the front of the instance is the least.
+fn compare_least(
+    tally: &mut Tally,
+    least: &Least,
+    (answer, instance): (Result<Answer, u32>, &[u8]),
+    asked: impl Fn() -> String,
+) -> Result<(), String> {
+    match answer {
+        Ok(Answer { end: End::Found, steps }) => tally.compare(Some(instance), steps.turns, least, asked),
+        Ok(Answer { end: End::None, steps }) => tally.compare(None, steps.turns, least, asked),
+        _ => Ok(()),
+    }
+}
+
+/// Steps over a list that are waited for, times its words.
+const EFFORT: u64 = 4_000_000;
+
+/// By the library alone: the list is written, searched in calls that are cut at random, the last of them long, and what is
+/// found is read back. The answer, and the instance.
+fn in_calls(source: &mut Source, bytes: &[u8]) -> Result<(Answer, Vec<u8>), u32> {
+    let (words, v, cells) = figures(bytes);
+    let (mut list, mut instance) = (vec![0; words], vec![9; cells]);
+    library::write(bytes, &mut list)?;
+    // nothing is found in the first call: each variable takes a step, and there are two or more
+    let mut cuts = vec![source.below(2) as u64];
+    cuts.extend((0..source.below(8)).map(|_| source.below(12) as u64));
+    cuts.push(EFFORT / words as u64);
+    let start = Call::fresh(source, &list, v as u32);
+    let Chain { last, left, .. } = calls(&start, &cuts, source.chance(1, 2));
+    let answer = last?;
+    if answer.end == End::Found {
+        library::read_back(bytes, &left.values[..v], &mut instance)?;
+    }
+    Ok((answer, instance))
 }
 
 /// A length that is mostly enough: exact, longer, one less.
@@ -85,8 +148,8 @@ fn figures(bytes: &[u8]) -> (usize, usize, usize) {
     }
 }
 
-/// The whole run by both sides: the place of the end in the tally, and the steps.
-fn compare_find(source: &mut Source, bytes: &[u8], case: u64) -> Result<(usize, Steps), String> {
+/// The whole run by both sides: the answer, and the library's instance.
+fn compare_find(source: &mut Source, bytes: &[u8], case: u64) -> Result<(Result<Answer, u32>, Vec<u8>), String> {
     let (words, variables, cells) = figures(bytes);
     let mut budget = budget(source);
     // a list can be short and its search long
@@ -105,8 +168,9 @@ fn compare_find(source: &mut Source, bytes: &[u8], case: u64) -> Result<(usize, 
     agree(list2, list, asked)?;
     agree(values2, values, asked)?;
     agree(trail2, trail, asked)?;
-    agree(instance2, instance, asked)?;
-    Ok(want.map_or((3, Steps::default()), |answer| (answer.end as usize, answer.steps)))
+    agree(&instance2, &instance, asked)?;
+    instance2.truncate(cells);
+    Ok((got, instance2))
 }
 
 /// Read-back of random values; true where it copied.

@@ -1,9 +1,11 @@
-//! The reference alone: its clause texts and verdicts against minisat, cadical and picosat.
+//! The reference alone: its clause texts and verdicts against minisat, cadical and picosat; what it finds, and their verdicts,
+//! against brute force where there are few cells.
 
+use super::least::{Least, Tally};
 use super::{agree, covered, hex};
 use crate::solver::{solve, Verdict, SOLVERS};
 use crate::{Outcome, Run};
-use reference::brute::{holds, instances};
+use reference::brute::holds;
 use reference::clauses::translate;
 use reference::meaning::check;
 use reference::random::Source;
@@ -15,7 +17,7 @@ use reference::{dimacs, sheet};
 const BUDGET: u64 = 2_000;
 
 pub fn run(run: &Run) -> Outcome {
-    let mut tally = [("satisfiable", 0), ("unsatisfiable", 0), ("brute force", 0)];
+    let (mut tally, mut tallied) = ([("satisfiable", 0), ("unsatisfiable", 0)], Tally::default());
     for case in run.cases(100) {
         let source = &mut Source::new(run.seed, "solvers", case);
         let style = style(source);
@@ -39,13 +41,17 @@ pub fn run(run: &Run) -> Outcome {
             agree(clauses.clauses.iter().all(|clause| holds(clause, values)), true, asked)?;
             agree(check(&bytes, &values[1..1 + sheet.cells()]), Ok(true), asked)?;
         }
-        if sheet.cells() <= 9 {
-            agree(!instances(&sheet).is_empty(), verdict.is_satisfiable(), asked)?;
-            tally[2].1 += 1;
+        if let Some(least) = Least::of_sheet(&sheet) {
+            agree(least.first.is_some(), verdict.is_satisfiable(), asked)?;
+            if answer.end != End::Spent {
+                let found = (answer.end == End::Found).then_some(&values[1..1 + sheet.cells()]);
+                tallied.compare(found, answer.steps.turns, &least, asked)?;
+            }
         }
         tally[usize::from(!verdict.is_satisfiable())].1 += 1;
     }
     covered(&tally, 8)?;
-    let [(_, yes), (_, no), (_, brute)] = tally;
-    Ok(format!("{} texts agree, {yes} satisfiable, {no} not, {brute} by brute force too", yes + no))
+    tallied.covered(4, 0)?;
+    let [(_, yes), (_, no)] = tally;
+    Ok(format!("{} texts agree, {yes} satisfiable, {no} not; {}", yes + no, tallied.said()))
 }
