@@ -13,6 +13,7 @@ pub mod idle_walks;
 pub mod long_search;
 pub mod meaning;
 pub mod random;
+pub mod random_cells;
 pub mod random_damage;
 pub mod random_list;
 pub mod random_rich;

@@ -2,7 +2,7 @@
 //! and prints the end with the total of steps. What it prints is the least instance where there are few cells.
 
 use super::least::{printed_cells, Tally};
-use super::programs::{is_long, program, program_says, some_input};
+use super::programs::{is_long, over_cells, program, program_says, some_input};
 use super::{agree, covered, hex};
 use crate::{Outcome, Run};
 use reference::brute;
@@ -49,7 +49,8 @@ pub fn run(run: &Run) -> Outcome {
         }
     }
     covered(&[("an end of the finder", ended)], 20)?;
-    least.covered(2, 0)?;
+    over_cells(run, PROGRAM, &mut least)?;
+    least.covered(5, 0)?;
     let (sheets, mut beyond) = (long_searches(run), 0);
     for (sheet, first, all, spent) in &sheets {
         let bytes = sheet.bytes();

@@ -11,6 +11,7 @@ use reference::clauses::{count, translate};
 use reference::dimacs::text;
 use reference::finder::{finder, BYTES};
 use reference::random::Source;
+use reference::random_cells::cells;
 use reference::random_damage::any;
 use reference::random_sheet::{closures, gates_of, pigeonhole, sheet, style};
 use reference::search::{search, End};
@@ -63,12 +64,25 @@ pub fn run(run: &Run) -> Outcome {
         let bytes = pigeonhole(2, 5, 4).bytes();
         agree(program("finder", &bytes)?.as_str(), "spent 1000000\n", || hex(&bytes))?;
     }
+    over_cells(run, "finder", &mut least)?;
     covered(&tally, 8)?;
     least.covered(8, 0)?;
     let [(_, found), (_, none), (_, refused), (_, solved), (_, ones)] = tally;
     let (all, least) = (found + none + refused, least.said());
     let solvers = format!("{solved} by solvers, by which nothing is ahead of the cases ({ones} with a 1)");
     Ok(format!("{all} inputs agree: {found} found, {none} none, {refused} refused; {solvers}; {least}"))
+}
+
+/// What a program prints of sheets whose least instance depends on the order of the cells.
+pub fn over_cells(run: &Run, name: &str, tally: &mut Tally) -> Result<(), String> {
+    for case in run.cases(20) {
+        let bytes = cells(&mut Source::new(run.seed, "programs, cells", case)).bytes();
+        let asked = || format!("{name} over cells, case {case}, sheet {}", hex(&bytes));
+        let printed = program(name, &bytes)?;
+        agree(&printed, &finder(&bytes), asked)?;
+        tally.compare_printed(&printed, &bytes, asked)?;
+    }
+    Ok(())
 }
 
 /// The verdict on the text of v variables is that of the finder; and nothing is ahead of the case that this prints,

@@ -6,10 +6,12 @@ use super::least::{Least, Tally};
 use super::search::FEW;
 use super::{agree, covered, hex};
 use crate::{Outcome, Run};
+use reference::brute::instances;
 use reference::clauses::count;
 use reference::finder::{find, read_back};
 use reference::long_search::long;
 use reference::random::Source;
+use reference::random_cells::{by_columns, cells};
 use reference::random_damage::any;
 use reference::random_list::budget;
 use reference::random_sheet::{gates_of, pigeonhole, sheet, style};
@@ -65,17 +67,41 @@ pub fn run(run: &Run) -> Outcome {
         if let Some(least) = few_cells(&bytes) {
             let asked = |how| format!("{how}, case {case}, sheet {}", hex(&bytes));
             compare_least(&mut whole, &least, (answer, &instance), || asked("find"))?;
-            let in_calls = in_calls(source, &bytes);
-            let (answer, instance) = in_calls.map_err(|number| format!("refused {number}, {}", asked("in calls")))?;
-            compare_least(&mut chained, &least, (Ok(answer), &instance), || asked("in calls"))?;
+            compare_in_calls(&mut chained, &least, source, &bytes, || asked("in calls"))?;
         }
     }
     covered(&tally, 50)?;
     whole.covered(50, 20)?;
     chained.covered(100, 50)?;
     let times: Vec<String> = tally.iter().map(|(what, times)| format!("{times} {what}")).collect();
-    let least = format!("{}; through resumed calls {}", whole.said(), chained.said());
+    let least = format!("{}; through resumed calls {}; {}", whole.said(), chained.said(), over_cells(run)?);
     Ok(format!("whole runs and read-backs agree: {}; {least}", times.join(", ")))
+}
+
+/// The same for sheets whose least instance depends on the order of the cells.
+fn over_cells(run: &Run) -> Outcome {
+    let (mut whole, mut chained, mut ordered) = (Tally::default(), Tally::default(), 0);
+    for case in run.cases(150) {
+        let source = &mut Source::new(run.seed, "solve, cells", case);
+        let sheet = cells(source);
+        let bytes = sheet.bytes();
+        let least = few_cells(&bytes).expect("few cells");
+        let asked = |how| format!("over cells, {how}, case {case}, sheet {}", hex(&bytes));
+        let (words, v, cells) = figures(&bytes);
+        let (mut list, mut values, mut trail, mut instance) = (vec![0; words], vec![0; v], vec![0; v], vec![9; cells]);
+        let budget = EFFORT / words as u64;
+        let answer = library::find(&bytes, &mut list, &mut values, &mut trail, &mut instance, budget);
+        agree(answer.err(), None, || asked("find"))?;
+        compare_least(&mut whole, &least, (answer, &instance), || asked("find"))?;
+        compare_in_calls(&mut chained, &least, source, &bytes, || asked("in calls"))?;
+        let by_columns = instances(&sheet).into_iter().min_by_key(|instance| by_columns(&sheet, instance));
+        ordered += usize::from(by_columns != least.first);
+    }
+    whole.covered(5, 20)?;
+    chained.covered(5, 20)?;
+    covered(&[("another least one by columns", ordered)], 20)?;
+    let said = format!("{}; through resumed calls {}", whole.said(), chained.said());
+    Ok(format!("over single cells, {ordered} with another least one by columns, {said}"))
 }
 
 fn some_sheet(source: &mut Source, case: u64) -> Vec<u8> {
@@ -107,6 +133,18 @@ fn compare_least(
         Ok(Answer { end: End::None, steps }) => tally.compare(None, steps.turns, least, asked),
         _ => Ok(()),
     }
+}
+
+/// The same for a chain of calls, in which nothing is refused.
+fn compare_in_calls(
+    tally: &mut Tally,
+    least: &Least,
+    source: &mut Source,
+    bytes: &[u8],
+    asked: impl Fn() -> String,
+) -> Result<(), String> {
+    let (answer, instance) = in_calls(source, bytes).map_err(|number| format!("refused {number}, {}", asked()))?;
+    compare_least(tally, least, (Ok(answer), &instance), asked)
 }
 
 /// Steps over a list that are waited for, times its words.
