@@ -47,6 +47,6 @@ pub fn nothing_ahead(
             Verdict::Unsatisfiable => None,
         })
     };
-    agree(None, ask(false)?, || format!("{solver} asked for one ahead, {}", asked()))?;
-    agree(Some(cells.to_vec()), ask(true)?, || format!("{solver} asked for it, {}", asked()))
+    agree(ask(false)?, None, || format!("{solver} asked for one ahead, {}", asked()))?;
+    agree(ask(true)?, Some(cells.to_vec()), || format!("{solver} asked for it, {}", asked()))
 }

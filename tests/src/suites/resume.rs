@@ -76,7 +76,7 @@ pub fn run(run: &Run) -> Outcome {
     }
     covered(&tally, 50)?;
     covered(&[("found by a chain", chained[0]), ("none", chained[1]), ("spent", chained[2]), ("an end", ended)], 100)?;
-    least.covered(30, 30)?;
+    least.covered(30, 15)?;
     let callers = callers::run(run)?;
     let chains = format!("{}, of several calls {}", chains(chained, calls), least.said());
     Ok(format!("{chains}; {ended} taken up after an end; {}; {callers}", others(&tally)))

@@ -97,8 +97,8 @@ fn over_cells(run: &Run) -> Outcome {
         let by_columns = instances(&sheet).into_iter().min_by_key(|instance| by_columns(&sheet, instance));
         ordered += usize::from(by_columns != least.first);
     }
-    whole.covered(5, 20)?;
-    chained.covered(5, 20)?;
+    whole.covered(3, 20)?;
+    chained.covered(3, 20)?;
     covered(&[("another least one by columns", ordered)], 20)?;
     let said = format!("{}; through resumed calls {}", whole.said(), chained.said());
     Ok(format!("over single cells, {ordered} with another least one by columns, {said}"))
