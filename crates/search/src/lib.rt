@@ -16,7 +16,8 @@ pub mod answer; // answer.rt: what a search answers, and where it stands
 mod fills; // fills.rt: slices, filled
 mod runs; // runs.rt: the run over slices that fit
 
-// The search from a fresh start within a budget. Its answer and all that it leaves are those of the definition `outcome`.
+// The search from a fresh start within a budget. Its answer and all that it leaves are those of the definition `outcome`; what "found" leaves
+// is the first satisfying assignment in variable order (`FoundFirst`).
 pub fn search(list: &[i32], v: u32, values: &mut [u8], trail: &mut [i32], budget: u64) -> Search
     ensures { λ r. ⌜ answerOf r ≡ outcome (now (list .entry)) v (now (values .entry)) (now (trail .entry)) budget .answer ⌝ }
     ensures { λ r. ⌜ now (values .exit) ≡ outcome (now (list .entry)) v (now (values .entry)) (now (trail .entry)) budget .values ⌝ }
