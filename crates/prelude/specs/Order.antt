@@ -15,7 +15,7 @@ Before (x ∷ xs) (y ∷ ys) = ((x ≡ 0) × (y ≡ 1)) ⊎ ((x ≡ y) × Before
 abbrev pub NoneBefore : (List ℕ → Type 0) → List ℕ → Type 0
 NoneBefore P xs = (other : List ℕ) → P other → Before other xs → ⊥
 
--- of those that have a property: none comes before itself, the order passes on, and of any two that differ one comes before the other
+-- the order is strict and total on those that have a property
 pub record StrictTotalOrder (P : List ℕ → Type 0) : Type 0 where
   pub irreflexive : (xs : List ℕ) → P xs → Before xs xs → ⊥
   pub transitive : (xs ys zs : List ℕ) → P xs → P ys → P zs → Before xs ys → Before ys zs → Before xs zs

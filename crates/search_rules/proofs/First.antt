@@ -1,6 +1,7 @@
--- What is found first: no satisfying assignment comes before it, in variable order, 0 before 1 (document 02, Change 5).
+-- What is found is the first: no satisfying assignment comes before it, in variable order, 0 before 1 (document 02, Change 5).
 -- Each literal that was turned or forced is forced by the clauses and the decisions before it: `Follows`, which every step keeps (Invariant.antt).
--- Each decision made the lowest open variable false: `LowestDecided`. So where a satisfying assignment has not the whole trail, it leaves it first
+-- Each decision made the lowest open variable false: `LowestDecided`. What was set once stays, since each variable was open when it was set:
+-- `WasOpen`. So where a satisfying assignment has not the whole trail, it leaves it first
 -- at a decision, with a 1.
 use mathlib.Core.Path.{_≡_, refl, sym, ap, _∙_}
 use mathlib.Core.Bool.{Bool, true, false, not}
@@ -31,7 +32,7 @@ use Rattle.search_rules.proofs.Reached.{after-keeps}
 use Rattle.search_rules.proofs.Again.{open-keeps}
 
 -- each decision was that of the lowest open variable: those below it were set before
-unfoldable pub LowestDecided : ℕ → State → Type 0
+unfoldable LowestDecided : ℕ → State → Type 0
 LowestDecided v [] = Unit {0}
 LowestDecided v (propagated l ∷ state) = LowestDecided v state
 LowestDecided v (decided i ∷ state) = ((j : ℕ) → j < i → getD (valuesOf v state) j 2 ≡ 2 → ⊥) × LowestDecided v state
@@ -49,12 +50,12 @@ module _ (clauses : List (List ℤ)) (v : ℕ) where
       }
 
 -- the assignment leaves the values: it has a 1 where they say false, and below that place all is set and it agrees
-pub record Leaves (a : Assignment) (values : List ℕ) : Type 0 where
-  pub place : ℕ
-  pub is-true : a place ≡ true
-  pub said-false : truthOf (getD values place 2) ≡ falsified
-  pub set-below : (j : ℕ) → j < place → getD values j 2 ≡ 2 → ⊥
-  pub agrees-below : (j : ℕ) → j < place → Agrees (truthOf (getD values j 2)) (a j)
+record Leaves (a : Assignment) (values : List ℕ) : Type 0 where
+  place : ℕ
+  is-true : a place ≡ true
+  said-false : truthOf (getD values place 2) ≡ falsified
+  set-below : (j : ℕ) → j < place → getD values j 2 ≡ 2 → ⊥
+  agrees-below : (j : ℕ) → j < place → Agrees (truthOf (getD values j 2)) (a j)
 
 -- a byte that says false is set
 false-set : (b : ℕ) → truthOf b ≡ falsified → b ≡ 2 → ⊥

@@ -1,5 +1,5 @@
--- Demand 3 of one call of `find`, in the paper's words: a part of its contract. The other part says that the answer and all lent slices
--- equal the definition `finding`, which has the number of each refusal.
+-- Demand 3 of one call of `find`, and the smallest case of document 02, Change 5, in the papers' words: a part of its contract. The other part
+-- says that the answer and all lent slices equal the definition `finding`, which has the number of each refusal.
 use mathlib.Core.Path.{_≡_}
 use mathlib.Core.Logic.{_↔_}
 use mathlib.Core.List.{List, [], _++_}
@@ -16,8 +16,8 @@ use Rattle.solve_rules.specs.Finding.{Slices}
 use Rattle.solve_rules.specs.Smallest.{Smallest}
 use Rattle.solve_rules.specs.Demand3.{FitsLimits, FitSlices}
 
--- an instance within the scopes that satisfies marks and formula stands in front of the slice, and none that does comes before it
--- (document 02, Change 5); what was lent after it is unchanged
+-- an instance within the scopes that satisfies marks and formula stands in front of the slice, and none that does comes before it; what was
+-- lent after it is unchanged
 pub record Holds (sheet : Sheet) (lent left : List ℕ) : Type 0 where
   pub instance : List ℕ
   pub solves : Solution sheet instance
