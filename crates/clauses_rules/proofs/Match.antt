@@ -6,7 +6,7 @@ use Prim.Native.Nat.{ℕ, suc, pred, _+_, _≤_}
 use native.Mathlib.Omega.{arith}
 use lib.Dec.{eqb}
 use lib.ListN.{length, getD, take, drop, length-append, length-map}
-use borrow.Author.Tests.{eqb-true, eq-eqb}
+use borrow.Author.Tests.{eq-eqb}
 use Rattle.prelude.specs.Tests.{all, any}
 use Rattle.prelude.proofs.Laws.{and-left, and-right, and-both}
 use Rattle.literal.specs.Literals.{Literal, positive, wordOf}
@@ -17,6 +17,7 @@ use Rattle.relational.specs.Trees.{rootTree}
 use Rattle.relational.specs.Cells.{cellCount, withinScopes}
 use Rattle.relational.specs.Matrices.{from, upto}
 use Rattle.relational.specs.Evaluation.{marksHold, truthOfTree, holds}
+use Rattle.relational.proofs.Scopes.{within-size, within-bits}
 use Rattle.clauses_rules.specs.Builder.{return, _<$>_}
 use Rattle.clauses_rules.specs.Gates.{Clause, gatesClauses}
 use Rattle.clauses_rules.specs.Translation.{translateTree}
@@ -181,12 +182,11 @@ module _ (sheet : Sheet) where
       }
 
   meets-of : (i : List ℕ) → Instance i → Meets sheetDemand (flags i)
-  unfolding withinScopes holds all
+  unfolding holds all
   meets-of i h =
-      let e = and-left (eqb (length i) (cellCount sheet)) (all isBit i) (h .within) in
-      let b : all isBit i ≡ true = and-right (eqb (length i) (cellCount sheet)) (all isBit i) (h .within) in
+      let b : all isBit i ≡ true = within-bits sheet i (h .within) in
       record {
-        size = length-map i (λ (b : ℕ). eqb b 1) ∙ eqb-true (length i) (cellCount sheet) e;
+        size = length-map i (λ (b : ℕ). eqb b 1) ∙ within-size sheet i (h .within);
         marks = rw (bytes-flags i b) (and-left (marksHold sheet i) (truthOfTree sheet i (rootTree sheet)) (h .holds));
         agrees = refl;
         facts =
@@ -203,17 +203,16 @@ module _ (sheet : Sheet) where
       (instance-of (readBits (flags a)) (reads-meet sheetParts sheetDemand sheet-stores (flags a) (solves a h)))
 
   pub exactly-one : (i : List ℕ) → Instance i → ReadBackOnce sheet i
-  unfolding withinScopes sheet-stores
+  unfolding sheet-stores
   exactly-one i h =
       let o = once sheetParts sheetDemand sheet-stores (flags i) (meets-of i h) in
       let b : List Bool = o .assignment in
-      let bits : all isBit i ≡ true = and-right (eqb (length i) (cellCount sheet)) (all isBit i) (h .within) in
       record {
         assignment = bytes b;
         satisfying = solved b (o .solves);
         reads =
             sym (read-bytes (bytes b) (bytes-bits b)) ∙ ap (λ (x : List Bool). bytes (readBits x)) (flags-bytes b)
-            ∙ ap bytes (o .reads) ∙ bytes-flags i bits;
+            ∙ ap bytes (o .reads) ∙ bytes-flags i (within-bits sheet i (h .within));
         only = λ a s e.
             sym (bytes-flags a (s .bits)) ∙ ap bytes (o .only (flags a) (solves a s) (read-flags a ∙ ap flags e));
       }

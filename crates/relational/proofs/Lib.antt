@@ -1,3 +1,4 @@
+pub mod Scopes
 pub mod Places
 pub mod Rounds
 pub mod Flags

@@ -5,16 +5,16 @@ use mathlib.Core.List.{List, [], _∷_, _++_}
 use Prim.Native.Nat.{ℕ, _<_}
 use native.Mathlib.Nat.{mul-le-mul-right}
 use native.Mathlib.Omega.{arith}
-use lib.Dec.{eqb, leb}
+use lib.Dec.{leb}
 use lib.ListN.{length, getD, take, drop, List·getD-append}
 use lib.Seq.{take-at}
-use borrow.Author.Tests.{eqb-true, leb-true, leb-false}
-use Rattle.prelude.proofs.Laws.{and-left, decided}
+use borrow.Author.Tests.{leb-true, leb-false}
+use Rattle.prelude.proofs.Laws.{decided}
 use Rattle.text.specs.Texts.{bytesOf, decimal, endLine, Prints}
 use Rattle.sheet_rules.specs.Blocks.{Sheet, sheetOf, byte, relationCount}
 use Rattle.cells.proofs.Layouts.{relation-ends}
-use Rattle.relational.specs.Cells.{rowCount, rowLength, cellCount, cell, withinScopes}
-use Rattle.clauses_rules.specs.Matching.{Solution}
+use Rattle.relational.specs.Cells.{rowCount, rowLength, cellCount, cell}
+use Rattle.relational.proofs.Scopes.{within-size}
 use Rattle.clauses_rules.proofs.Series.{same-series}
 use Rattle.search_rules.specs.declared.Steps.{Steps}
 use Rattle.search_rules.specs.Run.{total}
@@ -50,10 +50,6 @@ module _ (sheet : Sheet) (instance rest : List ℕ) (e : length instance ≡ cel
   unfolding relationLines
   lines-of = same-series (relationCount sheet) (relationLine sheet (instance ++ rest)) (relationLine sheet instance) line-of
 
-solution-size : (sheet : Sheet) (instance : List ℕ) → Solution sheet instance → length instance ≡ cellCount sheet
-unfolding withinScopes
-solution-size sheet instance p = eqb-true (length instance) (cellCount sheet) (and-left (eqb (length instance) (cellCount sheet)) _ (p .within))
-
 shows : (sheet : Sheet) (lent left : List ℕ) (steps : Steps) → Holds sheet lent left → ShowsSmallest sheet (report (found steps) sheet left)
 shows sheet lent left steps h =
     record {
@@ -64,7 +60,7 @@ shows sheet lent left steps h =
       shows =
           ap (λ (ls : List ℕ). endLine (bytesOf "found ") (total steps) ++ ls)
           (ap (relationLines sheet) (h .stands)
-          ∙ lines-of sheet (h .instance) (drop (length (h .instance)) lent) (solution-size sheet (h .instance) (h .solves)));
+          ∙ lines-of sheet (h .instance) (drop (length (h .instance)) lent) (within-size sheet (h .instance) (h .solves .within)));
     }
 
 abbrev first : List ℕ → ℕ

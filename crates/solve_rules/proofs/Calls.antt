@@ -3,15 +3,15 @@ use mathlib.Core.Path.{_≡_, sym, ap, _∙_}
 use mathlib.Core.Bool.{true, cond}
 use mathlib.Core.List.{List, _++_}
 use Prim.Native.Nat.{ℕ, _≤_}
-use lib.Dec.{eqb, leb}
+use lib.Dec.{leb}
 use lib.IntN.{ℤ}
 use lib.ListN.{length, take, drop}
 use lib.Seq.{take-at}
-use borrow.Author.Tests.{le-leb, eq-eqb, eqb-true}
-use Rattle.prelude.specs.Tests.{all}
-use Rattle.prelude.proofs.Laws.{and-left, and-right, and-both}
+use borrow.Author.Tests.{le-leb, eq-eqb}
+use Rattle.prelude.proofs.Laws.{and-both}
 use Rattle.sheet_rules.specs.Blocks.{sheetOf}
 use Rattle.relational.specs.Cells.{cellCount, withinScopes}
+use Rattle.relational.proofs.Scopes.{within-size, within-bits}
 use Rattle.clauses_rules.specs.Whole.{words, variableTotal, clauseTotal, wordTotal, readBack}
 use Rattle.clauses.specs.Answers as count
 use Rattle.clauses.specs.Answers.{fits, countAfter, countAnswer, writeAfter, writeAnswer, listAfter}
@@ -44,19 +44,15 @@ module _ (s : List ℕ) (h : FitsLimits s) where
   module _ (values lent : List ℕ) (one-each : length values ≡ variableTotal (sheetOf s))
       (within : withinScopes (sheetOf s) (readBack (sheetOf s) values) ≡ true) (room : cellCount (sheetOf s) ≤ length lent) where
     read-size : length (readBack (sheetOf s) values) ≡ cellCount (sheetOf s)
-    unfolding withinScopes
-    read-size = eqb-true _ _ (and-left _ _ within)
-
-    read-bits : all (λ (b : ℕ). leb b 1) (readBack (sheetOf s) values) ≡ true
-    unfolding withinScopes
-    read-bits = and-right (eqb (length (readBack (sheetOf s) values)) (cellCount (sheetOf s))) _ within
+    read-size = within-size (sheetOf s) (readBack (sheetOf s) values) within
 
     answers-cells : readBackAnswer s values lent ≡ copied (cellCount (sheetOf s))
     unfolding readBackAnswer
     answers-cells =
         ap (λ a. readBackAfter a (sheetOf s) values (length lent)) counts
         ∙ ap (λ b. cond b (cond (leb (cellCount (sheetOf s)) (length lent)) (copied (cellCount (sheetOf s))) (refused 13)) (refused 11))
-        (and-both _ _ (eq-eqb (length values) (variableTotal (sheetOf s)) one-each) read-bits)
+        (and-both _ _ (eq-eqb (length values) (variableTotal (sheetOf s)) one-each)
+        (within-bits (sheetOf s) (readBack (sheetOf s) values) within))
         ∙ ap (λ b. cond b (copied (cellCount (sheetOf s))) (refused 13)) (le-leb (cellCount (sheetOf s)) (length lent) room)
 
     pub instance-after : instanceAfter s values lent ≡ readBack (sheetOf s) values ++ drop (cellCount (sheetOf s)) lent

@@ -1,27 +1,9 @@
 -- The order is a strict total order on the instances of a sheet: they are lists of bits of one length. So the smallest is one.
-use mathlib.Core.Path.{_≡_, sym, _∙_}
-use mathlib.Core.Bool.{true}
+use mathlib.Core.Path.{sym, _∙_}
 use mathlib.Core.Logic.{⊎-elim}
-use mathlib.Core.List.{List}
-use Prim.Native.Nat.{ℕ}
-use lib.Dec.{eqb, leb}
-use lib.ListN.{length}
-use borrow.Author.Tests.{eqb-true}
-use Rattle.prelude.specs.Tests.{all}
-use Rattle.prelude.proofs.Laws.{and-left, and-right}
 use Rattle.prelude.proofs.Order.{before-irreflexive, before-transitive, before-total}
-use Rattle.sheet_rules.specs.Blocks.{Sheet}
-use Rattle.relational.specs.Cells.{cellCount, withinScopes}
+use Rattle.relational.proofs.Scopes.{within-size, within-bits}
 use Rattle.solve_rules.specs.Smallest.{InstancesOrdered, SameSmallest}
-
-module _ (sheet : Sheet) (instance : List ℕ) (h : withinScopes sheet instance ≡ true) where
-  instance-size : length instance ≡ cellCount sheet
-  unfolding withinScopes
-  instance-size = eqb-true _ _ (and-left _ _ h)
-
-  instance-bits : all (λ (b : ℕ). leb b 1) instance ≡ true
-  unfolding withinScopes
-  instance-bits = and-right (eqb (length instance) (cellCount sheet)) _ h
 
 pub instances-ordered : InstancesOrdered
 instances-ordered sheet =
@@ -29,7 +11,7 @@ instances-ordered sheet =
       irreflexive = λ i h. before-irreflexive i;
       transitive = λ i j k f g h. before-transitive i j k;
       total = λ i j f g.
-          before-total i j (instance-size sheet i f ∙ sym (instance-size sheet j g)) (instance-bits sheet i f) (instance-bits sheet j g);
+          before-total i j (within-size sheet i f ∙ sym (within-size sheet j g)) (within-bits sheet i f) (within-bits sheet j g);
     }
 
 pub same-smallest : SameSmallest

@@ -17,7 +17,7 @@ Smallest sheet instance = NoneBefore (Solution sheet) instance
 abbrev pub InstancesOrdered : Type 0
 InstancesOrdered = (sheet : Sheet) → StrictTotalOrder (λ (instance : List ℕ). withinScopes sheet instance ≡ true)
 
--- "Roasters compare printed cases between releases": two sheets that the same instances satisfy have the same smallest
+-- to "compare printed cases between releases": two sheets that the same instances satisfy have the same smallest
 abbrev pub SameSmallest : Type 0
 SameSmallest = (sheet other : Sheet) → ((instance : List ℕ) → Solution sheet instance ↔ Solution other instance)
     → (i j : List ℕ) → Solution sheet i → Smallest sheet i → Solution other j → Smallest other j → i ≡ j
