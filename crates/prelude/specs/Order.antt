@@ -20,3 +20,17 @@ pub record StrictTotalOrder (P : List ℕ → Type 0) : Type 0 where
   pub irreflexive : (xs : List ℕ) → P xs → Before xs xs → ⊥
   pub transitive : (xs ys zs : List ℕ) → P xs → P ys → P zs → Before xs ys → Before ys zs → Before xs zs
   pub total : (xs ys : List ℕ) → P xs → P ys → (Before xs ys) ⊎ ((xs ≡ ys) ⊎ (Before ys xs))
+
+-- a property of each of a list, and of one of it
+unfoldable pub Each : {A : Type 0} → (A → Type 0) → List A → Type 0
+Each P [] = Unit {0}
+Each P (x ∷ xs) = P x × Each P xs
+
+unfoldable pub Some : {A : Type 0} → (A → Type 0) → List A → Type 0
+Some P [] = ⊥
+Some P (x ∷ xs) = P x ⊎ Some P xs
+
+-- of any two of a list, the earlier stands so to the later
+unfoldable pub Pairs : {A : Type 0} → (A → A → Type 0) → List A → Type 0
+Pairs R [] = Unit {0}
+Pairs R (x ∷ xs) = Each (R x) xs × Pairs R xs

@@ -14,7 +14,7 @@ use Rattle.search_rules.proofs.StepView.{Kept, steps-keep, Ends, run-en
 
 -- a step from a state over v variables leads to one
 module _ (v : ℕ) (clauses : List (List ℤ)) (ranged : Ranged v clauses) where
-  open-kept : Kept clauses v (WasOpen v)
+  pub open-kept : Kept clauses v (WasOpen v)
   unfolding WasOpen wordOf placeOf
   open-kept =
       record {

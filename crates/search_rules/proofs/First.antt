@@ -19,26 +19,26 @@ use Rattle.prelude.proofs.Laws.{clash, all-at}
 use Rattle.prelude.proofs.Order.{before-irreflexive, before-transitive, before-at}
 use Rattle.clause_list.specs.ClauseList.{Satisfying}
 use Rattle.search_rules.specs.Held.{WasOpen}
-use Rattle.search_rules.specs.Rules.{falsified, unassigned, truthOf, negated, Entry, propagated, decided, State, wordOf, byteOf, placeOf}
+use Rattle.search_rules.specs.Rules.{Truth, falsified, satisfied, unassigned, truthOf, negated, Entry, propagated, decided, State, wordOf, byteOf, placeOf}
 use Rattle.search_rules.specs.Rules.{valuesOf, Kind, endFound, step, next, settle}
 use Rattle.search_rules.specs.Run.{after}
 use Rattle.search_rules.proofs.Assignments.{Assignment, assignment, holds, Has, Agrees, Follows, values-agree, model-of}
 use Rattle.search_rules.proofs.Ranges.{Ranged}
 use Rattle.search_rules.proofs.StepView.{Full, Kept, steps-keep}
 use Rattle.search_rules.proofs.Invariant.{length-values, follows-keeps}
-use Rattle.search_rules.proofs.Found.{byte-at, settle-false, found-ended}
+use Rattle.search_rules.proofs.Found.{byte-at, settle-true, settle-false, place-below, found-ended}
 use Rattle.search_rules.proofs.Reached.{after-keeps}
 use Rattle.search_rules.proofs.Again.{open-keeps}
 
 -- each decision was that of the lowest open variable: those below it were set before
-unfoldable LowestDecided : ℕ → State → Type 0
+unfoldable pub LowestDecided : ℕ → State → Type 0
 LowestDecided v [] = Unit {0}
 LowestDecided v (propagated l ∷ state) = LowestDecided v state
 LowestDecided v (decided i ∷ state) = ((j : ℕ) → j < i → getD (valuesOf v state) j 2 ≡ 2 → ⊥) × LowestDecided v state
 
 -- every step keeps it
 module _ (clauses : List (List ℤ)) (v : ℕ) where
-  lowest-kept : Kept clauses v (LowestDecided v)
+  pub lowest-kept : Kept clauses v (LowestDecided v)
   unfolding LowestDecided
   lowest-kept =
       record {
@@ -48,66 +48,75 @@ module _ (clauses : List (List ℤ)) (v : ℕ) where
         on-decision = λ i state low h. (low .below, h);
       }
 
--- the assignment leaves the values: it has a 1 where they say false, and below that place all is set and it agrees
-record Leaves (a : Assignment) (values : List ℕ) : Type 0 where
-  place : ℕ
-  is-true : a place ≡ true
-  said-false : truthOf (getD values place 2) ≡ falsified
-  set-below : (j : ℕ) → j < place → getD values j 2 ≡ 2 → ⊥
-  agrees-below : (j : ℕ) → j < place → Agrees (truthOf (getD values j 2)) (a j)
+-- what values say at a place where an assignment with this bit is not what they say
+abbrev opposite : Bool → Truth
+opposite true = falsified
+opposite false = satisfied
 
--- a byte that says false is set
-false-set : (b : ℕ) → truthOf b ≡ falsified → b ≡ 2 → ⊥
+-- the assignment parts from the values: at a place it has a bit, and they say the opposite; below that place all is set and it agrees
+pub record Parts (bit : Bool) (a : Assignment) (values : List ℕ) : Type 0 where
+  pub place : ℕ
+  pub has : a place ≡ bit
+  pub said : truthOf (getD values place 2) ≡ opposite bit
+  pub set-below : (j : ℕ) → j < place → getD values j 2 ≡ 2 → ⊥
+  pub agrees-below : (j : ℕ) → j < place → Agrees (truthOf (getD values j 2)) (a j)
+
+-- a byte that says something is set
+said-set : (bit : Bool) (b : ℕ) → truthOf b ≡ opposite bit → b ≡ 2 → ⊥
 unfolding truthOf
-false-set b f e = let q : unassigned ≡ falsified = sym (ap truthOf e) ∙ f in let z : _≡_ {A = ℕ} 0 1 = cc in omega arith
+said-set true b f e = let q : unassigned ≡ falsified = sym (ap truthOf e) ∙ f in let z : _≡_ {A = ℕ} 0 1 = cc in omega arith
+said-set false b f e = let q : unassigned ≡ satisfied = sym (ap truthOf e) ∙ f in let z : _≡_ {A = ℕ} 0 1 = cc in omega arith
 
 module _ (a : Assignment) (v : ℕ) where
   -- what is set stays as it is when an open variable is set
-  set-other : (e : Entry) (state : State) (j : ℕ) → getD (valuesOf v state) (placeOf (wordOf e)) 2 ≡ 2 → (getD (valuesOf v state) j 2 ≡ 2 → ⊥)
+  pub set-other : (e : Entry) (state : State) (j : ℕ) → getD (valuesOf v state) (placeOf (wordOf e)) 2 ≡ 2 → (getD (valuesOf v state) j 2 ≡ 2 → ⊥)
       → getD (valuesOf v (e ∷ state)) j 2 ≡ getD (valuesOf v state) j 2
   unfolding valuesOf
   set-other e state j o h = getD-set-other (valuesOf v state) (placeOf (wordOf e)) j (byteOf e) 2 (λ d. h (rw d o))
 
-  leaves-later : (e : Entry) (state : State) → getD (valuesOf v state) (placeOf (wordOf e)) 2 ≡ 2
-      → Leaves a (valuesOf v state) → Leaves a (valuesOf v (e ∷ state))
-  leaves-later e state o l =
+  pub parts-later : (bit : Bool) (e : Entry) (state : State) → getD (valuesOf v state) (placeOf (wordOf e)) 2 ≡ 2
+      → Parts bit a (valuesOf v state) → Parts bit a (valuesOf v (e ∷ state))
+  parts-later bit e state o l =
       let same : (j : ℕ) → (getD (valuesOf v state) j 2 ≡ 2 → ⊥) → getD (valuesOf v (e ∷ state)) j 2 ≡ getD (valuesOf v state) j 2 =
       λ j h. set-other e state j o h in
       record {
         place = l .place;
-        is-true = l .is-true;
-        said-false = rw (same (l .place) (false-set _ (l .said-false))) (l .said-false);
+        has = l .has;
+        said = rw (same (l .place) (said-set bit _ (l .said))) (l .said);
         set-below = λ j h. rw (same j (l .set-below j h)) (l .set-below j h);
         agrees-below = λ j h. rw (same j (l .set-below j h)) (l .agrees-below j h);
       }
 
-  leaves-here : (i : ℕ) (state : State) → WasOpen v (decided i ∷ state) → LowestDecided v (decided i ∷ state) → Has a state → a i ≡ true
-      → Leaves a (valuesOf v (decided i ∷ state))
-  unfolding WasOpen LowestDecided wordOf placeOf
-  leaves-here i state o low g t =
-      let b : getD (valuesOf v (decided i ∷ state)) i 2 ≡ 3 =
-      unfold valuesOf byteOf in getD-set-same (valuesOf v state) i 3 2 (let h = o .0 .1 in omega (arith, length-values v state)) in
-      let same : (j : ℕ) → j < i → getD (valuesOf v (decided i ∷ state)) j 2 ≡ getD (valuesOf v state) j 2 =
-      λ j h. set-other (decided i) state j (o .1) (low .0 j h) in
+  -- at an entry whose byte says the opposite
+  pub parts-here : (bit : Bool) (e : Entry) (state : State) → WasOpen v (e ∷ state) → truthOf (byteOf e) ≡ opposite bit
+      → ((j : ℕ) → j < placeOf (wordOf e) → getD (valuesOf v state) j 2 ≡ 2 → ⊥) → Has a state → a (placeOf (wordOf e)) ≡ bit
+      → Parts bit a (valuesOf v (e ∷ state))
+  unfolding WasOpen
+  parts-here bit e state o t low g h =
+      let i = placeOf (wordOf e) in
+      let b : getD (valuesOf v (e ∷ state)) i 2 ≡ byteOf e =
+      unfold valuesOf in getD-set-same (valuesOf v state) i (byteOf e) 2 (rw (length-values v state) (place-below v (wordOf e) (o .0))) in
+      let same : (j : ℕ) → j < i → getD (valuesOf v (e ∷ state)) j 2 ≡ getD (valuesOf v state) j 2 =
+      λ j l. set-other e state j (o .1) (low j l) in
       record {
         place = i;
-        is-true = t;
-        said-false = rw b (unfold truthOf in refl);
-        set-below = λ j h. rw (same j h) (low .0 j h);
-        agrees-below = λ j h. rw (same j h) (values-agree a v state g j);
+        has = h;
+        said = rw b t;
+        set-below = λ j l. rw (same j l) (low j l);
+        agrees-below = λ j l. rw (same j l) (values-agree a v state g j);
       }
 
   -- an assignment of which all that follows holds has every literal of the trail, or leaves it at a decision
-  has-or-leaves : (state : State) → WasOpen v state → LowestDecided v state → Follows a state → Has a state ⊎ Leaves a (valuesOf v state)
+  pub has-or-leaves : (state : State) → WasOpen v state → LowestDecided v state → Follows a state → Has a state ⊎ Parts true a (valuesOf v state)
   unfolding WasOpen LowestDecided Follows Has wordOf holds
   has-or-leaves [] o low f = inl tt
   has-or-leaves (propagated l ∷ state) o low f =
-      ⊎-elim (λ g. inl (f .0 g, g)) (λ d. inr (leaves-later (propagated l) state (unfold wordOf in o .1) d)) (has-or-leaves state (o .2) low (f .1))
+      ⊎-elim (λ g. inl (f .0 g, g)) (λ d. inr (parts-later true (propagated l) state (unfold wordOf in o .1) d)) (has-or-leaves state (o .2) low (f .1))
   has-or-leaves (decided i ∷ state) o low f =
-      ⊎-elim (by (a i) refl) (λ d. inr (leaves-later (decided i) state (unfold wordOf in o .1) d)) (has-or-leaves state (o .2) (low .1) f)
+      ⊎-elim (by (a i) refl) (λ d. inr (parts-later true (decided i) state (unfold wordOf in o .1) d)) (has-or-leaves state (o .2) (low .1) f)
     where
-      by : (b : Bool) → a i ≡ b → Has a state → Has a (decided i ∷ state) ⊎ Leaves a (valuesOf v (decided i ∷ state))
-      by true e g = inr (leaves-here i state o low g e)
+      by : (b : Bool) → a i ≡ b → Has a state → Has a (decided i ∷ state) ⊎ Parts true a (valuesOf v (decided i ∷ state))
+      by true e g = inr (parts-here true (decided i) state o (unfold byteOf truthOf in refl) (unfold wordOf placeOf in low .0) g (unfold wordOf placeOf in e))
       by false e g = inl (ap not e, g)
 
 -- the settled byte of a variable that is set is that of an assignment which agrees
@@ -144,21 +153,36 @@ module _ (clauses : List (List ℤ)) (v : ℕ) (state : State) (full : Full (val
       List·getD-map settle values i 2
       ∙ settled-is (getD values i 2) (getD a i 2) (byte-at v state i) n (leb-true (getD a i 2) 1 (all-at (λ b. leb b 1) a (s .bits) i 2 inside)) g
 
+  -- its bit where it is false
+  same-bit : (i : ℕ) → assignment a i ≡ false → i < length values → getD a i 2 ≡ 0
+  unfolding assignment
+  same-bit i e h =
+      sym (bit-false (getD a i 2)
+      (leb-true (getD a i 2) 1 (all-at (λ b. leb b 1) a (s .bits) i 2 (omega (arith, length-values v state, s .size)))) e)
+
   -- one that has every literal of the trail is what is left
-  has-same : Has (assignment a) state → left ≡ a
+  pub has-same : Has (assignment a) state → left ≡ a
   has-same g =
       let size : length left ≡ v = length-map values settle ∙ length-values v state in
       ext-getD 2 left a (size ∙ sym (s .size))
       (λ i h. same-at i (full i (omega (arith, size, length-values v state))) (values-agree (assignment a) v state g i))
 
   -- one that leaves it comes later
-  leaves-after : Leaves (assignment a) values → Before left a
+  pub leaves-after : Parts true (assignment a) values → Before left a
   unfolding assignment negated
   leaves-after l =
       before-at (l .place) left a
-      (List·getD-map settle values (l .place) 2 ∙ settle-false (getD values (l .place) 2) (byte-at v state (l .place)) (ap negated (l .said-false)))
-      (eqb-true (getD a (l .place) 2) 1 (l .is-true))
+      (List·getD-map settle values (l .place) 2 ∙ settle-false (getD values (l .place) 2) (byte-at v state (l .place)) (ap negated (l .said)))
+      (eqb-true (getD a (l .place) 2) 1 (l .has))
       (λ j h. same-at j (l .set-below j h) (l .agrees-below j h))
+
+  -- and one that it left comes before
+  pub left-before : Parts false (assignment a) values → Before a left
+  left-before l =
+      before-at (l .place) a left
+      (same-bit (l .place) (l .has) (set-inside values (l .place) (said-set false _ (l .said))))
+      (List·getD-map settle values (l .place) 2 ∙ settle-true (getD values (l .place) 2) (l .said))
+      (λ j h. sym (same-at j (l .set-below j h) (l .agrees-below j h)))
 
   not-before : WasOpen v state → LowestDecided v state → Follows (assignment a) state → Before a left → ⊥
   not-before o low f b =

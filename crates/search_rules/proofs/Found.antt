@@ -73,7 +73,7 @@ small-at (b ∷ values) (suc i) h = small-at values i (h .1)
 pub byte-at : (v : ℕ) (state : State) (i : ℕ) → getD (valuesOf v state) i 2 ≤ 3
 byte-at v state i = small-at (valuesOf v state) i (bytes v state)
 
-settle-true : (b : ℕ) → truthOf b ≡ satisfied → settle b ≡ 1
+pub settle-true : (b : ℕ) → truthOf b ≡ satisfied → settle b ≡ 1
 unfolding truthOf
 settle-true zero e = cc
 settle-true (suc zero) e = refl

@@ -25,12 +25,12 @@ length-values v [] = length-replicate v 2
 length-values v (e ∷ state) = simp length-set (length-values v state)
 
 -- what follows stays so
-unfoldable Keeps : Assignment → Next → Type 0
+unfoldable pub Keeps : Assignment → Next → Type 0
 Keeps a endNone = ⊥
 Keeps a endFound = Unit {0}
 Keeps a (step kind s) = Follows a s
 
-turn-keeps : (a : Assignment) (state : State) → Follows a state → (Has a state → ⊥) → Keeps a (turn state)
+pub turn-keeps : (a : Assignment) (state : State) → Follows a state → (Has a state → ⊥) → Keeps a (turn state)
 unfolding turn Follows Keeps Has wordOf
 turn-keeps a [] f n = n tt
 turn-keeps a (propagated l ∷ state) f n = turn-keeps a state (f .1) (λ g. n (f .0 g, g))

@@ -8,6 +8,8 @@ pub mod Reached
 pub mod Again
 pub mod First
 pub mod Theorems
+pub mod Following
+pub mod Passed
 pub mod Counting
 pub mod Trails
 mod Conditions

@@ -110,12 +110,12 @@ pub record Kept (clauses : List (List ℤ)) (v : ℕ) (P : State → Type 0) : T
   pub on-decision : (i : ℕ) (state : State) → Lowest (valuesOf v state) i → P state → P (decided i ∷ state)
 
 module _ (clauses : List (List ℤ)) (v : ℕ) (P : State → Type 0) (kept : Kept clauses v P) where
-  abbrev Leads : Next → Type 0
+  abbrev pub Leads : Next → Type 0
   Leads endNone = Unit {0}
   Leads endFound = Unit {0}
   Leads (step kind s) = P s
 
-  turn-leads : (state : State) → P state → Leads (turn state)
+  pub turn-leads : (state : State) → P state → Leads (turn state)
   unfolding turn
   turn-leads [] p = tt
   turn-leads (propagated l ∷ state) p = turn-leads state (kept .on-opening l state p)

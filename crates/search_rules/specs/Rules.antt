@@ -140,6 +140,6 @@ next clauses v state =
           [ some l ↦ step propagation (propagated l ∷ state) | none ↦ decide state (lowestOpen 0 values) ]
     ]
 
--- "With all set and no such clause the end is "found", and 3s become 0."
+-- "So "found" keeps its 3s in the lent values, and read-back takes 3 as 0" (document 02, Change 6): the bit that the byte of a set variable gives
 abbrev pub settle : ℕ → ℕ
 settle b = cond (eqb b 3) 0 b
