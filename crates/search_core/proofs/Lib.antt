@@ -2,3 +2,4 @@ pub mod Slices
 mod Lowest
 mod StepCode
 mod RunCode
+mod NextCode

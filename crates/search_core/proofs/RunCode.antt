@@ -76,12 +76,12 @@ byte-decided : (i : ℕ) → byteOf (decided i) ≡ 3
 unfolding byteOf
 byte-decided i = refl
 
-abbrev goesOn : Next → Bool
+abbrev pub goesOn : Next → Bool
 goesOn endNone = false
 goesOn endFound = false
 goesOn (step kind state) = true
 
-three-turn : (v : ℕ) (state : State) → WasOpen v state → any isThree (valuesOf v state) ≡ goesOn (turn state)
+pub three-turn : (v : ℕ) (state : State) → WasOpen v state → any isThree (valuesOf v state) ≡ goesOn (turn state)
 unfolding valuesOf WasOpen turn
 three-turn v [] h = any-fill v
 three-turn v (propagated l ∷ state) h =

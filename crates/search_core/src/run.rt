@@ -7,8 +7,9 @@ ghost use lib.ListN.{length};
 ghost use Rattle.prelude.specs.Tests.{any};
 ghost use Rattle.clause_list.specs.ClauseList.{clausesOf};
 ghost use Rattle.literal.specs.Literals.{lastVariable};
-ghost use Rattle.search_rules.specs.Rules.{State, valuesOf, next};
+ghost use Rattle.search_rules.specs.Rules.{State, valuesOf, endFound, next};
 ghost use Rattle.search_rules.specs.Run.{total, count, run};
+ghost use Rattle.search_rules.specs.Following.{followingRun};
 ghost use Rattle.search_rules.specs.Held.{stepsOf, positionOf, WasOpen, Stored};
 ghost use Rattle.search_rules.specs.Inner.{Fine};
 ghost use Rattle.search_core.specs.Inner.{SomeStored, kindOf, endAfter, Ended};
@@ -144,6 +145,65 @@ pub fn run(list: &[i32], values: &mut [u8], trail: &mut [i32], start: Position, 
         End::Found => Ran { end, position },
         End::Spent => Ran { end, position },
     }
+}
+
+// A call for the next on a full assignment, which is a clash: the latest decision is turned, and the run goes on; without one it ends.
+fn turn_full(
+    list: &[i32],
+    values: &mut [u8],
+    trail: &mut [i32],
+    start: Position,
+    budget: u64,
+) -> Ran
+    requires { ⌜ Fine (length (now values)) (now list) ⌝ }
+    requires { ⌜ length (now values) ≤ lastVariable ⌝ }
+    requires { ⌜ SomeStored (length (now values)) (now values) (now trail) (start .length) ⌝ }
+    requires { ⌜ total (stepsOf start) + budget < 2 ^ 64 ⌝ }
+    ensures { λ r. ⌜ ((state : State) → Stored (length (now (values .entry))) state (now (values .entry)) (now (trail .entry)) (start .length)
+        → next (clausesOf (now (list .entry))) (length (now (values .entry))) state ≡ endFound
+        → Ended (length (now (values .entry)))
+        (followingRun (clausesOf (now (list .entry))) (length (now (values .entry))) budget (stepsOf start) state)
+        r (now (values .exit)) (now (trail .exit))) ⌝ }
+{
+    let used = start.length;
+    if !any_decision(values) {
+        back(values, trail, used);
+        let end = End::None;
+        let position = emptied(start);
+        return Ran { end, position };
+    }
+    if budget == 0 {
+        let end = End::Spent;
+        let position = start;
+        return Ran { end, position };
+    }
+    let n = back(values, trail, used);
+    let position = advance(start, StepKind::Backtrack, n);
+    run(list, values, trail, position, budget - 1)
+}
+
+// The run of a call for the next, from the state that the slices and the position hold.
+pub fn run_next(
+    list: &[i32],
+    values: &mut [u8],
+    trail: &mut [i32],
+    start: Position,
+    budget: u64,
+) -> Ran
+    requires { ⌜ Fine (length (now values)) (now list) ⌝ }
+    requires { ⌜ length (now values) ≤ lastVariable ⌝ }
+    requires { ⌜ SomeStored (length (now values)) (now values) (now trail) (start .length) ⌝ }
+    requires { ⌜ total (stepsOf start) + budget < 2 ^ 64 ⌝ }
+    ensures { λ r. ⌜ ((state : State) → Stored (length (now (values .entry))) state (now (values .entry)) (now (trail .entry)) (start .length)
+        → Ended (length (now (values .entry)))
+        (followingRun (clausesOf (now (list .entry))) (length (now (values .entry))) budget (stepsOf start) state)
+        r (now (values .exit)) (now (trail .exit))) ⌝ }
+{
+    let end = ends(list, values);
+    if let End::Found = end {
+        return turn_full(list, values, trail, start, budget);
+    }
+    run(list, values, trail, start, budget)
 }
 
 // The position of a fresh state, with the steps done.

@@ -61,6 +61,11 @@ module _ (clauses : List (List ℤ)) (v : ℕ) where
       by endFound d e = inr (d, e)
       by (step k s') d e = absurd (let z : _≡_ {A = ℕ} 0 1 = cc in omega arith)
 
+  -- on a full assignment it is the turn
+  pub first-full : (state : State) → next clauses v state ≡ endFound → firstStep clauses v state ≡ turn state
+  unfolding firstStep
+  first-full state e = rw (e, firstStep) refl
+
   turn-not-found : (state : State) → turn state ≡ endFound → ⊥
   turn-not-found state e = ⊎-elim (λ t. let z : _≡_ {A = ℕ} 0 1 = cc in omega arith) (λ t. other (t .0) (t .1)) (turns-of state)
     where
