@@ -73,7 +73,7 @@ module _ (clauses : List (List ℤ)) (v : ℕ) where
       other s t = let z : _≡_ {A = ℕ} 0 1 = cc in omega arith
 
   -- it is never an end with "found"
-  first-not-found : (state : State) → firstStep clauses v state ≡ endFound → ⊥
+  pub first-not-found : (state : State) → firstStep clauses v state ≡ endFound → ⊥
   unfolding firstStep
   first-not-found state e = by (next clauses v state) e
     where
