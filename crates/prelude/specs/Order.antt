@@ -34,3 +34,11 @@ Some P (x ∷ xs) = P x ⊎ Some P xs
 unfoldable pub Pairs : {A : Type 0} → (A → A → Type 0) → List A → Type 0
 Pairs R [] = Unit {0}
 Pairs R (x ∷ xs) = Each (R x) xs × Pairs R xs
+
+-- a list of those that have a property, as far as it goes: each of them has it, they stand in ascending order, each once, and one that is not
+-- among them comes after all of them
+pub record Lists (P : List ℕ → Type 0) (listed : List (List ℕ)) : Type 0 where
+  pub each : Each P listed
+  pub ascending : Pairs Before listed
+  pub different : Pairs (λ xs ys. xs ≡ ys → ⊥) listed
+  pub others-later : (other : List ℕ) → P other → (Some (λ xs. xs ≡ other) listed) ⊎ (Each (λ xs. Before xs other) listed)

@@ -32,12 +32,12 @@ row list v budget answer values trail =
 
 abbrev rows : List Row
 rows =
-    row k1 4 1000000 (found (tally 3 1 0)) (1 ∷ 0 ∷ 1 ∷ 1 ∷ 9 ∷ []) (pos 1 ∷ pos 4 ∷ negsuc 1 ∷ pos 3 ∷ pos 9 ∷ [])
-    ∷ row (k2 (pos 4)) 4 1000000 (found (tally 3 1 0)) (1 ∷ 0 ∷ 1 ∷ 1 ∷ 9 ∷ []) (pos 1 ∷ pos 4 ∷ negsuc 1 ∷ pos 3 ∷ pos 9 ∷ [])
+    row k1 4 1000000 (found (tally 3 1 0)) (1 ∷ 3 ∷ 1 ∷ 1 ∷ 9 ∷ []) (pos 1 ∷ pos 4 ∷ negsuc 1 ∷ pos 3 ∷ pos 9 ∷ [])
+    ∷ row (k2 (pos 4)) 4 1000000 (found (tally 3 1 0)) (1 ∷ 3 ∷ 1 ∷ 1 ∷ 9 ∷ []) (pos 1 ∷ pos 4 ∷ negsuc 1 ∷ pos 3 ∷ pos 9 ∷ [])
     ∷ row (k2 (negsuc 3)) 4 1000000 (none (tally 4 0 0)) (2 ∷ 2 ∷ 2 ∷ 2 ∷ 9 ∷ []) (pos 0 ∷ pos 0 ∷ pos 0 ∷ pos 0 ∷ pos 9 ∷ [])
     ∷ row k1 4 3 (spent (tally 2 1 0)) (1 ∷ 3 ∷ 2 ∷ 1 ∷ 9 ∷ []) (pos 1 ∷ pos 4 ∷ negsuc 1 ∷ pos 0 ∷ pos 9 ∷ [])
     -- (1 2) (1 -2): two choices, a force and a turn
-    ∷ row (pos 2 ∷ pos 1 ∷ pos 2 ∷ pos 2 ∷ pos 1 ∷ negsuc 1 ∷ []) 2 4 (found (tally 1 2 1)) (1 ∷ 0 ∷ 7 ∷ 7 ∷ 9 ∷ [])
+    ∷ row (pos 2 ∷ pos 1 ∷ pos 2 ∷ pos 2 ∷ pos 1 ∷ negsuc 1 ∷ []) 2 4 (found (tally 1 2 1)) (1 ∷ 3 ∷ 7 ∷ 7 ∷ 9 ∷ [])
     (pos 1 ∷ negsuc 1 ∷ pos 7 ∷ pos 7 ∷ pos 9 ∷ [])
     -- 12: v of 0 and past 16,000, a count past the end, a literal 0 and one beyond v; 13: a slice of 5 where 6 are needed
     ∷ row [] 0 1 (refused 12) lentValues lentTrail

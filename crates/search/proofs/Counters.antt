@@ -14,12 +14,14 @@ use Rattle.search_rules.specs.Rules.{Kind, propagation, decision, backtrack}
 use Rattle.search_rules.specs.Run.{zeros, total, End, wasNone, wasFound, wasSpent}
 use Rattle.search_rules.specs.Held.{stepsOf, stepLimit}
 use Rattle.search_rules.specs.Counting.{counter, kindsTaken, ofKind, stepsAt}
-use Rattle.search_rules.proofs.Counting.{each-counts}
+use Rattle.search_rules.specs.Following.{followingKinds}
+use Rattle.search_rules.proofs.Counting.{each-counts, following-counts}
 use Rattle.search.specs.Answers.{refused, stepsIn, answerAt, searchRun, outcome}
-use Rattle.search.specs.Resumed.{startOf, positionAt, resumedRun, resumption}
+use Rattle.search.specs.Resumed.{startOf, positionAt, Running, takenUp, resumedRun, resumption}
 use Rattle.search.specs.Resuming.{EachCounter}
+use Rattle.search.specs.Following.{followedRun, following}
 use Rattle.search.proofs.Theorems as fresh
-use Rattle.search.proofs.Outcomes.{figure-within}
+use Rattle.search.proofs.Outcomes.{figure-within, following-within}
 use Rattle.search.proofs.ResumedCalls.{Runs, called}
 
 -- a refusal shows no steps, an answer at the end of a run those of the run, and the record has the same
@@ -37,32 +39,56 @@ position-steps (wasNone t) = refl
 position-steps (wasFound t s) = refl
 position-steps (wasSpent t s) = refl
 
--- a resumed call that shows its steps ran
-module _ (list : List ℤ) (v : ℕ) (values : List ℕ) (trail : List ℤ) (p : Position) (budget : ℕ) (steps : Steps)
-    (shows : stepsIn (resumption list v values trail p budget .outcome .answer) ≡ some steps) where
-  ran : Runs list v values trail p budget
+-- a call that takes up a state and shows its steps ran
+module _ (running : Running) (list : List ℤ) (v : ℕ) (values : List ℕ) (trail : List ℤ) (p : Position) (budget : ℕ) (steps : Steps)
+    (shows : stepsIn (takenUp running list v values trail p budget .outcome .answer) ≡ some steps) where
+  ran : Runs running list v values trail p budget
   ran =
       ⊎-elim (λ d. absurd (refused-shows-none (d .0) steps (ap (λ o. stepsIn (o .outcome .answer)) (sym (d .1)) ∙ shows))) (λ r. r)
-      (called list v values trail p budget)
+      (called running list v values trail p budget)
 
   abbrev end : End
-  end = resumedRun list v (stepsOf p) (startOf v values trail p) budget
+  end = running (stepsOf p) (startOf v values trail p) budget
 
   are-its : steps ≡ stepsAt end
   are-its = answer-steps end steps (ap (λ o. stepsIn (o .outcome .answer)) (sym (ran .ends)) ∙ shows)
 
+  pub records : stepsOf (takenUp running list v values trail p budget .position) ≡ steps
+  records = ap (λ o. stepsOf (o .position)) (ran .ends) ∙ position-steps end ∙ sym are-its
+
+-- a resumed call
+module _ (list : List ℤ) (v : ℕ) (values : List ℕ) (trail : List ℤ) (p : Position) (budget : ℕ) (steps : Steps)
+    (shows : stepsIn (resumption list v values trail p budget .outcome .answer) ≡ some steps) where
   resumed-counts : (kind : Kind)
       → counter kind steps ≡ counter kind (stepsOf p) + ofKind kind (kindsTaken (clausesOf list) v budget (startOf v values trail p))
-  resumed-counts kind = ap (counter kind) are-its ∙ each-counts (clausesOf list) v budget (stepsOf p) (startOf v values trail p) kind
+  resumed-counts kind =
+      ap (counter kind) (are-its (resumedRun list v) list v values trail p budget steps shows)
+      ∙ each-counts (clausesOf list) v budget (stepsOf p) (startOf v values trail p) kind
 
   -- together they fit in 64 bits
   pub resumed-few : total steps ≤ stepLimit
   resumed-few =
       let f = figure-within (clausesOf list) v budget (stepsOf p) (startOf v values trail p) in
-      omega (arith, f, ap total are-its, ran .few)
+      omega (
+        arith,
+        f,
+        ap total (are-its (resumedRun list v) list v values trail p budget steps shows),
+        ran (resumedRun list v) list v values trail p budget steps shows .few,
+      )
 
-  records : stepsOf (resumption list v values trail p budget .position) ≡ steps
-  records = ap (λ o. stepsOf (o .position)) (ran .ends) ∙ position-steps end ∙ sym are-its
+-- a call for the next
+module _ (list : List ℤ) (v : ℕ) (values : List ℕ) (trail : List ℤ) (p : Position) (budget : ℕ) (steps : Steps)
+    (shows : stepsIn (following list v values trail p budget .outcome .answer) ≡ some steps) where
+  pub followed-counts : (kind : Kind)
+      → counter kind steps ≡ counter kind (stepsOf p) + ofKind kind (followingKinds (clausesOf list) v budget (startOf v values trail p))
+  followed-counts kind =
+      ap (counter kind) (are-its (followedRun list v) list v values trail p budget steps shows)
+      ∙ following-counts (clausesOf list) v kind budget (stepsOf p) (startOf v values trail p)
+
+  pub followed-few : total steps ≤ total (stepsOf p) + budget
+  followed-few =
+      let f = following-within (clausesOf list) v budget (stepsOf p) (startOf v values trail p) in
+      omega (arith, f, ap total (are-its (followedRun list v) list v values trail p budget steps shows))
 
 -- none is counted before a call from the start
 none-before : (kind : Kind) → counter kind zeros ≡ 0
@@ -94,4 +120,4 @@ module _ (list : List ℤ) (v : ℕ) (values : List ℕ) (trail : List ℤ) (bud
   searched-few = let f = figure-within (clausesOf list) v budget zeros [] in omega (arith, f, ap total are-the-run's)
 
 pub each-counter : EachCounter
-each-counter = record { searched = searched-counts; resumed = resumed-counts; recorded = records }
+each-counter = record { searched = searched-counts; resumed = resumed-counts; recorded = λ list v. records (resumedRun list v) list v }

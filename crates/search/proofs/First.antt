@@ -14,14 +14,14 @@ use Rattle.search_rules.specs.Held.{stepLimit}
 use Rattle.search.specs.Answers.{found, Outcome, outcome}
 use Rattle.search.specs.Resumed.{startOf, Resumption, resumption}
 use Rattle.search.specs.Resuming.{start, Chain}
-use Rattle.search.specs.First.{First, FoundFirst}
+use Rattle.search.specs.First.{bitsOf, First, FoundFirst}
 use Rattle.search.proofs.Theorems as once
 use Rattle.search.proofs.ResumedTheorems as again
 use Rattle.search.proofs.Resuming.{none-done, fresh-start, same-as-one}
 
 module _ (list : List ℤ) (v : ℕ) (values : List ℕ) (trail : List ℤ) where
   abbrev Left : Outcome → Type 0
-  Left o = First v (clausesOf list) (take v (o .values))
+  Left o = First v (clausesOf list) (bitsOf v (o .values))
 
   once-first : (budget : ℕ) (steps : Steps) → outcome list v values trail budget .answer ≡ found steps → Left (outcome list v values trail budget)
   once-first budget steps e =
@@ -40,7 +40,7 @@ module _ (list : List ℤ) (v : ℕ) (values : List ℕ) (trail : List ℤ) wher
 
   -- a chain of calls from a fresh start comes to one call
   chain-first : (n : ℕ) (r : Resumption) (steps : Steps) → take v values ≡ valuesOf v [] → take v trail ≡ trailOf v [] → n ≤ stepLimit
-      → Chain list v values trail start n r → r .outcome .answer ≡ found steps → Left (r .outcome)
+      → Chain (resumption list v) values trail start n r → r .outcome .answer ≡ found steps → Left (r .outcome)
   chain-first n r steps opened emptied few chain e =
       let as-one : outcome list v values trail n ≡ r .outcome =
       sym

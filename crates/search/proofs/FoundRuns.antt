@@ -5,7 +5,7 @@ use mathlib.Core.List.{List, [], _++_, map}
 use mathlib.Core.Option.{some}
 use Prim.Native.Nat.{ℕ}
 use lib.IntN.{ℤ}
-use lib.ListN.{take, drop}
+use lib.ListN.{drop}
 use Rattle.prelude.specs.Order.{NoneBefore}
 use Rattle.clause_list.specs.ClauseList.{clausesOf, isList, Satisfying}
 use Rattle.search_rules.specs.declared.Steps.{Steps}
@@ -14,6 +14,7 @@ use Rattle.search_rules.specs.Run.{End, wasFound, run, after}
 use Rattle.search_rules.proofs.Ranges.{Ranged, fine-list, ranged}
 use Rattle.search_rules.proofs.Theorems as rules
 use Rattle.search.specs.Answers.{found, valuesAt, Outcome, finish}
+use Rattle.search.specs.First.{bitsOf}
 use Rattle.search.proofs.Outcomes.{was-found, found-values}
 
 module _ (list : List ℤ) (v budget : ℕ) (done : Steps) (begin : State) (values : List ℕ) (trail : List ℤ) (is : isList v list ≡ true)
@@ -29,13 +30,14 @@ module _ (list : List ℤ) (v budget : ℕ) (done : Steps) (begin : State) (valu
   was : (s : State) × (end ≡ wasFound steps s)
   was = was-found end steps (sym (ap (λ o. o .answer) ends) ∙ answers)
 
-  leaves : take v (out .values) ≡ map settle (valuesOf v (was .0))
+  leaves : bitsOf v (out .values) ≡ map settle (valuesOf v (was .0))
   unfolding valuesAt
   leaves =
-      ap (take v) (ap (λ o. o .values) ends ∙ ap (λ x. valuesAt v x ++ drop v values) (was .1)) ∙ found-values v (was .0) values
+      ap (bitsOf v) (ap (λ o. o .values) ends ∙ ap (λ x. valuesAt v x ++ drop v values) (was .1))
+      ∙ ap (map settle) (found-values v (was .0) values)
 
-  pub satisfies : Satisfying v (clausesOf list) (take v (out .values))
+  pub satisfies : Satisfying v (clausesOf list) (bitsOf v (out .values))
   satisfies = rw leaves (rules.found-satisfies (clausesOf list) v in-range budget done steps begin (was .0) (was .1))
 
-  pub first : (k : ℕ) → after (clausesOf list) v k [] ≡ some begin → NoneBefore (Satisfying v (clausesOf list)) (take v (out .values))
+  pub first : (k : ℕ) → after (clausesOf list) v k [] ≡ some begin → NoneBefore (Satisfying v (clausesOf list)) (bitsOf v (out .values))
   first k r = rw leaves (rules.found-first (clausesOf list) v in-range k budget done steps begin (was .0) r (was .1))

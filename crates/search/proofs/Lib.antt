@@ -5,12 +5,12 @@ pub mod Outcomes
 mod FoundRuns
 pub mod Resumptions
 pub mod ResumedCalls
+pub mod LeftStates
 pub mod Resuming
 pub mod ResumedTheorems
 pub mod First
 pub mod Counters
 pub mod MoreSteps
 pub mod OpenSlices
-mod Settled
 pub mod Lent
 pub mod LentWalk

@@ -43,7 +43,7 @@ module _ (list : List ℤ) (v : ℕ) (values : List ℕ) (trail : List ℤ) (p :
   module _ (is : isList v list ≡ true) (wide : v ≤ length values) (deep : v ≤ length trail)
       (holds : noState v (take v values) (take v trail) (p .length) ≡ false) where
     ends : call m ≡ finishAt v values trail (ending m)
-    ends = runs list v values trail p m is wide deep holds (omega arith)
+    ends = runs (resumedRun list v) list v values trail p m is wide deep holds (omega arith)
 
     ends-alike : ending (m + n) ≡ ending m
     ends-alike =
@@ -51,18 +51,18 @@ module _ (list : List ℤ) (v : ℕ) (values : List ℕ) (trail : List ℤ) (p :
         ∙ stays list v n (ending m) (λ steps e. unspent steps (ap (λ r. r .outcome .answer) ends ∙ e))
 
     runs-alike : call (m + n) ≡ call m
-    runs-alike = runs list v values trail p (m + n) is wide deep holds few ∙ ap (finishAt v values trail) ends-alike ∙ sym ends
+    runs-alike = runs (resumedRun list v) list v values trail p (m + n) is wide deep holds few ∙ ap (finishAt v values trail) ends-alike ∙ sym ends
 
   by-tests : (a b c d : Bool) → isList v list ≡ a → leb v (length values) ≡ b → leb v (length trail) ≡ c
       → noState v (take v values) (take v trail) (p .length) ≡ d → call (m + n) ≡ call m
-  by-tests false b c d e f g h = no-list list v values trail p (m + n) e ∙ sym (no-list list v values trail p m e)
+  by-tests false b c d e f g h = no-list (resumedRun list v) list v values trail p (m + n) e ∙ sym (no-list (resumedRun list v) list v values trail p m e)
   by-tests true false c d e f g h =
-      short-values list v values trail p (m + n) e (leb-false _ _ f) ∙ sym (short-values list v values trail p m e (leb-false _ _ f))
+      short-values (resumedRun list v) list v values trail p (m + n) e (leb-false _ _ f) ∙ sym (short-values (resumedRun list v) list v values trail p m e (leb-false _ _ f))
   by-tests true true false d e f g h =
-      short-trail list v values trail p (m + n) e (leb-false _ _ g) ∙ sym (short-trail list v values trail p m e (leb-false _ _ g))
+      short-trail (resumedRun list v) list v values trail p (m + n) e (leb-false _ _ g) ∙ sym (short-trail (resumedRun list v) list v values trail p m e (leb-false _ _ g))
   by-tests true true true true e f g h =
-      no-state list v values trail p (m + n) e (leb-true _ _ f) (leb-true _ _ g) h
-      ∙ sym (no-state list v values trail p m e (leb-true _ _ f) (leb-true _ _ g) h)
+      no-state (resumedRun list v) list v values trail p (m + n) e (leb-true _ _ f) (leb-true _ _ g) h
+      ∙ sym (no-state (resumedRun list v) list v values trail p m e (leb-true _ _ f) (leb-true _ _ g) h)
   by-tests true true true false e f g h = runs-alike e (leb-true _ _ f) (leb-true _ _ g) h
 
   pub more-steps : call (m + n) ≡ call m

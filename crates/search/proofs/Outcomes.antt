@@ -1,23 +1,25 @@
 -- The outcome of a call, case by case, and the end of a run as the answer that it gives.
 use mathlib.Core.Path.{_≡_, refl, _∙_, ap}
 use mathlib.Core.Bool.{Bool, true, false, cond, _&&_}
-use mathlib.Core.List.{List, _++_, map}
-use Prim.Native.Nat.{ℕ, _+_, _<_, _≤_}
+use mathlib.Core.List.{List, _++_}
+use Prim.Native.Nat.{ℕ, zero, suc, _+_, _<_, _≤_}
 use native.Mathlib.Omega.{arith}
 use lib.Dec.{leb}
 use lib.IntN.{ℤ}
-use lib.ListN.{length, take, drop, length-map}
+use lib.ListN.{length, take, drop}
 use lib.Seq.{take-at}
 use borrow.Author.Tests.{le-leb, lt-leb}
 use Rattle.prelude.proofs.Laws.{and-both, and-not-left, and-not-right}
 use Rattle.clause_list.specs.ClauseList.{isList}
-use Rattle.search_rules.specs.Rules.{State, valuesOf, settle}
+use Rattle.search_rules.specs.Rules.{State, valuesOf, Next, endNone, endFound, step}
 use Rattle.search_rules.specs.declared.Steps.{Steps}
-use Rattle.search_rules.specs.Run.{total, End, wasNone, wasFound, wasSpent, run}
+use Rattle.search_rules.specs.Run.{total, count, End, wasNone, wasFound, wasSpent, run}
 use Rattle.search_rules.specs.Held.{stepsOf, positionOf}
 use Rattle.search_rules.specs.Counting.{stepsAt}
+use Rattle.search_rules.specs.Following.{firstStep, followingRun}
 use Rattle.search_rules.proofs.Invariant.{length-values}
-use Rattle.search_rules.proofs.StepView.{Ends, run-ends}
+use Rattle.search_rules.proofs.StepView.{total-count, Ends, run-ends}
+use Rattle.search_rules.proofs.Following.{first-not-found, follow-none, follow-waits, follow-step}
 use Rattle.search_core.specs.declared.run.End.the-variants as core
 use Rattle.search_core.specs.declared.run.Ran.{Ran}
 use Rattle.search_core.specs.Inner.{stateAt, Ended}
@@ -76,6 +78,18 @@ figure-within clauses v n t state =
     within clauses v (total t + n) (run clauses v n t state)
     (run-ends clauses v (λ t state. Unit {0}) (λ t state kind s p e. tt) n t state (run clauses v n t state) tt refl)
 
+-- and so with the first step of a call for the next
+pub following-within : (clauses : List (List ℤ)) (v n : ℕ) (t : Steps) (state : State)
+    → total (stepsAt (followingRun clauses v n t state)) ≤ total t + n
+following-within clauses v n t state = by n (firstStep clauses v state) refl
+  where
+    by : (n : ℕ) (x : Next) → firstStep clauses v state ≡ x → total (stepsAt (followingRun clauses v n t state)) ≤ total t + n
+    by n endNone e = rw (follow-none clauses v n t state e) (omega arith)
+    by n endFound e = absurd (first-not-found clauses v state e)
+    by zero (step kind s) e = rw (follow-waits clauses v t state kind s e) (omega arith)
+    by (suc n) (step kind s) e =
+        rw (follow-step clauses v n t state kind s e) (omega (arith, figure-within clauses v n (count kind t) s, total-count kind t))
+
 -- the end of a run, as `go_on` ensures it
 abbrev finished : Ran → (Steps → Search) → Resumed
 finished r answer = record { answer = answer (stepsOf (r .position)); position = r .position }
@@ -99,13 +113,13 @@ finish-none v (wasSpent t s) r values trail h e =
     absurd (let d : r .end ≡ core.Spent = h .end-is in let z : _≡_ {A = ℕ} 0 1 = cc in omega arith)
 
 pub finish-found : (v : ℕ) (end : End) (r : Ran) (values : List ℕ) (trail : List ℤ) → Ended v end r values trail → r .end ≡ core.Found
-    → Finished v end (finished r Found) (map settle values) trail
+    → Finished v end (finished r Found) values trail
 unfolding answerAt valuesAt trailAt
 finish-found v (wasNone t) r values trail h e =
     absurd (let d : r .end ≡ core.None = h .end-is in let z : _≡_ {A = ℕ} 0 1 = cc in omega arith)
 finish-found v (wasFound t s) r values trail h e = record {
   answer-is = ap found (h .steps-are);
-  values-are = ap (map settle) (h .stored .values-are);
+  values-are = h .stored .values-are;
   trail-is = h .stored .trail-is;
   position-is = at-end v (wasFound t s) r values trail h;
 }
@@ -152,8 +166,6 @@ was-taken (wasNone t) number e = let z : _≡_ {A = ℕ} 0 1 = cc in omega arith
 was-taken (wasFound t s) number e = let z : _≡_ {A = ℕ} 0 1 = cc in omega arith
 was-taken (wasSpent t s) number e = let z : _≡_ {A = ℕ} 0 1 = cc in omega arith
 
--- what "found" leaves in the first v values
-pub found-values : (v : ℕ) (state : State) (values : List ℕ)
-    → take v (map settle (valuesOf v state) ++ drop v values) ≡ map settle (valuesOf v state)
-found-values v state values =
-    take-at (map settle (valuesOf v state)) (drop v values) v (length-map (valuesOf v state) settle ∙ length-values v state)
+-- what is left of a state in the first v values
+pub found-values : (v : ℕ) (state : State) (values : List ℕ) → take v (valuesOf v state ++ drop v values) ≡ valuesOf v state
+found-values v state values = take-at (valuesOf v state) (drop v values) v (length-values v state)

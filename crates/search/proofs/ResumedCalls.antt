@@ -1,7 +1,7 @@
--- A resumed call is refused, or takes the rules' steps from the state that is held.
-use mathlib.Core.Path.{_≡_, refl}
+-- A call that takes up a state is refused, or runs from the state that is held.
+use mathlib.Core.Path.{_≡_, refl, sym, _∙_, ap}
 use mathlib.Core.Bool.{Bool, true, false}
-use mathlib.Core.Logic.{_⊎_, inl, inr}
+use mathlib.Core.Logic.{_⊎_, inl, inr, ⊎-elim}
 use mathlib.Core.List.{List}
 use Prim.Native.Nat.{ℕ, _+_, _≤_}
 use lib.Dec.{leb}
@@ -15,10 +15,11 @@ use Rattle.search_rules.specs.Run.{total}
 use Rattle.search_rules.specs.Held.{stepsOf, noState, stepLimit, tooMany, Stored}
 use Rattle.search_rules.proofs.StateHeld.{holds-state}
 use Rattle.search_rules.specs.declared.Position.{Position}
-use Rattle.search.specs.Resumed.{decline, finishAt, startOf, resumedRun, resumption}
+use Rattle.search.specs.Answers.{Answer, refused, answerAt}
+use Rattle.search.specs.Resumed.{decline, finishAt, startOf, Running, takenUp}
 use Rattle.search.proofs.Resumptions.{no-list, short-values, short-trail, no-state, too-many, runs}
 
-module _ (list : List ℤ) (v : ℕ) (values : List ℕ) (trail : List ℤ) (p : Position) (budget : ℕ) where
+module _ (running : Running) (list : List ℤ) (v : ℕ) (values : List ℕ) (trail : List ℤ) (p : Position) (budget : ℕ) where
   abbrev pub begin : State
   begin = startOf v values trail p
 
@@ -28,10 +29,10 @@ module _ (list : List ℤ) (v : ℕ) (values : List ℕ) (trail : List ℤ) (p :
     pub deep : v ≤ length trail
     pub holds : noState v (take v values) (take v trail) (p .length) ≡ false
     pub few : total (stepsOf p) + budget ≤ stepLimit
-    pub ends : resumption list v values trail p budget ≡ finishAt v values trail (resumedRun list v (stepsOf p) begin budget)
+    pub ends : takenUp running list v values trail p budget ≡ finishAt v values trail (running (stepsOf p) begin budget)
 
   abbrev Called : Type 0
-  Called = ((n : ℕ) × (resumption list v values trail p budget ≡ decline n values trail p)) ⊎ Runs
+  Called = ((n : ℕ) × (takenUp running list v values trail p budget ≡ decline n values trail p)) ⊎ Runs
 
   pub called : Called
   called =
@@ -40,20 +41,27 @@ module _ (list : List ℤ) (v : ℕ) (values : List ℕ) (trail : List ℤ) (p :
     where
       by : (a b c d e : Bool) → isList v list ≡ a → leb v (length values) ≡ b → leb v (length trail) ≡ c
           → noState v (take v values) (take v trail) (p .length) ≡ d → tooMany (stepsOf p) budget ≡ e → Called
-      by false b c d e f g h i j = inl (12, no-list list v values trail p budget f)
-      by true false c d e f g h i j = inl (13, short-values list v values trail p budget f (leb-false _ _ g))
-      by true true false d e f g h i j = inl (13, short-trail list v values trail p budget f (leb-false _ _ h))
-      by true true true true e f g h i j = inl (14, no-state list v values trail p budget f (leb-true _ _ g) (leb-true _ _ h) i)
-      by true true true false true f g h i j = inl (14, too-many list v values trail p budget f (leb-true _ _ g) (leb-true _ _ h) (ltb-true _ _ j))
+      by false b c d e f g h i j = inl (12, no-list running list v values trail p budget f)
+      by true false c d e f g h i j = inl (13, short-values running list v values trail p budget f (leb-false _ _ g))
+      by true true false d e f g h i j = inl (13, short-trail running list v values trail p budget f (leb-false _ _ h))
+      by true true true true e f g h i j = inl (14, no-state running list v values trail p budget f (leb-true _ _ g) (leb-true _ _ h) i)
+      by true true true false true f g h i j = inl (14, too-many running list v values trail p budget f (leb-true _ _ g) (leb-true _ _ h) (ltb-true _ _ j))
       by true true true false false f g h i j = inr (record {
         is-list = f;
         wide = leb-true _ _ g;
         deep = leb-true _ _ h;
         holds = i;
         few = ltb-false _ _ j;
-        ends = runs list v values trail p budget f (leb-true _ _ g) (leb-true _ _ h) i (ltb-false _ _ j);
+        ends = runs running list v values trail p budget f (leb-true _ _ g) (leb-true _ _ h) i (ltb-false _ _ j);
       })
 
   -- the state that is held
   pub held : (r : Runs) → Stored v begin (take v values) (take v trail) (p .length)
   held r = holds-state v _ _ _ (r .holds) (length-take-le _ _ (r .wide)) (length-take-le _ _ (r .deep))
+
+  -- an answer that is no refusal is that of the run
+  pub answered : (a : Answer) → ((n : ℕ) → refused n ≡ a → ⊥) → takenUp running list v values trail p budget .outcome .answer ≡ a
+      → Runs × (answerAt (running (stepsOf p) begin budget) ≡ a)
+  answered a h e =
+      ⊎-elim (λ c. absurd (h (c .0) (sym (ap (λ o. o .outcome .answer) (c .1)) ∙ e)))
+      (λ r. (r, sym (ap (λ o. o .outcome .answer) (r .ends)) ∙ e)) called

@@ -12,7 +12,7 @@ use Rattle.search_rules.specs.Rules.{firstUnit, lowestOpen, wordOf, byteOf, pla
 use Rattle.search_rules.specs.Run.{tally, zeros, total, count, run}
 use Rattle.search_rules.specs.Held.{positionOf, repeats, goesWith, noState, entryOf, stateIn}
 use Rattle.search.specs.Answers.{Answer, found, none, spent, refused, answerAt, valuesAt, trailAt}
-use Rattle.search.specs.Resumed.{left, resumption}
+use Rattle.search.specs.Resumed.{left, takenUp, resumption}
 
 -- the slices and the record of a call
 record Held : Type 0 where
@@ -44,7 +44,7 @@ abbrev three : Steps → Held
 three steps = held (1 ∷ 3 ∷ 2 ∷ 1 ∷ 9 ∷ []) (pos 1 ∷ pos 4 ∷ negsuc 1 ∷ pos 0 ∷ pos 9 ∷ []) 3 steps
 
 abbrev end : Steps → Held
-end steps = held (1 ∷ 0 ∷ 1 ∷ 1 ∷ 9 ∷ []) (pos 1 ∷ pos 4 ∷ negsuc 1 ∷ pos 3 ∷ pos 9 ∷ []) 4 steps
+end steps = held (1 ∷ 3 ∷ 1 ∷ 1 ∷ 9 ∷ []) (pos 1 ∷ pos 4 ∷ negsuc 1 ∷ pos 3 ∷ pos 9 ∷ []) 4 steps
 
 -- K3 after three steps
 abbrev third : Held
@@ -64,8 +64,8 @@ clashing steps = held (3 ∷ 1 ∷ []) (negsuc 0 ∷ pos 2 ∷ []) 2 steps
 abbrev turned : Steps → Held
 turned steps = held (1 ∷ 2 ∷ []) (pos 1 ∷ pos 0 ∷ []) 1 steps
 
-abbrev settled : Steps → Held
-settled steps = held (1 ∷ 0 ∷ []) (pos 1 ∷ negsuc 1 ∷ []) 2 steps
+abbrev set-all : Steps → Held
+set-all steps = held (1 ∷ 3 ∷ []) (pos 1 ∷ negsuc 1 ∷ []) 2 steps
 
 -- counters that come to 2^64 - 2, to 2^64 - 1, and to 2^64, which is 0 in 64 bits
 abbrev all-but-one : Steps
@@ -97,7 +97,7 @@ rows =
     -- each counter goes on from the one handed in: a force; a turn; a choice after it
     ∷ row k1 4 (three (tally 7 5 3)) 1 (found (tally 8 5 3)) (end (tally 8 5 3))
     ∷ row all-kinds 2 (clashing (tally 7 5 3)) 1 (spent (tally 7 5 4)) (turned (tally 7 5 4))
-    ∷ row all-kinds 2 (turned (tally 7 5 4)) 1 (found (tally 7 6 4)) (settled (tally 7 6 4))
+    ∷ row all-kinds 2 (turned (tally 7 5 4)) 1 (found (tally 7 6 4)) (set-all (tally 7 6 4))
     -- a state that no run from a fresh start leaves: "none", though (1 2) has an assignment
     ∷ row (pos 2 ∷ pos 1 ∷ pos 2 ∷ []) 2 (held (0 ∷ 0 ∷ []) (negsuc 0 ∷ negsuc 1 ∷ []) 2 zeros) 1 (none zeros)
     (held (2 ∷ 2 ∷ []) (pos 0 ∷ pos 0 ∷ []) 0 zeros)
@@ -118,5 +118,5 @@ pub cases :
     ≡ map (λ row. left (row .answer) (row .after .values) (row .after .trail) (positionOf (row .after .length) (row .after .steps))) rows
 unfolding truthOf negated literal isFalsified isSatisfied conflict openOf sameLiteral only unitOf firstUnit lowestOpen wordOf byteOf placeOf
     valuesOf trailOf turn decide next total count run answerAt valuesAt trailAt tests.all tests.any tests.each cut wellCut isList repeats
-    goesWith noState entryOf stateIn resumption
+    goesWith noState entryOf stateIn takenUp
 cases = refl

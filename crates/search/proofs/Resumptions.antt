@@ -1,4 +1,4 @@
--- The resumption of a call, case by case, and its end as the code has it.
+-- A call that takes up a state, case by case, whatever its run, and its end as the code has it.
 use mathlib.Core.Path.{_≡_, refl, sym, _∙_, ap}
 use mathlib.Core.Bool.{Bool, true, false, not, cond, _&&_}
 use mathlib.Core.List.{List, _++_}
@@ -17,12 +17,12 @@ use Rattle.search.specs.declared.answer.Search.the-variants.{Refused}
 use Rattle.search_rules.specs.declared.Position.{Position}
 use Rattle.search.specs.declared.answer.Resumed.{Resumed}
 use Rattle.search.specs.Answers.{answerOf}
-use Rattle.search.specs.Resumed.{Resumption, left, decline, finishAt, startOf, declinesState, resumedRun, resumption}
+use Rattle.search.specs.Resumed.{Resumption, left, decline, finishAt, startOf, declinesState, Running, takenUp}
 use Rattle.search.specs.Inner.{Finished}
 
-module _ (list : List ℤ) (v : ℕ) (values : List ℕ) (trail : List ℤ) (p : Position) (budget : ℕ) where
+module _ (running : Running) (list : List ℤ) (v : ℕ) (values : List ℕ) (trail : List ℤ) (p : Position) (budget : ℕ) where
   abbrev call : Resumption
-  call = resumption list v values trail p budget
+  call = takenUp running list v values trail p budget
 
   abbrev long : Bool
   long = leb v (length values) && leb v (length trail)
@@ -31,7 +31,7 @@ module _ (list : List ℤ) (v : ℕ) (values : List ℕ) (trail : List ℤ) (p :
   stopped = declinesState v values trail p budget
 
   abbrev ended : Resumption
-  ended = finishAt v values trail (resumedRun list v (stepsOf p) (startOf v values trail p) budget)
+  ended = finishAt v values trail (running (stepsOf p) (startOf v values trail p) budget)
 
   abbrev by-state : Bool → Resumption
   by-state d = cond d (decline 14 values trail p) ended
@@ -41,7 +41,7 @@ module _ (list : List ℤ) (v : ℕ) (values : List ℕ) (trail : List ℤ) (p :
 
   by-tests : (b c d : Bool) → isList v list ≡ b → long ≡ c → stopped ≡ d
       → call ≡ cond b (by-room c (by-state d)) (decline 12 values trail p)
-  unfolding resumption
+  unfolding takenUp
   by-tests b c d q r s =
       ap (λ x. cond x (by-room long (by-state stopped)) (decline 12 values trail p)) q
       ∙ ap (λ x. cond b (by-room x (by-state stopped)) (decline 12 values trail p)) r

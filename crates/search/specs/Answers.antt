@@ -1,7 +1,7 @@
 -- What a call of `search` answers, and what it leaves in the lent slices (document 01, "Search" and "Answers that decline"; document 02,
--- Change 3).
+-- Changes 3 and 6).
 use mathlib.Core.Bool.{cond, _&&_}
-use mathlib.Core.List.{List, [], _++_, map}
+use mathlib.Core.List.{List, [], _++_}
 use mathlib.Core.Option.{Option, none as Option·none, some}
 use Prim.Native.Nat.{ℕ}
 use lib.Dec.{leb}
@@ -12,7 +12,7 @@ use Rattle.clause_list.specs.ClauseList.{clausesOf, isList}
 use Rattle.search.specs.declared.answer.Search.{Search}
 use Rattle.search.specs.declared.answer.Search.the-variants.{Found, None, Spent, Refused}
 use Rattle.search_rules.specs.declared.Steps.{Steps}
-use Rattle.search_rules.specs.Rules.{valuesOf, trailOf, settle}
+use Rattle.search_rules.specs.Rules.{valuesOf, trailOf}
 use Rattle.search_rules.specs.Run.{zeros, End, wasNone, wasFound, wasSpent, run}
 
 -- the paper's answers: "found", "none" or "spent" with the steps done, or a number. "The search answer and the lent record of Change 1 show
@@ -41,10 +41,10 @@ answerAt (wasNone t) = none t
 answerAt (wasFound t state) = found t
 answerAt (wasSpent t state) = spent t
 
--- ""none", with values all 2 and trail all 0"; "found", where "3s become 0"; "spent", where "the state stays"
+-- ""none", with values all 2 and trail all 0"; ""found" keeps its 3s in the lent values" (document 02, Change 6); "spent", where "the state stays"
 unfoldable pub valuesAt : ℕ → End → List ℕ
 valuesAt v (wasNone t) = valuesOf v []
-valuesAt v (wasFound t state) = map settle (valuesOf v state)
+valuesAt v (wasFound t state) = valuesOf v state
 valuesAt v (wasSpent t state) = valuesOf v state
 
 unfoldable pub trailAt : ℕ → End → List ℤ

@@ -3,4 +3,6 @@ pub mod Answers
 pub mod Resumed
 pub mod Resuming
 pub mod First
+pub mod Following
+pub mod Every
 pub mod Inner

@@ -43,17 +43,24 @@ startOf v values trail p = stateIn (take v values) (take v trail) (p .length)
 abbrev pub declinesState : ℕ → List ℕ → List ℤ → Position → ℕ → Bool
 declinesState v values trail p budget = noState v (take v values) (take v trail) (p .length) || tooMany (stepsOf p) budget
 
--- "A resumed call takes the rules' next steps from that state": the run goes on counting from the counters handed in
-abbrev pub resumedRun : List ℤ → ℕ → Steps → State → ℕ → End
-resumedRun list v done state budget = run (clausesOf list) v budget done state
+-- the run of a call that takes up a state: by the steps done, the state and the budget
+abbrev pub Running : Type 0
+Running = Steps → State → ℕ → End
 
--- 12, then 13, then 14: the list, the lent slices, which need one byte and one word for each variable, and the state
-unfoldable pub resumption : List ℤ → ℕ → List ℕ → List ℤ → Position → ℕ → Resumption
-resumption list v values trail p budget =
+-- 12, then 13, then 14: the list, the lent slices, which need one byte and one word for each variable, and the state; then the run from the state
+unfoldable pub takenUp : Running → List ℤ → ℕ → List ℕ → List ℤ → Position → ℕ → Resumption
+takenUp running list v values trail p budget =
     cond (isList v list)
     (cond (leb v (length values) && leb v (length trail))
     (cond (declinesState v values trail p budget)
     (decline 14 values trail p)
-    (finishAt v values trail (resumedRun list v (stepsOf p) (startOf v values trail p) budget)))
+    (finishAt v values trail (running (stepsOf p) (startOf v values trail p) budget)))
     (decline 13 values trail p))
     (decline 12 values trail p)
+
+-- "A resumed call takes the rules' next steps from that state": the run goes on counting from the counters handed in
+abbrev pub resumedRun : List ℤ → ℕ → Running
+resumedRun list v done state budget = run (clausesOf list) v budget done state
+
+abbrev pub resumption : List ℤ → ℕ → List ℕ → List ℤ → Position → ℕ → Resumption
+resumption list v = takenUp (resumedRun list v) list v

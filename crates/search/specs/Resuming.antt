@@ -24,21 +24,25 @@ abbrev pub FreshStart : Type 0
 FreshStart = (list : List ℤ) (v : ℕ) (values : List ℕ) (trail : List ℤ) (budget : ℕ) → take v values ≡ valuesOf v [] → take v trail ≡ trailOf v []
     → budget ≤ stepLimit → resumption list v values trail start budget .outcome ≡ outcome list v values trail budget
 
--- calls over one list and v, from slices and a record on: each but the last is spent, and the next takes up what it left;
+-- calls of one kind over one list and v, from slices and a record on: each but the last is spent, and the next takes up what it left;
 -- n steps are allowed in all, and the last call comes to r
-pub data Chain (list : List ℤ) (v : ℕ) : List ℕ → List ℤ → Position → ℕ → Resumption → Type 0 where
-  last : {values : List ℕ} {trail : List ℤ} {p : Position} (n : ℕ) → Chain list v values trail p n (resumption list v values trail p n)
+pub data Chain (call : List ℕ → List ℤ → Position → ℕ → Resumption) : List ℕ → List ℤ → Position → ℕ → Resumption → Type 0 where
+  last : {values : List ℕ} {trail : List ℤ} {p : Position} (n : ℕ) → Chain call values trail p n (call values trail p n)
   spends : {values : List ℕ} {trail : List ℤ} {p : Position} {n : ℕ} {steps : Steps} {r : Resumption} (m : ℕ)
-      → resumption list v values trail p m .outcome .answer ≡ spent steps
-      → Chain list v (resumption list v values trail p m .outcome .values) (resumption list v values trail p m .outcome .trail)
-      (resumption list v values trail p m .position) n r
-      → Chain list v values trail p (m + n) r
+      → call values trail p m .outcome .answer ≡ spent steps
+      → Chain call (call values trail p m .outcome .values) (call values trail p m .outcome .trail) (call values trail p m .position) n r
+      → Chain call values trail p (m + n) r
 
 -- "A search that was spent after m steps and is allowed n more gives the same end, state and step figure as one allowed m + n from the
 -- start, provided the clause list and v are the same and record and slices are those the search left": and so for any number of calls
+abbrev pub ComesToOne : (List ℕ → List ℤ → Position → ℕ → Resumption) → Type 0
+ComesToOne call = (values : List ℕ) (trail : List ℤ) (p : Position) (n : ℕ) (r : Resumption) → Chain call values trail p n r
+    → total (stepsOf p) + n ≤ stepLimit → r ≡ call values trail p n
+
+-- resumed calls do: "the sameness in Change 1" is "meant for runs without such a clash" as a call for the next makes of a full assignment
+-- (document 02, Change 6), and in a chain of resumed calls there is none
 abbrev pub SameAsOne : Type 0
-SameAsOne = (list : List ℤ) (v : ℕ) (values : List ℕ) (trail : List ℤ) (p : Position) (n : ℕ) (r : Resumption) → Chain list v values trail p n r
-    → total (stepsOf p) + n ≤ stepLimit → r ≡ resumption list v values trail p n
+SameAsOne = (list : List ℤ) (v : ℕ) → ComesToOne (resumption list v)
 
 -- "Each counter equals the one handed in (0 at the start) plus the steps of its kind that the rules' run takes in the call": of a call from
 -- the start, and of a resumed call, whose record has the answer's counters

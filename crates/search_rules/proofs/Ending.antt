@@ -2,7 +2,7 @@
 -- The states are ordered: an entry that a decision made comes before one that was turned or forced, and what stands below weighs more than all
 -- above it together. Each step leads to a later state, and there are at most 3^v.
 use mathlib.Core.Path.{_≡_, refl, sym, _∙_, ap}
-use mathlib.Core.Logic.{_⊎_, inl, inr, ⊎-elim}
+use mathlib.Core.Logic.{_⊎_, inl, inr}
 use mathlib.Core.List.{List, [], _∷_}
 use Prim.Native.Nat.{ℕ, zero, suc, _+_, _-_, _<_, _≤_}
 use native.Mathlib.Omega.{arith}
@@ -13,11 +13,11 @@ use Rattle.search_rules.specs.Rules.{Entry, propagated, decided, State, 
 use Rattle.search_rules.specs.Run.{after, EndedWithin}
 use Rattle.search_rules.specs.Following.{firstStep, FollowingEnded, at-once, later}
 use Rattle.search_rules.proofs.Ranges.{Ranged}
-use Rattle.search_rules.proofs.StepView.{Step, ends-none, ends-found, backtracks, propagates, decides, view, turn-leads}
+use Rattle.search_rules.proofs.StepView.{Step, ends-none, ends-found, backtracks, propagates, decides, view}
 use Rattle.search_rules.proofs.Found.{place-below}
 use Rattle.search_rules.proofs.Trails.{room}
-use Rattle.search_rules.proofs.Again.{open-kept, open-keeps}
-use Rattle.search_rules.proofs.Following.{first-cases, first-not-found}
+use Rattle.search_rules.proofs.Again.{open-keeps}
+use Rattle.search_rules.proofs.Following.{first-not-found, first-open}
 
 -- an entry of either kind, and what the lowest one above a state weighs; a weight of 3^v would be that of no entries, once more
 weigh : Entry → ℕ → ℕ
@@ -152,13 +152,8 @@ module _ (clauses : List (List ℤ)) (v : ℕ) (ranged : Ranged v clauses) where
   pub following-ends : (state : State) → WasOpen v state → (n : ℕ) × FollowingEnded clauses v n state
   following-ends state o = by (firstStep clauses v state) refl
     where
-      turned : (kind : Kind) (s : State) → turn state ≡ step kind s → WasOpen v s
-      turned kind s t = rw t at (turn-leads clauses v (WasOpen v) (open-kept v clauses ranged) state o)
-
       by : (x : Next) → firstStep clauses v state ≡ x → (n : ℕ) × FollowingEnded clauses v n state
       by endNone e = (0, at-once e)
       by endFound e = absurd (first-not-found clauses v state e)
       by (step kind s) e =
-          let p : WasOpen v s =
-          ⊎-elim (λ d. open-keeps v clauses ranged state kind s o d) (λ d. turned kind s (d .1)) (first-cases clauses v state kind s e) in
-          let w = ends s p in (suc (w .0), later e (w .1))
+          let w = ends s (first-open v clauses ranged state o kind s e) in (suc (w .0), later e (w .1))

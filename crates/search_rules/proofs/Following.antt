@@ -5,19 +5,23 @@ use mathlib.Core.Logic.{_⊎_, inl, inr, ⊎-elim, _↔_}
 use mathlib.Core.List.{List, [], _∷_}
 use Prim.Native.Nat.{ℕ, zero, suc, _+_, _<_, _≤_}
 use native.Mathlib.Omega.{arith}
+use native.Mathlib.Nat.{zero-add, suc-add}
 use lib.IntN.{ℤ}
 use lib.ListN.{length, getD}
 use Rattle.prelude.proofs.Laws.{clash}
 use Rattle.search_rules.specs.declared.Steps.{Steps}
 use Rattle.search_rules.specs.Rules.{conflict, placeOf, State, valuesOf, Kind, backtrack, Next, endNone, endFound, step, turn, next}
 use Rattle.search_rules.specs.Run.{total, count, End, wasNone, wasFound, wasSpent, run, EndedWithin}
+use Rattle.search_rules.specs.Held.{WasOpen}
 use Rattle.search_rules.specs.Following.{firstStep, followingRun, FollowingEnded, at-once, later}
 use Rattle.search_rules.proofs.Ranges.{Ranged}
 use Rattle.search_rules.proofs.StepView.{Full, Step, ends-none, ends-found, backtracks, propagates, decides, view, turns-of}
-use Rattle.search_rules.proofs.StepView.{Ends, run-ends}
+use Rattle.search_rules.proofs.StepView.{total-count, turn-leads, Ends, run-ends}
 use Rattle.search_rules.proofs.Invariant.{length-values, first-unit-open}
 use Rattle.search_rules.proofs.Found.{place-below}
-use Rattle.search_rules.proofs.Theorems.{spent-exactly}
+use Rattle.search_rules.proofs.Reached.{spending}
+use Rattle.search_rules.proofs.Again.{open-kept, open-keeps}
+use Rattle.search_rules.proofs.Theorems.{spent-exactly, spent-state, again, resume}
 
 -- the rules end with "found" exactly where every variable is set and no clause is false
 module _ (clauses : List (List ℤ)) (v : ℕ) (ranged : Ranged v clauses) where
@@ -176,3 +180,69 @@ module _ (clauses : List (List ℤ)) (v : ℕ) where
 
   pub follow-spent-exactly : (n : ℕ) (t : Steps) (state : State) → Spends n t state ↔ (FollowingEnded clauses v n state → ⊥)
   follow-spent-exactly n t state = spends-at n t state (firstStep clauses v state) refl
+
+  -- a call that is spent did nothing and was allowed nothing, or stands where the rules go on
+  data Spending (n : ℕ) (t : Steps) (state : State) (t' : Steps) (s : State) : Type 0 where
+    nothing-done : n ≡ 0 → t' ≡ t → s ≡ state → Spending n t state t' s
+    steps-done : {m : ℕ} {kind : Kind} {first : State} → n ≡ suc m → firstStep clauses v state ≡ step kind first
+        → run clauses v m (count kind t) first ≡ wasSpent t' s → Spending n t state t' s
+
+  spending-at : (n : ℕ) (t : Steps) (state : State) (t' : Steps) (s : State) (x : Next) → firstStep clauses v state ≡ x
+      → followingRun clauses v n t state ≡ wasSpent t' s → Spending n t state t' s
+  spending-at n t state t' s endNone e d = absurd (not-none (sym (follow-none n t state e) ∙ d))
+    where
+      not-none : wasNone t ≡ wasSpent t' s → ⊥
+      not-none q = let z : _≡_ {A = ℕ} 0 1 = cc in omega arith
+  spending-at n t state t' s endFound e d = absurd (first-not-found state e)
+  spending-at zero t state t' s (step kind r) e d = same (sym (follow-waits t state kind r e) ∙ d)
+    where
+      same : wasSpent t state ≡ wasSpent t' s → Spending 0 t state t' s
+      same q = nothing-done refl (let x : t ≡ t' = cc in sym x) (let x : state ≡ s = cc in sym x)
+  spending-at (suc n) t state t' s (step kind r) e d = steps-done refl e (sym (follow-step n t state kind r e) ∙ d)
+
+  spending-of : (n : ℕ) (t t' : Steps) (state s : State) → followingRun clauses v n t state ≡ wasSpent t' s → Spending n t state t' s
+  spending-of n t t' state s d = spending-at n t state t' s (firstStep clauses v state) refl d
+
+  -- all steps are then counted
+  pub following-counted : (n : ℕ) (t t' : Steps) (state s : State) → followingRun clauses v n t state ≡ wasSpent t' s → total t' ≡ total t + n
+  following-counted n t t' state s d = by (spending-of n t t' state s d)
+    where
+      by : Spending n t state t' s → total t' ≡ total t + n
+      by (nothing-done z q r) = rw (q, z) (omega arith)
+      by (steps-done {m} {kind} {first} z e q) =
+          omega (arith, z, total-count kind t, spent-state clauses v m (count kind t) t' first s q .1)
+
+  -- and a call for the next that takes it up comes to what one call would
+  pub following-again : (m n : ℕ) (t t' : Steps) (state s : State) → followingRun clauses v m t state ≡ wasSpent t' s
+      → followingRun clauses v (m + n) t state ≡ followingRun clauses v n t' s
+  following-again m n t t' state s d = by (spending-of m t t' state s d)
+    where
+      goes-on : (kind : Kind) (s' : State) → next clauses v s ≡ step kind s' → next clauses v s ≡ endFound → ⊥
+      goes-on kind s' d e = let z : _≡_ {A = ℕ} 0 1 = cc in omega arith
+
+      by : Spending m t state t' s → followingRun clauses v (m + n) t state ≡ followingRun clauses v n t' s
+      by (nothing-done z q r) = rw (z, q, r, zero-add n) refl
+      by (steps-done {m = k} {kind} {first} z e q) =
+          let on = spending clauses v k (count kind t) t' first s q .goes-on in
+          let longer : m + n ≡ suc (k + n) = rw z (suc-add k n) in
+          ap (λ x. followingRun clauses v x t state) longer
+          ∙ follow-step (k + n) t state kind first e
+          ∙ resume clauses v k n (count kind t) first
+          ∙ ap (again clauses v n) q
+          ∙ unfold again in sym (follow-resumes n t' s (goes-on (on .0) (on .1) (on .2)))
+
+-- the first step from a state over v variables leads to one
+pub first-open : (v : ℕ) (clauses : List (List ℤ)) → Ranged v clauses → (state : State) → WasOpen v state → (kind : Kind) (s : State)
+    → firstStep clauses v state ≡ step kind s → WasOpen v s
+first-open v clauses ranged state o kind s e =
+    ⊎-elim (λ d. open-keeps v clauses ranged state kind s o d)
+    (λ d. rw (d .1) at (turn-leads clauses v (WasOpen v) (open-kept v clauses ranged) state o))
+    (first-cases clauses v state kind s e)
+
+-- and what is spent leaves a state over them
+pub following-open : (v : ℕ) (clauses : List (List ℤ)) → Ranged v clauses → (n : ℕ) (t t' : Steps) (state s : State) → WasOpen v state
+    → followingRun clauses v n t state ≡ wasSpent t' s → WasOpen v s
+unfolding FollowEnds
+following-open v clauses ranged n t t' state s o e =
+    ⊎-elim (λ d. rw d o) (λ d. d .0)
+    (follow-ends clauses v (WasOpen v) (open-keeps v clauses ranged) n t state (wasSpent t' s) (first-open v clauses ranged state o) e)

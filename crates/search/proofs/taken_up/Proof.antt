@@ -1,4 +1,4 @@
--- `search::resumed` meets its contract. Assumes nothing.
+-- `search::taken_up` meets its contract. Assumes nothing.
 use mathlib.Core.Path.{_≡_, sym, _∙_}
 use mathlib.Core.Bool.{true, false, not}
 use mathlib.Core.List.{List}
@@ -21,8 +21,8 @@ use Rattle.refusal.specs.declared.Refusal.the-variants as refusal
 use Rattle.search.specs.Resumed.{startOf}
 use Rattle.search.proofs.Resumptions.{no-list, short-values, short-trail, no-state, too-many, runs, denied, granted}
 use Rattle.search.proofs.Resumptions.{declines, declines-back, finishes}
-use Rattle.search.proofs.resumed.Statement.{statement}
-use Rattle.search.proofs.resumed.Tie as tie
+use Rattle.search.proofs.taken_up.Statement.{statement}
+use Rattle.search.proofs.taken_up.Tie as tie
 
 is-list-requires : tie.Need-is-list-requires
 is-list-requires c κs = search needs
@@ -37,7 +37,7 @@ refused-requires : tie.Need-refused-requires
 refused-requires c κs = search needs
 
 returns : tie.Need-returns
-returns c = declines refusal.List _ _ _ _ _ (c .refused .ensures .0) (c .refused .ensures .1) (no-list _ _ _ _ _ _ (refuses (c .before)))
+returns c = declines refusal.List _ _ _ _ _ (c .refused .ensures .0) (c .refused .ensures .1) (no-list _ _ _ _ _ _ _ (refuses (c .before)))
 
 refused-requires-2 : tie.Need-refused-requires-2
 refused-requires-2 c κs = search needs
@@ -45,7 +45,7 @@ refused-requires-2 c κs = search needs
 returns-2 : tie.Need-returns-2
 returns-2 c =
     declines Short _ _ _ _ _ (c .refused2 .ensures .0) (c .refused2 .ensures .1)
-    (short-values _ _ _ _ _ _ (accepts (c .before .before)) (c .before .if2 .taken))
+    (short-values _ _ _ _ _ _ _ (accepts (c .before .before)) (c .before .if2 .taken))
 
 refused-requires-3 : tie.Need-refused-requires-3
 refused-requires-3 c κs = search needs
@@ -53,7 +53,7 @@ refused-requires-3 c κs = search needs
 returns-3 : tie.Need-returns-3
 returns-3 c =
     declines Short _ _ _ _ _ (c .refused3 .ensures .0) (c .refused3 .ensures .1)
-    (short-trail _ _ _ _ _ _ (accepts (c .before .before .before)) (c .before .if3 .taken))
+    (short-trail _ _ _ _ _ _ _ (accepts (c .before .before .before)) (c .before .if3 .taken))
 
 slice-relend-prefix-vs : tie.Need-slice-relend-prefix-vs
 slice-relend-prefix-vs c = search needs
@@ -139,7 +139,7 @@ returns-4 : tie.Need-returns-4
 returns-4 c =
     let t = c .before .before .before .before .before .before .before .before in
     declines-back (v t) refusal.State _ _ _ _ _ (c .refused4 .ensures .0) (c .refused4 .ensures .1)
-    (no-state _ _ _ _ _ _ (listed t) (in-values t) (in-trail t) (refuses-state (c .before .before .before .before)))
+    (no-state _ _ _ _ _ _ _ (listed t) (in-values t) (in-trail t) (refuses-state (c .before .before .before .before)))
 
 too-many-requires : tie.Need-too-many-requires
 too-many-requires c κs = search needs
@@ -166,7 +166,7 @@ returns-5 : tie.Need-returns-5
 returns-5 c =
     let t = c .before .before .before .before .before .before .before .before .before .before in
     declines-back (v t) refusal.State _ _ _ _ _ (c .refused5 .ensures .0) (c .refused5 .ensures .1)
-    (too-many _ _ _ _ _ _ (listed t) (in-values t) (in-trail t) (too-many-steps (c .before .before .before .before)))
+    (too-many _ _ _ _ _ _ _ (listed t) (in-values t) (in-trail t) (too-many-steps (c .before .before .before .before)))
 
 go-on-requires : tie.Need-go-on-requires
 go-on-requires c κs =
@@ -190,11 +190,11 @@ returns-6 c =
     let e = c .before .before .before .before .before .before in
     let t = c .before .before .before .before .before .before .before .before .before .before in
     finishes _ _ _ _ _ _ _ _
-    (runs _ _ _ _ _ _ (listed t) (in-values t) (in-trail t) (takes-state e) (few-steps (c .before .before .before .before)))
+    (runs _ _ _ _ _ _ _ (listed t) (in-values t) (in-trail t) (takes-state e) (few-steps (c .before .before .before .before)))
     ((rw (wide t) at (c .before .before .before .go-on .ensures)) _ (stored e))
 
-pub resumed-spec : {M : Type 1} → statement M
-resumed-spec =
+pub taken-up-spec : {M : Type 1} → statement M
+taken-up-spec =
     tie.close
     (tie.spec
     is-list-requires
