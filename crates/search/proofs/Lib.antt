@@ -10,6 +10,7 @@ pub mod Resuming
 pub mod ResumedTheorems
 pub mod First
 pub mod Counters
+pub mod FollowingCalls
 pub mod MoreSteps
 pub mod OpenSlices
 pub mod Lent

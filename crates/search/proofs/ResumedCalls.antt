@@ -1,6 +1,6 @@
 -- A call that takes up a state is refused, or runs from the state that is held.
 use mathlib.Core.Path.{_≡_, refl, sym, _∙_, ap}
-use mathlib.Core.Bool.{Bool, true, false}
+use mathlib.Core.Bool.{Bool, true, false, _&&_}
 use mathlib.Core.Logic.{_⊎_, inl, inr, ⊎-elim}
 use mathlib.Core.List.{List}
 use Prim.Native.Nat.{ℕ, _+_, _≤_}
@@ -9,14 +9,16 @@ use lib.IntN.{ℤ}
 use lib.ListN.{length, take}
 use lib.Seq.{length-take-le}
 use borrow.Author.Tests.{leb-true, leb-false, ltb-true, ltb-false}
+use Rattle.prelude.proofs.Laws.{and-left, and-right}
 use Rattle.clause_list.specs.ClauseList.{isList}
 use Rattle.search_rules.specs.Rules.{State}
 use Rattle.search_rules.specs.Run.{total}
 use Rattle.search_rules.specs.Held.{stepsOf, noState, stepLimit, tooMany, Stored}
+use Rattle.search_rules.proofs.Booleans.{or-false}
 use Rattle.search_rules.proofs.StateHeld.{holds-state}
 use Rattle.search_rules.specs.declared.Position.{Position}
 use Rattle.search.specs.Answers.{Answer, refused, answerAt}
-use Rattle.search.specs.Resumed.{decline, finishAt, startOf, Running, takenUp}
+use Rattle.search.specs.Resumed.{decline, finishAt, startOf, declinesState, Running, takenUp}
 use Rattle.search.proofs.Resumptions.{no-list, short-values, short-trail, no-state, too-many, runs}
 
 module _ (running : Running) (list : List ℤ) (v : ℕ) (values : List ℕ) (trail : List ℤ) (p : Position) (budget : ℕ) where
@@ -65,3 +67,28 @@ module _ (running : Running) (list : List ℤ) (v : ℕ) (values : List ℕ) (tr
   answered a h e =
       ⊎-elim (λ c. absurd (h (c .0) (sym (ap (λ o. o .outcome .answer) (c .1)) ∙ e)))
       (λ r. (r, sym (ap (λ o. o .outcome .answer) (r .ends)) ∙ e)) called
+
+-- two kinds of calls that run alike from a state that is held come to the same
+module _ (running other : Running) (list : List ℤ) (v : ℕ) (values : List ℕ) (trail : List ℤ) (p : Position) (budget : ℕ) where
+  refused-alike : (a b c : Bool) → isList v list ≡ a → (leb v (length values) && leb v (length trail)) ≡ b → declinesState v values trail p budget ≡ c
+      → (Runs running list v values trail p budget
+      → running (stepsOf p) (startOf v values trail p) budget ≡ other (stepsOf p) (startOf v values trail p) budget)
+      → takenUp running list v values trail p budget ≡ takenUp other list v values trail p budget
+  unfolding takenUp
+  refused-alike false b c d e f h = rw d refl
+  refused-alike true false c d e f h = rw (d, e) refl
+  refused-alike true true true d e f h = rw (d, e, f) refl
+  refused-alike true true false d e f h =
+      let w = leb-true _ _ (and-left _ _ e) in
+      let l = leb-true _ _ (and-right (leb v (length values)) _ e) in
+      let n = or-false (noState v (take v values) (take v trail) (p .length)) _ f in
+      let k = ltb-false _ _ (n .1) in
+      let r : Runs running list v values trail p budget =
+      record { is-list = d; wide = w; deep = l; holds = n .0; few = k; ends = runs running list v values trail p budget d w l (n .0) k } in
+      rw (d, e, f) (ap (finishAt v values trail) (h r))
+
+  pub alike : (Runs running list v values trail p budget
+      → running (stepsOf p) (startOf v values trail p) budget ≡ other (stepsOf p) (startOf v values trail p) budget)
+      → takenUp running list v values trail p budget ≡ takenUp other list v values trail p budget
+  alike h =
+      refused-alike (isList v list) (leb v (length values) && leb v (length trail)) (declinesState v values trail p budget) refl refl refl h

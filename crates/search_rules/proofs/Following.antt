@@ -70,6 +70,17 @@ module _ (clauses : List (List ℤ)) (v : ℕ) where
   unfolding firstStep
   first-full state e = rw (e, firstStep) refl
 
+  -- elsewhere it is the rules' next
+  pub first-other : (state : State) → (next clauses v state ≡ endFound → ⊥) → firstStep clauses v state ≡ next clauses v state
+  unfolding firstStep
+  first-other state h = by (next clauses v state) refl
+    where
+      by : (x : Next) → next clauses v state ≡ x
+          → elim x as (λ _. Next) [ endNone ↦ endNone | endFound ↦ turn state | step kind s ↦ step kind s ] ≡ x
+      by endNone e = refl
+      by endFound e = absurd (h e)
+      by (step kind s) e = refl
+
   turn-not-found : (state : State) → turn state ≡ endFound → ⊥
   turn-not-found state e = ⊎-elim (λ t. let z : _≡_ {A = ℕ} 0 1 = cc in omega arith) (λ t. other (t .0) (t .1)) (turns-of state)
     where
