@@ -12,7 +12,7 @@ use lib.Seq.{drop-cons, take-append-seam, drop-append-seam, drop-drop, length-ta
 use borrow.Author.Tests.{leb-true, le-leb, lt-leb}
 use Rattle.prelude.specs.Tests.{between, all}
 use Rattle.prelude.proofs.Laws.{clash, and-left, and-right, and-both, and-rest, and-not-left, and-not-right}
-use Rattle.prelude.proofs.Laws.{between-low, between-high, is-between, below-not-between, above-not-between}
+use Rattle.prelude.proofs.Laws.{between-low, between-low, between-high, is-between, below-not-between, above-not-between}
 use Rattle.literal.specs.Literals.{isLiteral}
 use Rattle.clause_list.specs.ClauseList.{cut, clausesOf, wordsOf, isCount, wellCut, isList}
 
@@ -145,6 +145,9 @@ module _ (v : ℕ) (ws : List ℤ) (e : isList v ws ≡ true) where
   pub list-variables : between 1 16000 v ≡ true
   unfolding isList
   list-variables = and-left (between 1 16000 v) _ e
+
+  pub list-some-variable : 1 ≤ v
+  list-some-variable = between-low 1 16000 v list-variables
 
   pub list-most-variables : v ≤ 16000
   list-most-variables = between-high 1 16000 v list-variables

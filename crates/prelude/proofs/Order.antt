@@ -9,7 +9,7 @@ use lib.Dec.{leb}
 use lib.ListN.{length, getD, take}
 use borrow.Author.Tests.{leb-true}
 use Rattle.prelude.specs.Tests.{all}
-use Rattle.prelude.specs.Order.{Before}
+use Rattle.prelude.specs.Order.{Before, Each, Pairs}
 use Rattle.prelude.proofs.Laws.{and-left, and-right}
 
 pub before-irreflexive : (xs : List ℕ) → Before xs xs → ⊥
@@ -79,3 +79,19 @@ before-front zero xs ys h = absurd h
 before-front (suc n) [] ys h = absurd h
 before-front (suc n) (x ∷ xs) [] h = absurd h
 before-front (suc n) (x ∷ xs) (y ∷ ys) h = ⊎-elim inl (λ d. inr (d .0, before-front n xs ys (d .1))) h
+
+-- properties of a list's elements
+module _ {A : Type 0} (P Q : A → Type 0) where
+  pub each-map : ((x : A) → P x → Q x) → (xs : List A) → Each P xs → Each Q xs
+  unfolding Each
+  each-map f [] h = tt
+  each-map f (x ∷ xs) h = (f x (h .0), each-map f xs (h .1))
+
+-- what ascends is different
+pub ascending-different : (xs : List (List ℕ)) → Pairs Before xs → Pairs (λ x y. x ≡ y → ⊥) xs
+unfolding Pairs
+ascending-different [] h = tt
+ascending-different (x ∷ xs) h = (
+  each-map (Before x) (λ y. x ≡ y → ⊥) (λ y b e. before-irreflexive y (rw e at b)) xs (h .0),
+  ascending-different xs (h .1),
+)

@@ -11,6 +11,7 @@ pub mod ResumedTheorems
 pub mod First
 pub mod Counters
 pub mod FollowingCalls
+pub mod Every
 pub mod MoreSteps
 pub mod OpenSlices
 pub mod Lent
