@@ -1,12 +1,13 @@
 -- What this crate shows of its clauses: `gate`, `or`, `walk` and `match`.
-use mathlib.Core.Path.{_≡_, sym, _∙_}
-use mathlib.Core.Logic.{_↔_}
+use mathlib.Core.Path.{_≡_, refl, sym, _∙_}
+use mathlib.Core.Logic.{_↔_, ⊎-elim}
 use mathlib.Core.Bool.{Bool, true}
 use mathlib.Core.List.{List, _++_, map}
 use Prim.Native.Nat.{ℕ, _≤_}
 use lib.ListN.{length}
 use Rattle.prelude.specs.Tests.{any}
-use Rattle.prelude.specs.Order.{NoneBefore}
+use Rattle.prelude.specs.Order.{Before, NoneBefore}
+use Rattle.prelude.proofs.Order.{before-irreflexive, before-transitive, before-total}
 use Rattle.literal.specs.Literals.{Literal, positive}
 use Rattle.clause_list.specs.ClauseList.{isList}
 use Rattle.sheet_rules.specs.declared.Layout.{Layout}
@@ -16,6 +17,7 @@ use Rattle.relational.specs.Trees.{Expression, Formula}
 use Rattle.relational.specs.Meaning.{Environment}
 use Rattle.relational.specs.Evaluation.{valueOf, truthOf}
 use Rattle.relational.proofs.Accepted.{accepted-holds}
+use Rattle.relational.proofs.Scopes.{within-size, within-bits}
 use Rattle.clauses_rules.specs.Builder.{Gate, Built}
 use Rattle.clauses_rules.specs.Gates.{or, gateClauses, gatesClauses}
 use Rattle.clauses_rules.specs.Translation.{translate, translateFormula}
@@ -105,6 +107,22 @@ module _ (s : List ℕ) (layout : Layout) (taken : reading s ≡ accepted layout
   first a h none-before i p before =
       let o = match .once i p in
       none-before (o .assignment) (o .satisfying) (read-back-before (sheetOf s) (o .assignment) a (o .satisfying) h (rw (o .reads) before))
+
+  -- and of two assignments the earlier one reads back to the earlier instance
+  pub before-reads : (a b : List ℕ) → Assignment (sheetOf s) a → Assignment (sheetOf s) b → Before a b
+      → Before (readBack (sheetOf s) a) (readBack (sheetOf s) b)
+  before-reads a b p q h =
+      let i = match .reads a p .within in
+      let j = match .reads b q .within in
+      ⊎-elim (λ x. x)
+      (⊎-elim (λ x. absurd (before-irreflexive b (rw (same-reads a b p q x) at h)))
+      (λ x. absurd (before-irreflexive a (before-transitive a b a h (read-back-before (sheetOf s) b a q p x)))))
+      (before-total (readBack (sheetOf s) a) (readBack (sheetOf s) b) (within-size (sheetOf s) _ i ∙ sym (within-size (sheetOf s) _ j))
+      (within-bits (sheetOf s) _ i) (within-bits (sheetOf s) _ j))
+    where
+      same-reads : (a b : List ℕ) → Assignment (sheetOf s) a → Assignment (sheetOf s) b → readBack (sheetOf s) a ≡ readBack (sheetOf s) b → a ≡ b
+      same-reads a b p q e =
+          let o = match .once (readBack (sheetOf s) b) (match .reads b q) in o .only a p e ∙ sym (o .only b q refl)
 
   -- `listed`: the search takes the clauses as they are written, where they fit the limits
   pub listed : variableTotal (sheetOf s) ≤ 16000 → wordTotal (sheetOf s) ≤ 2147483647

@@ -1,7 +1,7 @@
 -- Laws of the order of specs/Order.
-use mathlib.Core.Path.{_≡_, refl, sym, _∙_}
+use mathlib.Core.Path.{_≡_, refl, sym, _∙_, ap}
 use mathlib.Core.Bool.{true}
-use mathlib.Core.List.{List, [], _∷_}
+use mathlib.Core.List.{List, [], _∷_, map}
 use mathlib.Core.Logic.{_⊎_, inl, inr, ⊎-elim}
 use Prim.Native.Nat.{ℕ, zero, suc, _<_}
 use native.Mathlib.Omega.{arith}
@@ -9,7 +9,7 @@ use lib.Dec.{leb}
 use lib.ListN.{length, getD, take}
 use borrow.Author.Tests.{leb-true}
 use Rattle.prelude.specs.Tests.{all}
-use Rattle.prelude.specs.Order.{Before, Each, Pairs}
+use Rattle.prelude.specs.Order.{Before, Each, Some, Pairs, Lists}
 use Rattle.prelude.proofs.Laws.{and-left, and-right}
 
 pub before-irreflexive : (xs : List ℕ) → Before xs xs → ⊥
@@ -95,3 +95,42 @@ ascending-different (x ∷ xs) h = (
   each-map (Before x) (λ y. x ≡ y → ⊥) (λ y b e. before-irreflexive y (rw e at b)) xs (h .0),
   ascending-different xs (h .1),
 )
+
+-- lists of those that have one property, and of what a map that keeps the order and reaches all makes of them
+module _ (P Q : List ℕ → Type 0) (f : List ℕ → List ℕ) (maps : (x : List ℕ) → P x → Q (f x))
+    (up : (x y : List ℕ) → P x → P y → Before x y → Before (f x) (f y)) (onto : (y : List ℕ) → Q y → (x : List ℕ) × P x × (f x ≡ y)) where
+  each-of-map : (R S : List ℕ → Type 0) → ((x : List ℕ) → P x → R x → S (f x)) → (xs : List (List ℕ)) → Each P xs → Each R xs → Each S (map f xs)
+  unfolding Each
+  each-of-map R S g [] p h = tt
+  each-of-map R S g (x ∷ xs) p h = (g x (p .0) (h .0), each-of-map R S g xs (p .1) (h .1))
+
+  some-of-map : (y : List ℕ) (x : List ℕ) → f x ≡ y → (xs : List (List ℕ)) → Some (λ z. z ≡ x) xs → Some (λ z. z ≡ y) (map f xs)
+  unfolding Some
+  some-of-map y x e [] h = h
+  some-of-map y x e (z ∷ xs) h = ⊎-elim (λ d. inl (ap f d ∙ e)) (λ d. inr (some-of-map y x e xs d)) h
+
+  ascending-of-map : (xs : List (List ℕ)) → Each P xs → Pairs Before xs → Pairs Before (map f xs)
+  unfolding Each Pairs
+  ascending-of-map [] p h = tt
+  ascending-of-map (x ∷ xs) p h = (
+    each-of-map (Before x) (Before (f x)) (λ y q b. up x y (p .0) q b) xs (p .1) (h .0),
+    ascending-of-map xs (p .1) (h .1),
+  )
+
+  -- one that is among them is among what is made of them
+  pub given-of-map : (xs : List (List ℕ)) → ((x : List ℕ) → P x → Some (λ z. z ≡ x) xs) → (y : List ℕ) → Q y → Some (λ z. z ≡ y) (map f xs)
+  given-of-map xs h y q = let o = onto y q in some-of-map y (o .0) (o .2) xs (h (o .0) (o .1))
+
+  pub lists-of-map : (xs : List (List ℕ)) → Lists P xs → Lists Q (map f xs)
+  lists-of-map xs l =
+      let rise = ascending-of-map xs (l .each) (l .ascending) in
+      record {
+        each = each-of-map P Q (λ x p r. maps x p) xs (l .each) (l .each);
+        ascending = rise;
+        different = ascending-different (map f xs) rise;
+        others-later = λ y q.
+            let o = onto y q in
+            ⊎-elim (λ h. inl (some-of-map y (o .0) (o .2) xs h))
+            (λ h. inr (each-of-map (λ x. Before x (o .0)) (λ z. Before z y) (λ x p b. rw (o .2) at (up x (o .0) p (o .1) b)) xs (l .each) h))
+            (l .others-later (o .0) (o .1));
+      }

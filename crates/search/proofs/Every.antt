@@ -5,8 +5,10 @@ use mathlib.Core.Logic.{_⊎_, inl, inr, ⊎-elim}
 use mathlib.Core.List.{List, [], _∷_, _++_, map}
 use Prim.Native.Nat.{ℕ, _+_, _≤_}
 use native.Mathlib.Omega.{arith}
+use native.Mathlib.Nat.{min-le-right}
 use lib.IntN.{ℤ}
-use lib.ListN.{length, take, drop}
+use lib.ListN.{length, take, length-take}
+use borrow.Author.Tests.{le-ltb}
 use Rattle.prelude.specs.Order.{Before, Each, Some, Pairs, Lists}
 use Rattle.prelude.proofs.Laws.{clash, decided}
 use Rattle.prelude.proofs.Order.{ascending-different}
@@ -14,19 +16,24 @@ use Rattle.clause_list.specs.ClauseList.{clausesOf, isList, Satisfying}
 use Rattle.clause_list.proofs.Laws.{list-some-variable}
 use Rattle.search_rules.specs.declared.Steps.{Steps}
 use Rattle.search_rules.specs.Rules.{State, valuesOf, settle}
-use Rattle.search_rules.specs.Run.{End, wasNone, wasFound, wasSpent}
-use Rattle.search_rules.specs.Held.{stepsOf, positionOf, Stored}
-use Rattle.search_rules.specs.Following.{followingRun}
+use Rattle.search_rules.specs.Run.{total, End, wasNone, wasFound, wasSpent}
+use Rattle.search_rules.specs.Held.{stepsOf, positionOf, stepLimit, Stored}
+use Rattle.search_rules.specs.Following.{followingRun, FollowingEnded}
 use Rattle.search_rules.proofs.Ranges.{Ranged, fine-list, ranged}
-use Rattle.search_rules.proofs.StateHeld.{read-stored}
+use Rattle.search_rules.proofs.Booleans.{or-both-false}
+use Rattle.search_rules.proofs.Invariant.{length-values}
+use Rattle.search_rules.proofs.Trails.{length-trail}
+use Rattle.search_rules.proofs.Ending.{following-ends}
+use Rattle.search_rules.proofs.StateHeld.{read-stored, stored-passes}
 use Rattle.search_rules.proofs.Passed.{Sound, sound-fresh, Past, Waiting, past-found, past-spent, waiting-found, waiting-spent, waiting-none}
 use Rattle.search_rules.proofs.Passed.{waiting-fresh, sound-spent, sound-found, found-next, found-past}
 use Rattle.search.specs.Answers.{Answer, found, none, spent, refused, answerAt, valuesAt, trailAt}
-use Rattle.search.specs.Resumed.{Resumption, left, finishAt, startOf}
-use Rattle.search.specs.Following.{followedRun}
+use Rattle.search.specs.Resumed.{Resumption, left, finishAt, startOf, declinesState}
+use Rattle.search.specs.Following.{followedRun, FollowingTaken}
 use Rattle.search.specs.Every.{Standing, leftBy, Fresh, nextCall, Calls, no-call, finds, spends, Listing, EveryAssignment}
 use Rattle.search.proofs.Outcomes.{was-none, was-found, was-spent, found-values}
-use Rattle.search.proofs.ResumedCalls.{Runs, answered}
+use Rattle.search.proofs.ResumedCalls.{answered}
+use Rattle.search.proofs.FollowingCalls.{following-calls}
 use Rattle.search.proofs.LeftStates.{stored, leftValues, leftTrail, holds-left}
 
 -- slices and record hold a state that a search from a fresh start comes through
@@ -103,6 +110,29 @@ module _ (list : List ℤ) (v : ℕ) (at : Standing) (state : State) (here : Sta
       let w = was-spent end steps (r .answers) in
       leads is (wasSpent steps) (spent steps) steps (w .0) (r .ends ∙ ap (finishAt v (at .values) (at .trail)) (w .1)) (w .1)
       (sound-spent (clausesOf list) v (in-range is) n (stepsOf (at .position)) steps state (w .0) (here .sound) (w .1))
+
+take-within : {A : Type 0} (n : ℕ) (xs : List A) → length (take n xs) ≡ n → n ≤ length xs
+take-within n xs e = omega (arith, length-take n xs, min-le-right n (length xs))
+
+-- a call there is taken while its steps can be counted, and ends
+module _ (list : List ℤ) (v : ℕ) (is : isList v list ≡ true) (at : Standing) (state : State) (here : Stands v at state) where
+  is-wide : v ≤ length (at .values)
+  is-wide = take-within v (at .values) (ap length (here .held .values-are) ∙ length-values v state)
+
+  is-deep : v ≤ length (at .trail)
+  is-deep = take-within v (at .trail) (ap length (here .held .trail-is) ∙ length-trail v state)
+
+  not-declined : (n : ℕ) → total (stepsOf (at .position)) + n ≤ stepLimit → declinesState v (at .values) (at .trail) (at .position) n ≡ false
+  not-declined n few = or-both-false _ _ (stored-passes v state _ _ _ (here .held)) (le-ltb _ _ few)
+
+  pub taken-there : (n : ℕ) → total (stepsOf (at .position)) + n ≤ stepLimit → FollowingTaken list v (at .values) (at .trail) (at .position) n
+  taken-there n few =
+      following-calls .takes list v (at .values) (at .trail) (at .position) n is is-wide is-deep (not-declined n few)
+
+  pub ends-there : (n : ℕ) × FollowingEnded (clausesOf list) v n (startOf v (at .values) (at .trail) (at .position))
+  ends-there =
+      rw (read-stored v state _ _ _ (here .held))
+      (following-ends (clausesOf list) v (ranged v list (fine-list v list is)) state (here .sound .was-open))
 
 -- calls over a list
 module _ (list : List ℤ) (v : ℕ) (is : isList v list ≡ true) where
@@ -184,6 +214,15 @@ module _ (list : List ℤ) (v : ℕ) (is : isList v list ≡ true) where
       (rw (case-is at state s n (wasFound steps) l case g) at after, ascend (l .to) (l .holds) rest)
   ascend {at} state s (spends {steps = steps} n e rest) =
       let l = spent-leads list v at state s n steps e is in ascend (l .to) (l .holds) rest
+
+  -- where the calls stand, a state is held again
+  pub stands-on : (Gives : List ℕ → List ℕ → Type 0) {at to : Standing} {cases : List (List ℕ)} (state : State) → Stands v at state
+      → Calls list v Gives at cases to → (s : State) × Stands v to s
+  stands-on Gives state s no-call = (state, s)
+  stands-on Gives {at} state s (finds {steps = steps} n e g rest) =
+      let l = found-leads list v at state s n steps e is in stands-on Gives (l .to) (l .holds) rest
+  stands-on Gives {at} state s (spends {steps = steps} n e rest) =
+      let l = spent-leads list v at state s n steps e is in stands-on Gives (l .to) (l .holds) rest
 
   -- from a fresh start
   module _ (at to : Standing) (cases : List (List ℕ)) (fresh : Fresh v at) (calls : Given at cases to) where

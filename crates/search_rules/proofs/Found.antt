@@ -1,5 +1,5 @@
 -- Where the rules end with "found", the settled values satisfy every clause.
-use mathlib.Core.Path.{_≡_, refl, _∙_}
+use mathlib.Core.Path.{_≡_, refl, _∙_, ap}
 use mathlib.Core.Bool.{true, false, _&&_, _||_}
 use mathlib.Core.List.{List, [], _∷_, map}
 use Prim.Native.Nat.{ℕ, zero, suc, pred, _<_, _≤_}
@@ -8,7 +8,7 @@ use native.Mathlib.Numerals.{sub-one}
 use lib.Dec.{leb}
 use lib.IntN.{ℤ, pos, negsuc}
 use lib.ListN.{length, getD, set, replicate, length-map, List·getD-map}
-use borrow.Author.Tests.{le-leb, eq-eqb}
+use borrow.Author.Tests.{leb-true, le-leb, eq-eqb}
 use Rattle.prelude.specs.Tests.{all, any}
 use Rattle.clause_list.specs.ClauseList.{isTrue, Satisfying}
 use Rattle.search_rules.specs.Held.{InRange}
@@ -17,7 +17,7 @@ use Rattle.search_rules.specs.Rules.{Truth, falsified, satisfied, unassi
 use Rattle.search_rules.specs.Rules.{propagated, decided, State, byteOf, placeOf, wordOf, valuesOf, Next, endFound}
 use Rattle.search_rules.specs.Rules.{next}
 use Rattle.search_rules.specs.Rules.{settle}
-use Rattle.prelude.proofs.Laws.{or-right}
+use Rattle.prelude.proofs.Laws.{and-left, and-right, or-right}
 use Rattle.search_rules.proofs.Booleans.{or-false}
 use Rattle.search_rules.proofs.Ranges.{Ranged}
 use Rattle.search_rules.proofs.StepView.{Full, Step, ends-none, ends-found, backtracks, propagates, decides, view}
@@ -62,6 +62,14 @@ unfolding Bytes all
 bits [] h f = refl
 bits (b ∷ values) h f =
     rw (le-leb (settle b) 1 (settled b (h .0) (f 0 (omega arith)))) (bits values (h .1) (λ i l e. f (suc i) (omega arith) e))
+
+-- bits are settled
+pub settled-bits : (a : List ℕ) → all (λ b. leb b 1) a ≡ true → map settle a ≡ a
+unfolding all
+settled-bits [] h = refl
+settled-bits (zero ∷ a) h = ap (λ l. 0 ∷ l) (settled-bits a (and-right (leb 0 1) _ h))
+settled-bits (suc zero ∷ a) h = ap (λ l. 1 ∷ l) (settled-bits a (and-right (leb 1 1) _ h))
+settled-bits (suc (suc b) ∷ a) h = absurd (omega (arith, leb-true (suc (suc b)) 1 (and-left _ _ h)))
 
 small-at : (values : List ℕ) (i : ℕ) → Bytes values → getD values i 2 ≤ 3
 unfolding Bytes

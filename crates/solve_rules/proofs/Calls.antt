@@ -12,11 +12,11 @@ use Rattle.prelude.proofs.Laws.{and-both}
 use Rattle.sheet_rules.specs.Blocks.{sheetOf}
 use Rattle.relational.specs.Cells.{cellCount, withinScopes}
 use Rattle.relational.proofs.Scopes.{within-size, within-bits}
-use Rattle.clauses_rules.specs.Whole.{words, variableTotal, clauseTotal, wordTotal, readBack}
+use Rattle.clauses_rules.specs.Whole.{words, variableTotal, clauseTotal, wordTotal}
 use Rattle.clauses.specs.Answers as count
 use Rattle.clauses.specs.Answers.{fits, countAfter, countAnswer, writeAfter, writeAnswer, listAfter}
 use Rattle.clauses.proofs.Answered.{write-fits}
-use Rattle.solve_rules.specs.Answers.{copied, refused, readBackAfter, readBackAnswer, instanceBy, instanceAfter}
+use Rattle.solve_rules.specs.Answers.{copied, refused, readBits, readBackAfter, readBackAnswer, instanceBy, instanceAfter}
 use Rattle.solve_rules.specs.Demand3.{FitsLimits, ReadsBack}
 
 module _ (s : List ℕ) (h : FitsLimits s) where
@@ -40,11 +40,11 @@ module _ (s : List ℕ) (h : FitsLimits s) where
     pub writes-words : take (wordTotal (sheetOf s)) (listAfter s list) ≡ words (sheetOf s)
     writes-words = write-fits s list (variableTotal (sheetOf s)) (clauseTotal (sheetOf s)) (wordTotal (sheetOf s)) writes .front
 
-  -- read-back of values of which the cells' values are an instance
+  -- read-back of values of which the cells' values, 3 taken as 0, are an instance
   module _ (values lent : List ℕ) (one-each : length values ≡ variableTotal (sheetOf s))
-      (within : withinScopes (sheetOf s) (readBack (sheetOf s) values) ≡ true) (room : cellCount (sheetOf s) ≤ length lent) where
-    read-size : length (readBack (sheetOf s) values) ≡ cellCount (sheetOf s)
-    read-size = within-size (sheetOf s) (readBack (sheetOf s) values) within
+      (within : withinScopes (sheetOf s) (readBits (sheetOf s) values) ≡ true) (room : cellCount (sheetOf s) ≤ length lent) where
+    read-size : length (readBits (sheetOf s) values) ≡ cellCount (sheetOf s)
+    read-size = within-size (sheetOf s) (readBits (sheetOf s) values) within
 
     answers-cells : readBackAnswer s values lent ≡ copied (cellCount (sheetOf s))
     unfolding readBackAnswer
@@ -52,18 +52,18 @@ module _ (s : List ℕ) (h : FitsLimits s) where
         ap (λ a. readBackAfter a (sheetOf s) values (length lent)) counts
         ∙ ap (λ b. cond b (cond (leb (cellCount (sheetOf s)) (length lent)) (copied (cellCount (sheetOf s))) (refused 13)) (refused 11))
         (and-both _ _ (eq-eqb (length values) (variableTotal (sheetOf s)) one-each)
-        (within-bits (sheetOf s) (readBack (sheetOf s) values) within))
+        (within-bits (sheetOf s) (readBits (sheetOf s) values) within))
         ∙ ap (λ b. cond b (copied (cellCount (sheetOf s))) (refused 13)) (le-leb (cellCount (sheetOf s)) (length lent) room)
 
-    pub instance-after : instanceAfter s values lent ≡ readBack (sheetOf s) values ++ drop (cellCount (sheetOf s)) lent
+    pub instance-after : instanceAfter s values lent ≡ readBits (sheetOf s) values ++ drop (cellCount (sheetOf s)) lent
     unfolding instanceAfter
-    instance-after = ap (λ a. instanceBy a (readBack (sheetOf s) values) lent) answers-cells
+    instance-after = ap (λ a. instanceBy a (readBits (sheetOf s) values) lent) answers-cells
 
-    pub reads-back : ReadsBack s values lent (readBack (sheetOf s) values)
+    pub reads-back : ReadsBack s values lent (readBits (sheetOf s) values)
     reads-back =
         record {
           answer = answers-cells ∙ ap copied (sym read-size);
-          copies = instance-after ∙ ap (λ n. readBack (sheetOf s) values ++ drop n lent) (sym read-size);
+          copies = instance-after ∙ ap (λ n. readBits (sheetOf s) values ++ drop n lent) (sym read-size);
         }
 
 -- read-back answers one instance

@@ -1,6 +1,6 @@
 -- Demand 3, undivided: what the answers of counting, writing, search and read-back of a sheet say of its instances
--- (document 01, "The words of demand 3"; document 02, Change 1, for resumed calls, and Change 5 for the smallest case). proofs/Demand3.antt
--- shows it for every sheet that fits the limits, in slices that fit.
+-- (document 01, "The words of demand 3"; document 02, Change 1, for resumed calls, Change 5 for the smallest case and Change 6 for every case).
+-- proofs/Demand3.antt shows it for every sheet that fits the limits, in slices that fit.
 --
 -- The statement speaks of definitions. The contract that ties each one to the code, for every input and with no `requires`:
 --   `reading`                          `sheet::read`: its answer equals it
@@ -8,15 +8,17 @@
 --   `writeAnswer`, `listAfter`         `clauses::write`: its answer, and the lent list afterwards, equal them
 --   `outcome`                          `search::search`: its answer, and the lent values and trail afterwards, equal its fields
 --   `resumption`                       `search::resume`: its answer, and the lent values, trail and record afterwards, equal its fields
+--   `following`                        `search::next`: its answer, and the lent values, trail and record afterwards, equal its fields
 --   `readBackAnswer`, `instanceAfter`  `solve::read_back`: its answer, and the lent instance afterwards, equal them
--- `Solution` (an instance within the scopes that satisfies marks and formula), `Satisfying` and `EndedWithin` are no code's answer:
--- they are the paper's words, in clauses_rules/specs/Matching, clause_list/specs/ClauseList and search_rules/specs/Run.
+-- `Solution` (an instance within the scopes that satisfies marks and formula), `Satisfying`, `EndedWithin` and
+-- `FollowingEnded` are no code's answer: they are the paper's words, in clauses_rules/specs/Matching, clause_list/specs/ClauseList,
+-- search_rules/specs/Run and search_rules/specs/Following.
 use mathlib.Core.Path.{_≡_}
 use mathlib.Core.Bool.{false}
 use mathlib.Core.Logic.{_↔_}
 use mathlib.Core.List.{List, [], _++_}
 use mathlib.Core.Option.{some}
-use Prim.Native.Nat.{ℕ, _≤_}
+use Prim.Native.Nat.{ℕ, _+_, _^_, _≤_}
 use lib.IntN.{ℤ}
 use lib.ListN.{length, take, drop}
 use Rattle.clause_list.specs.ClauseList.{clausesOf, Satisfying}
@@ -31,9 +33,13 @@ use Rattle.clauses.specs.Answers.{fits, countAnswer, writeAnswer, listAfter}
 use Rattle.search_rules.specs.declared.Steps.{Steps}
 use Rattle.search_rules.specs.declared.Position.{Position}
 use Rattle.search_rules.specs.Rules.{State}
-use Rattle.search_rules.specs.Run.{after, EndedWithin}
+use Rattle.search_rules.specs.Run.{total, after, EndedWithin}
+use Rattle.search_rules.specs.Held.{stepsOf, stepLimit}
+use Rattle.search_rules.specs.Following.{FollowingEnded}
 use Rattle.search.specs.Answers.{Outcome, found, none, spent, refused, outcome}
 use Rattle.search.specs.Resumed.{startOf, declinesState, resumption}
+use Rattle.search.specs.Following.{following}
+use Rattle.search.specs.Every.{Standing, Fresh, nextCall, Calls, Listing}
 use Rattle.solve_rules.specs.Answers.{copied, readBackAnswer, instanceAfter}
 use Rattle.solve_rules.specs.Finding.{Slices}
 use Rattle.solve_rules.specs.Smallest.{Smallest}
@@ -109,7 +115,8 @@ module _ (s : List ℕ) (lent : Slices) (v w : ℕ) where
   abbrev pub begin : Position → State
   begin p = startOf v (lent .values) (lent .trail) p
 
-  -- "where the run goes back to a fresh start over the same list": the rules reach the state from all open
+  -- "where the run goes back to a fresh start over the same list", and "without such a clash" as a call for the next makes of a found assignment
+  -- (document 02, Change 6): the step rules alone reach the state from all open
   pub record GoesBack (p : Position) : Type 0 where
     pub steps : ℕ
     pub reached : after (clausesOf written) v steps [] ≡ some (begin p)
@@ -129,6 +136,43 @@ module _ (s : List ℕ) (lent : Slices) (v w : ℕ) where
     pub spent-exactly : declinesState v (lent .values) (lent .trail) p n ≡ false
         → ((steps : Steps) × (resumed p n .answer ≡ spent steps)) ↔ (EndedWithin (clausesOf written) v n (begin p) → ⊥)
 
+  -- a call for the next on them
+  abbrev pub followed : Position → ℕ → Outcome
+  followed p n = following written v (lent .values) (lent .trail) p n .outcome
+
+  -- what the answer of a call for the next within n steps says, whatever the state; what "none" says is below, with all calls from a fresh start on
+  pub record FollowedAnswered (p : Position) (n : ℕ) : Type 0 where
+    -- "found" only with values that read back to an instance that satisfies marks and formula
+    pub found-only : (steps : Steps) → followed p n .answer ≡ found steps → ReadsSolution s (take v (followed p n .values)) (lent .instance)
+    -- where 14 does not decline it is no refusal, and
+    pub taken : declinesState v (lent .values) (lent .trail) p n ≡ false → (number : ℕ) → followed p n .answer ≡ refused number → ⊥
+    -- "spent" exactly when the step rules, with the clash, have not ended within n steps
+    pub spent-exactly : declinesState v (lent .values) (lent .trail) p n ≡ false
+        → ((steps : Steps) × (followed p n .answer ≡ spent steps)) ↔ (FollowingEnded (clausesOf written) v n (begin p) → ⊥)
+
+  -- calls for the next, one after another with any budgets, over the list and v, with the instances that read-back answers at the "found"s
+  abbrev pub NextCalls : Standing → List (List ℕ) → Standing → Type 0
+  NextCalls = Calls written v (λ values instance. ReadsBack s values (lent .instance) instance)
+
+  -- the state in which they stand
+  abbrev pub standing : Standing → State
+  standing to = startOf v (to .values) (to .trail) (to .position)
+
+  -- "the calls, repeated until "none" with enough budget, give each satisfying instance of the sheet exactly once, in the ascending order of
+  -- Change 5": of calls that gave these instances and stand there
+  pub record EveryCase (instances : List (List ℕ)) (to : Standing) : Type 0 where
+    -- each satisfies marks and formula, they ascend, no two are the same, and what is not among them comes later; after "none" all are among them
+    pub listing : Listing written v (Solution (sheetOf s)) instances to
+    -- so there are at most 2^c, for c cells
+    pub few : length instances ≤ 2 ^ cellCount (sheetOf s)
+    -- a further call is no refusal as long as the steps can be counted, it is "spent" exactly when the step rules, with the clash, have not ended
+    -- within n steps, and within some number of steps they have
+    pub taken : (n : ℕ) → total (stepsOf (to .position)) + n ≤ stepLimit → (number : ℕ)
+        → nextCall written v to n .outcome .answer ≡ refused number → ⊥
+    pub spent-exactly : (n : ℕ) → total (stepsOf (to .position)) + n ≤ stepLimit
+        → ((steps : Steps) × (nextCall written v to n .outcome .answer ≡ spent steps)) ↔ (FollowingEnded (clausesOf written) v n (standing to) → ⊥)
+    pub ends : (n : ℕ) × FollowingEnded (clausesOf written) v n (standing to)
+
 -- what is demanded of a sheet and of the slices that are lent
 pub record Demanded (s : List ℕ) (lent : Slices) : Type 0 where
   -- what counting answers, and writing too
@@ -146,6 +190,11 @@ pub record Demanded (s : List ℕ) (lent : Slices) : Type 0 where
   pub answers : (n : ℕ) → Answered s lent v w n
   -- and for every record, what a resumed call answers
   pub resumes : (p : Position) (n : ℕ) → ResumedAnswered s lent v w p n
+  -- and a call for the next
+  pub follows : (p : Position) (n : ℕ) → FollowedAnswered s lent v w p n
+  -- and what calls for the next give, one after another from a fresh start on
+  pub every-case : (at to : Standing) (instances : List (List ℕ)) → Fresh v at → NextCalls s lent v w at instances to
+      → EveryCase s lent v w instances to
 
 -- for every accepted sheet whose clauses fit the limits, and all lent slices that fit
 abbrev pub Demand3 : Type 0
