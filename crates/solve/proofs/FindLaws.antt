@@ -2,7 +2,7 @@
 use mathlib.Core.Path.{_≡_, refl, sym, ap, _∙_, subst₂}
 use mathlib.Core.Bool.{true, false}
 use mathlib.Core.Logic.{⊎-elim}
-use mathlib.Core.List.{List, _++_}
+use mathlib.Core.List.{List, _++_, map}
 use Prim.Native.Nat.{ℕ, suc, _≤_, _<_}
 use native.Mathlib.Omega.{arith}
 use lib.IntN.{ℤ}
@@ -17,6 +17,7 @@ use Rattle.clauses.specs.Answers.{countAnswer, listAfter}
 use Rattle.clauses.proofs.Answered.{count-fits}
 use Rattle.clauses_rules.proofs.Match.{cells-variables}
 use Rattle.search_rules.specs.declared.Steps.{Steps}
+use Rattle.search_rules.specs.Rules.{settle}
 use Rattle.search.specs.Answers.{Answer, found, none, spent, refused, Outcome, outcome}
 use Rattle.solve_rules.specs.Answers.{instanceAfter}
 use Rattle.solve_rules.specs.Finding.{Slices, slices, Finding, decline, haveRoom, instanceFor, findIn, findAfter, finding}
@@ -102,7 +103,7 @@ module _ (s : List ℕ) (lent : Slices) (budget : ℕ) (size : Size) (cells : �
 
   found-after : (steps : Steps) → over (listAfter s (lent .list)) .answer ≡ found steps
       → instanceAfter s (take v (over (listAfter s (lent .list)) .values)) (lent .instance)
-      ≡ take cells (drop 1 (take v (over (listAfter s (lent .list)) .values))) ++ drop cells (lent .instance)
+      ≡ take cells (drop 1 (map settle (take v (over (listAfter s (lent .list)) .values)))) ++ drop cells (lent .instance)
   found-after = rw (f .variables, f .words, f .cells-are) (found-instance s lent (f .limits) (f .room) budget)
 
   -- what writing and search left
@@ -129,14 +130,14 @@ module _ (s : List ℕ) (lent : Slices) (budget : ℕ) (size : Size) (cells : �
         }
 
     pub leaves-found : (steps : Steps) → a ≡ found steps → (instance : List ℕ)
-        → instance ≡ take cells (drop 1 (take v values)) ++ drop cells (lent .instance)
+        → instance ≡ take cells (drop 1 (map settle (take v values))) ++ drop cells (lent .instance)
         → Left s lent budget a (slices list values trail instance)
     leaves-found steps e instance g =
         let o = over (listAfter s (lent .list)) in
         let p : o .answer ≡ found steps = sym answer-is ∙ e in
         leaves instance
         (g
-        ∙ ap (λ (xs : List ℕ). take cells (drop 1 (take v xs)) ++ drop cells (lent .instance)) values-are
+        ∙ ap (λ (xs : List ℕ). take cells (drop 1 (map settle (take v xs))) ++ drop cells (lent .instance)) values-are
         ∙ sym (found-after steps p)
         ∙ ap (λ (x : Answer). instanceFor x s (take v (o .values)) (lent .instance)) (sym p))
 

@@ -1,12 +1,14 @@
 -- Read-back over values of v variables, case by case, as its functions ensure it.
 use mathlib.Core.Path.{_≡_, refl, sym, ap, _∙_}
 use mathlib.Core.Bool.{Bool, true, false, cond, _&&_}
-use mathlib.Core.List.{List, _++_}
-use Prim.Native.Nat.{ℕ, suc, _+_, _-_, _≤_, _<_}
+use mathlib.Core.List.{List, [], _∷_, _++_, map}
+use Prim.Native.Nat.{ℕ, zero, suc, _+_, _-_, _≤_, _<_}
 use native.Mathlib.Omega.{arith}
+use native.Mathlib.Nat.{zero-add}
+use native.Mathlib.Numerals.{add-one}
 use lib.Dec.{eqb, leb}
-use lib.ListN.{length, take, drop, length-drop}
-use lib.Seq.{take-length, length-take-le}
+use lib.ListN.{length, getD, set, take, drop, length-drop, length-map, List·getD-map}
+use lib.Seq.{getD-drop, paste-suc}
 use borrow.Author.Tests.{le-leb, lt-leb, eq-eqb, ne-eqb}
 use Rattle.prelude.specs.Tests.{all}
 use Rattle.prelude.proofs.Laws.{and-both, and-not-left, and-not-right}
@@ -22,29 +24,49 @@ use Rattle.clauses.specs.Answers as count
 use Rattle.clauses.specs.Answers.{countAfter, countAnswer}
 use Rattle.clauses.proofs.Answered.{count-fits}
 use Rattle.clauses_rules.proofs.Match.{cells-variables}
+use Rattle.search_rules.specs.Rules.{settle}
 use Rattle.solve_rules.specs.Answers.{Answer, copied, refused, readBackAfter, readBackAnswer, instanceBy, instanceAfter}
 use Rattle.solve.specs.Private.{cellsAnswer, cellsLeft}
 
--- the values of the cells, as code takes them
-pub cells-part : (cells : ℕ) (values : List ℕ) → take (cells + 1 - 1) (drop 1 values) ≡ take cells (drop 1 values)
-cells-part cells values = let e : cells + 1 - 1 ≡ cells = omega arith in ap (λ (n : ℕ). take n (drop 1 values)) e
+-- the bits of a part are that part of the bits
+map-take : {A B : Type 0} (f : A → B) (n : ℕ) (xs : List A) → map f (take n xs) ≡ take n (map f xs)
+map-take f zero xs = refl
+map-take f (suc n) [] = refl
+map-take f (suc n) (x ∷ xs) = ap (λ l. f x ∷ l) (map-take f n xs)
 
--- the copy of them
-pub copied-cells : (cells : ℕ) (values instance : List ℕ) → suc cells ≤ length values
-    → take (length (take (cells + 1 - 1) (drop 1 values))) (take (cells + 1 - 1) (drop 1 values))
-    ++ drop (length (take (cells + 1 - 1) (drop 1 values))) instance
-    ≡ take cells (drop 1 values) ++ drop cells instance
-copied-cells cells values instance h =
-    let p = cells-part cells values in
-    let l : cells ≤ length (drop 1 values) = omega (arith, length-drop 1 values) in
-    rw (p, take-length (take cells (drop 1 values)), length-take-le cells (drop 1 values) l)
+map-rest : {A B : Type 0} (f : A → B) (xs : List A) → map f (drop 1 xs) ≡ drop 1 (map f xs)
+map-rest f [] = refl
+map-rest f (x ∷ xs) = refl
+
+-- the bits of the cells, as code takes them
+pub cells-part : (cells : ℕ) (values : List ℕ) → map settle (take (cells + 1 - 1) (drop 1 values)) ≡ take cells (drop 1 (map settle values))
+cells-part cells values =
+    let e : cells + 1 - 1 ≡ cells = omega arith in
+    ap (λ (n : ℕ). map settle (take n (drop 1 values))) e ∙ map-take settle cells (drop 1 values) ∙ ap (take cells) (map-rest settle values)
+
+-- the cell that is copied
+pub cell-at : (values : List ℕ) (i : ℕ) → getD (drop 1 (map settle values)) i 0 ≡ settle (getD values (i + 1) 0)
+cell-at values i =
+    let e : 1 + i ≡ i + 1 = omega arith in
+    getD-drop 1 (map settle values) i 0 ∙ ap (λ n. getD (map settle values) n 0) e ∙ List·getD-map settle values (i + 1) 0
+
+-- and one bit more
+pub pasted : (values instance₀ instance : List ℕ) (i b : ℕ) → i + 1 < length values → i < length instance₀
+    → instance ≡ take i (drop 1 (map settle values)) ++ drop i instance₀ → b ≡ settle (getD values (i + 1) 0)
+    → set instance i b ≡ take (i + 1) (drop 1 (map settle values)) ++ drop (i + 1) instance₀
+pasted values instance₀ instance i b h k e f =
+    let bits : List ℕ = drop 1 (map settle values) in
+    let l : i < length bits = omega (arith, length-drop 1 (map settle values), length-map values settle) in
+    ap (λ x. set x i b) e
+    ∙ ap (set (take i bits ++ drop i instance₀) i) (f ∙ sym (cell-at values i))
+    ∙ (rw (zero-add i, zero-add (suc i), sym (add-one i)) at (paste-suc instance₀ 0 bits i 0 (omega (arith, zero-add i)) l))
 
 module _ (v cells : ℕ) (values instance : List ℕ) where
   abbrev answer : Answer
   answer = cellsAnswer v cells values (length instance)
 
   abbrev read : List ℕ
-  read = take cells (drop 1 values)
+  read = take cells (drop 1 (map settle values))
 
   abbrev bits : Bool
   bits = all (λ (b : ℕ). leb b 1) read
@@ -92,7 +114,7 @@ module _ (s values instance : List ℕ) where
   unfolding readBackAnswer instanceAfter
   refuses n e =
       let f : readBackAnswer s values instance ≡ refused n = ap (λ a. readBackAfter a (sheetOf s) values (length instance)) e in
-      (sym f, ap (λ a. instanceBy a (take (cellCount (sheetOf s)) (drop 1 values)) instance) (sym f))
+      (sym f, ap (λ a. instanceBy a (take (cellCount (sheetOf s)) (drop 1 (map settle values))) instance) (sym f))
 
   pub counts-cells : (v c w cells : ℕ) → countAnswer s ≡ count.fits v c w → cells ≡ cellCount (sheetOf s)
       → (cellsAnswer v cells values (length instance) ≡ readBackAnswer s values instance)
@@ -102,7 +124,7 @@ module _ (s values instance : List ℕ) where
       rw f
       (let g : readBackAnswer s values instance ≡ cellsAnswer v (cellCount (sheetOf s)) values (length instance) =
       ap (λ a. readBackAfter a (sheetOf s) values (length instance)) e in
-      (sym g, ap (λ a. instanceBy a (take (cellCount (sheetOf s)) (drop 1 values)) instance) (sym g)))
+      (sym g, ap (λ a. instanceBy a (take (cellCount (sheetOf s)) (drop 1 (map settle values))) instance) (sym g)))
 
 -- a variable for each cell, and variable 1
 pub room-for-cells : (s : List ℕ) (v c w cells : ℕ) → countAnswer s ≡ count.fits v c w → cells ≡ cellCount (sheetOf s) → suc cells ≤ v
