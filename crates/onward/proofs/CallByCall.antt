@@ -31,11 +31,11 @@ pub record Loop (list : List ℤ) (v : ℕ) (values₀ : List ℕ) (trail₀ : L
   pub wide : length values ≡ length values₀
   pub deep : length trail ≡ length trail₀
   pub few : calls ≤ most-calls
-  pub chain : (n : ℕ) (r : Resumption) → Chain list v values trail p n r → Chain list v values₀ trail₀ start (so-far calls + n) r
+  pub chain : (n : ℕ) (r : Resumption) → Chain (resumption list v) values trail p n r → Chain (resumption list v) values₀ trail₀ start (so-far calls + n) r
 
 module _ (list : List ℤ) (v : ℕ) (values₀ : List ℕ) (trail₀ : List ℤ) where
   abbrev From : Resumption → ℕ → Type 0
-  From r n = Chain list v values₀ trail₀ start n r
+  From r n = Chain (resumption list v) values₀ trail₀ start n r
 
   pub begins : Loop list v values₀ trail₀ values₀ trail₀ start most-calls
   begins = record {
@@ -81,6 +81,6 @@ module _ (list : List ℤ) (v : ℕ) (values₀ : List ℕ) (trail₀ : List ℤ
         chain = λ n r c.
             let d : so-far calls + (per-call + n) ≡ so-far (calls - 1) + n = omega (arith, l .few) in
             let f = sym (ap (λ x. x .outcome .answer) call) ∙ e in
-            let g = subst (λ (x : Resumption). Chain list v (x .outcome .values) (x .outcome .trail) (x .position) n r) call c in
+            let g = subst (λ (x : Resumption). Chain (resumption list v) (x .outcome .values) (x .outcome .trail) (x .position) n r) call c in
             subst (From r) d (l .chain (per-call + n) r (spends per-call f g));
       }
