@@ -27,7 +27,9 @@ enum-known-answer c = search needs
 step-figure-requires : tie.Need-step-figure-requires Inv-loop μ-loop
 step-figure-requires c κs =
     let k = c .before .before .before .before .before .before .before in
-    resumed-few _ _ _ _ _ _ _
+    let l = k .before .before .before .before .loop in
+    let s = k .before .before .before .before .before .before in
+    resumed-few (s .args .list .now) (s .args .v) (l .values) (l .trail) (l .position) 1000000 _
     (sym (ap (λ r. stepsIn (r .outcome .answer)) (k .resumed .ensures)) ∙ ap (λ a. stepsIn (answerOf a)) (c .before .before .answer .given .1))
 
 show-requires : tie.Need-show-requires Inv-loop μ-loop
