@@ -1,8 +1,9 @@
-// Search, a search taken up again, read-back, and the whole run over lent slices.
+// Search, a search taken up again, the call for the next, read-back, and the whole run over lent slices.
 ghost use mathlib.Core.Path.{_≡_};
 ghost use Rattle.search.specs.Answers as searched;
 ghost use Rattle.search.specs.Answers.{outcome};
 ghost use Rattle.search.specs.Resumed.{resumption};
+ghost use Rattle.search.specs.Following.{following};
 ghost use Rattle.solve_rules.specs.Answers as back;
 ghost use Rattle.solve.specs.Answers.{answerOf};
 ghost use Rattle.solve_rules.specs.Finding.{slices, finding};
@@ -11,6 +12,7 @@ use super::answer::ReadBackAnswer;
 use super::answer::ResumedAnswer;
 use super::answer::SearchAnswer;
 use search::answer::Position;
+use search::answer::Resumed;
 use search::answer::Search;
 use search::answer::Steps;
 use solve::answer::ReadBack;
@@ -59,6 +61,16 @@ pub extern "C" fn fawnloom_search(
     search_numbers(search::search(list, v, values, trail, budget))
 }
 
+// The numbers of a call that took up a state.
+fn in_numbers(ended: Resumed) -> ResumedAnswer
+    ensures { λ r. ⌜ (r .answer ≡ searchNumbers (searched.answerOf (ended .answer))) × (r .position ≡ ended .position) ⌝ }
+{
+    let end = ended.answer;
+    let answer = search_numbers(end);
+    let position = ended.position;
+    ResumedAnswer { answer, position }
+}
+
 // The search taken up again, by value.
 fn resumed_answer(
     list: &[i32],
@@ -77,11 +89,7 @@ fn resumed_answer(
     ensures { λ r. ⌜ r .position
         ≡ resumption (now (list .entry)) v (now (values .entry)) (now (trail .entry)) position budget .position ⌝ }
 {
-    let ended = search::resumed(list, v, values, trail, position, budget);
-    let end = ended.answer;
-    let answer = search_numbers(end);
-    let position = ended.position;
-    ResumedAnswer { answer, position }
+    in_numbers(search::resumed(list, v, values, trail, position, budget))
 }
 
 // The search taken up again at the position that is lent by its address.
@@ -105,6 +113,52 @@ pub extern "C" fn fawnloom_resume(
 {
     let p = *position;
     let ended = resumed_answer(list, v, values, trail, p, budget);
+    *position = ended.position;
+    ended.answer
+}
+
+// The call for the next, by value.
+fn followed_answer(
+    list: &[i32],
+    v: u32,
+    values: &mut [u8],
+    trail: &mut [i32],
+    position: Position,
+    budget: u64,
+) -> ResumedAnswer
+    ensures { λ r. ⌜ r .answer
+        ≡ searchNumbers (following (now (list .entry)) v (now (values .entry)) (now (trail .entry)) position budget .outcome .answer) ⌝ }
+    ensures { λ r. ⌜ now (values .exit)
+        ≡ following (now (list .entry)) v (now (values .entry)) (now (trail .entry)) position budget .outcome .values ⌝ }
+    ensures { λ r. ⌜ now (trail .exit)
+        ≡ following (now (list .entry)) v (now (values .entry)) (now (trail .entry)) position budget .outcome .trail ⌝ }
+    ensures { λ r. ⌜ r .position
+        ≡ following (now (list .entry)) v (now (values .entry)) (now (trail .entry)) position budget .position ⌝ }
+{
+    in_numbers(search::followed(list, v, values, trail, position, budget))
+}
+
+// The call for the next at the position that is lent by its address.
+#[no_mangle]
+pub extern "C" fn fawnloom_next(
+    list: &[i32],
+    v: u32,
+    values: &mut [u8],
+    trail: &mut [i32],
+    position: &mut Position,
+    budget: u64,
+) -> SearchAnswer
+    ensures { λ r. ⌜ r
+        ≡ searchNumbers (following (now (list .entry)) v (now (values .entry)) (now (trail .entry)) (now (position .entry)) budget .outcome .answer) ⌝ }
+    ensures { λ r. ⌜ now (values .exit)
+        ≡ following (now (list .entry)) v (now (values .entry)) (now (trail .entry)) (now (position .entry)) budget .outcome .values ⌝ }
+    ensures { λ r. ⌜ now (trail .exit)
+        ≡ following (now (list .entry)) v (now (values .entry)) (now (trail .entry)) (now (position .entry)) budget .outcome .trail ⌝ }
+    ensures { λ r. ⌜ now (position .exit)
+        ≡ following (now (list .entry)) v (now (values .entry)) (now (trail .entry)) (now (position .entry)) budget .position ⌝ }
+{
+    let p = *position;
+    let ended = followed_answer(list, v, values, trail, p, budget);
     *position = ended.position;
     ended.answer
 }
