@@ -28,7 +28,7 @@ use Rattle.solve_rules.specs.Finding.{Slices, slices, finding}
 use Rattle.report.specs.Printed.{relationLines, findingText}
 
 -- two sets r and s over a sort of one atom, and nodes 0 to 3: r, some r, s, some s; then other nodes
-abbrev twoSets : List ℕ → List ℕ
+abbrev pub twoSets : List ℕ → List ℕ
 twoSets nodes =
     let all : List ℕ = 1 ∷ 0 ∷ 0 ∷ 22 ∷ 0 ∷ 0 ∷ 1 ∷ 1 ∷ 0 ∷ 22 ∷ 2 ∷ 0 ∷ nodes in
     1 ∷ 0 ∷ 1 ∷ 1 ∷ 0 ∷ 0 ∷ 0 ∷ 8 ∷ 1 ∷ 0 ∷ 0 ∷ 0 ∷ 1 ∷ 0 ∷ 0 ∷ 0 ∷ 0 ∷ length all ∷ all

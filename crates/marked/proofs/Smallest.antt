@@ -34,7 +34,7 @@ use Rattle.search.specs.Answers.{answerAt, valuesAt, trailAt, outcome}
 use Rattle.solve_rules.specs.Answers.{readBackAnswer, instanceAfter}
 use Rattle.solve_rules.specs.Finding.{Slices, slices, finding}
 use Rattle.report.specs.Printed.{finderBudget, relationLines, findingText}
-use Rattle.marked.specs.Table.{k1, oneSet}
+use Rattle.marked.specs.Table.{k1, k2}
 
 -- three sets r, s and t over a sort of one atom, with "r or s", "r or not s" and "s or t". With r false s is forced and clashes, and r is
 -- turned; then s can be false, and t is forced.
@@ -60,13 +60,13 @@ rows =
     -- K1, "some": all but the empty set
     row k1 2 (0 ∷ 1 ∷ []) ((1 ∷ 0 ∷ []) ∷ (1 ∷ 1 ∷ []) ∷ []) "found 4\nr0 01\n"
     -- K2: exactly one
-    ∷ row (oneSet 2 2 (1 ∷ 0 ∷ 0 ∷ 22 ∷ 0 ∷ 0 ∷ [])) 2 (0 ∷ 1 ∷ []) ((1 ∷ 0 ∷ []) ∷ []) "found 4\nr0 01\n"
+    ∷ row k2 2 (0 ∷ 1 ∷ []) ((1 ∷ 0 ∷ []) ∷ []) "found 4\nr0 01\n"
     -- a turned cell and a forced one are 1
     ∷ row threeSets 3 (1 ∷ 0 ∷ 1 ∷ []) ((1 ∷ 1 ∷ 0 ∷ []) ∷ (1 ∷ 1 ∷ 1 ∷ []) ∷ []) "found 11\nr0 1\nr1 0\nr2 1\n"
     ∷ []
 
 -- all instances of so many cells, in order
-abbrev instances : ℕ → List (List ℕ)
+abbrev pub instances : ℕ → List (List ℕ)
 instances zero = [] ∷ []
 instances (suc n) = map (λ i. 0 ∷ i) (instances n) ++ map (λ i. 1 ∷ i) (instances n)
 
@@ -76,7 +76,7 @@ isYes check.no = false
 isYes (check.refused n) = false
 
 -- those that the check says yes to
-abbrev satisfying : List ℕ → List (List ℕ) → List (List ℕ)
+abbrev pub satisfying : List ℕ → List (List ℕ) → List (List ℕ)
 satisfying sheet [] = []
 satisfying sheet (i ∷ is) = cond (isYes (checkAnswer sheet i)) (i ∷ satisfying sheet is) (satisfying sheet is)
 

@@ -22,7 +22,8 @@ pub record Fitting : Type 0 where
   pub clauses : ℕ
   pub size : ℕ
   pub words : List ℤ
-  -- the search of these words within the row's budget, with its forces, choices and turns, and the values and the trail that it leaves
+  -- the search of these words within the row's budget, with its forces, choices and turns, and the values and the trail that it leaves;
+  -- ""found" keeps its 3s in the lent values" (document 02, Change 6)
   pub search : Answer
   pub values : List ℕ
   pub trail : List ℤ
@@ -47,7 +48,7 @@ pub record Row : Type 0 where
   pub stated : Stated
 
 -- a literal -n
-abbrev neg : ℕ → ℤ
+abbrev pub neg : ℕ → ℤ
 neg n = negsuc (pred n)
 
 -- "01 0001 02 0000 0004 01000000 0006 010000 160000 (one sort, one free set, "some")"
@@ -64,6 +65,19 @@ k1 =
 abbrev pub oneSet : ℕ → ℕ → List ℕ → List ℕ
 oneSet scope mark nodes = 1 ∷ 0 ∷ 1 ∷ scope ∷ 0 ∷ 0 ∷ 0 ∷ 4 ∷ 1 ∷ mark ∷ 0 ∷ 0 ∷ 0 ∷ length nodes ∷ nodes
 
+-- "mark 2 in K1", "K2 with node (30, 1, 0)", ""at most one" in K1" and "closure at scope 1"
+abbrev pub k2 : List ℕ
+k2 = oneSet 2 2 (1 ∷ 0 ∷ 0 ∷ 22 ∷ 0 ∷ 0 ∷ [])
+
+abbrev pub k3 : List ℕ
+k3 = oneSet 2 2 (1 ∷ 0 ∷ 0 ∷ 22 ∷ 0 ∷ 0 ∷ 30 ∷ 1 ∷ 0 ∷ [])
+
+abbrev pub k5 : List ℕ
+k5 = oneSet 2 0 (1 ∷ 0 ∷ 0 ∷ 24 ∷ 0 ∷ 0 ∷ [])
+
+abbrev pub k6 : List ℕ
+k6 = 1 ∷ 0 ∷ 1 ∷ 1 ∷ 0 ∷ 0 ∷ 0 ∷ 4 ∷ 2 ∷ 0 ∷ 0 ∷ 0 ∷ 0 ∷ 9 ∷ 1 ∷ 0 ∷ 0 ∷ 11 ∷ 0 ∷ 0 ∷ 22 ∷ 1 ∷ 0 ∷ []
+
 -- what the table states of K1: "The finder prints `found 4` and `r0 01`. The list has 14 words."
 abbrev k1-fits : Fitting
 k1-fits =
@@ -75,7 +89,7 @@ k1-fits =
       size = 14;
       words = list.k1;
       search = found (tally 3 1 0);
-      values = 1 ∷ 0 ∷ 1 ∷ 1 ∷ [];
+      values = 1 ∷ 3 ∷ 1 ∷ 1 ∷ [];
       trail = pos 1 ∷ pos 4 ∷ neg 2 ∷ pos 3 ∷ [];
       reading-back = back.copied 2;
       instance = 0 ∷ 1 ∷ [];
@@ -89,7 +103,7 @@ table =
     record { sheet = k1; budget = 1000000; checked = 0 ∷ 1 ∷ []; stated = fitting k1-fits }
     -- K2: "mark 2 in K1: 7 clauses, 20 words, found after 4"; the check of two elements
     ∷ record {
-      sheet = oneSet 2 2 (1 ∷ 0 ∷ 0 ∷ 22 ∷ 0 ∷ 0 ∷ []);
+      sheet = k2;
       budget = 1000000;
       checked = 1 ∷ 1 ∷ [];
       stated =
@@ -102,7 +116,7 @@ table =
             size = 20;
             words = list.k2 (pos 4);
             search = found (tally 3 1 0);
-            values = 1 ∷ 0 ∷ 1 ∷ 1 ∷ [];
+            values = 1 ∷ 3 ∷ 1 ∷ 1 ∷ [];
             trail = pos 1 ∷ pos 4 ∷ neg 2 ∷ pos 3 ∷ [];
             reading-back = back.copied 2;
             instance = 0 ∷ 1 ∷ [];
@@ -112,7 +126,7 @@ table =
     }
     -- K3: "K2 with node (30, 1, 0): none after 4"; read-back of open values is an 11
     ∷ record {
-      sheet = oneSet 2 2 (1 ∷ 0 ∷ 0 ∷ 22 ∷ 0 ∷ 0 ∷ 30 ∷ 1 ∷ 0 ∷ []);
+      sheet = k3;
       budget = 1000000;
       checked = 0 ∷ 1 ∷ [];
       stated =
@@ -158,7 +172,7 @@ table =
     }
     -- K5: ""at most one" in K1: gate clauses (4, 2), (4, 3), (-4, -2, -3)"
     ∷ record {
-      sheet = oneSet 2 0 (1 ∷ 0 ∷ 0 ∷ 24 ∷ 0 ∷ 0 ∷ []);
+      sheet = k5;
       budget = 1000000;
       checked = 1 ∷ 1 ∷ [];
       stated =
@@ -174,7 +188,7 @@ table =
                 ∷ pos 2 ∷ pos 4 ∷ pos 2 ∷ pos 2 ∷ pos 4 ∷ pos 3 ∷ pos 3 ∷ neg 4 ∷ neg 2 ∷ neg 3
                 ∷ pos 1 ∷ pos 4 ∷ [];
             search = found (tally 2 2 0);
-            values = 1 ∷ 0 ∷ 0 ∷ 1 ∷ [];
+            values = 1 ∷ 3 ∷ 3 ∷ 1 ∷ [];
             trail = pos 1 ∷ pos 4 ∷ neg 2 ∷ neg 3 ∷ [];
             reading-back = back.copied 2;
             instance = 0 ∷ 0 ∷ [];
@@ -184,7 +198,7 @@ table =
     }
     -- K6: "closure at scope 1: the matrix itself"; "some" of the closure of a relation
     ∷ record {
-      sheet = 1 ∷ 0 ∷ 1 ∷ 1 ∷ 0 ∷ 0 ∷ 0 ∷ 4 ∷ 2 ∷ 0 ∷ 0 ∷ 0 ∷ 0 ∷ 9 ∷ 1 ∷ 0 ∷ 0 ∷ 11 ∷ 0 ∷ 0 ∷ 22 ∷ 1 ∷ 0 ∷ [];
+      sheet = k6;
       budget = 1000000;
       checked = 1 ∷ [];
       stated =
@@ -227,7 +241,7 @@ table =
                 ∷ pos 9 ∷ neg 10 ∷ pos 2 ∷ pos 3 ∷ pos 4 ∷ pos 5 ∷ pos 6 ∷ pos 7 ∷ pos 8 ∷ pos 9
                 ∷ pos 1 ∷ pos 10 ∷ [];
             search = found (tally 3 7 0);
-            values = 1 ∷ 0 ∷ 0 ∷ 0 ∷ 0 ∷ 0 ∷ 0 ∷ 0 ∷ 1 ∷ 1 ∷ [];
+            values = 1 ∷ 3 ∷ 3 ∷ 3 ∷ 3 ∷ 3 ∷ 3 ∷ 3 ∷ 1 ∷ 1 ∷ [];
             trail = pos 1 ∷ pos 10 ∷ neg 2 ∷ neg 3 ∷ neg 4 ∷ neg 5 ∷ neg 6 ∷ neg 7 ∷ neg 8 ∷ pos 9 ∷ [];
             reading-back = back.copied 8;
             instance = 0 ∷ 0 ∷ 0 ∷ 0 ∷ 0 ∷ 0 ∷ 0 ∷ 1 ∷ [];
