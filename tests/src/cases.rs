@@ -226,7 +226,7 @@ fn no_force_from_an_open_variable_with_both_signs() {
     let answer = search(&[2, 1, -1, 2, 2, 2], 2, &mut values, &mut trail, 9);
     assert_eq!(answer, Ok(after(End::Found, 1, 1, 0)));
     // the twin forces 2, then 1 is chosen
-    assert_eq!((values, trail), ([0, 1], [2, -1]));
+    assert_eq!((values, trail), ([3, 1], [2, -1]));
 }
 
 #[test]

@@ -5,7 +5,7 @@ use crate::clauses::{translate, MET};
 use crate::finder::finder;
 use crate::random::Source;
 use crate::random_sheet::{sheet, Style, SMALL};
-use crate::search::{search, End};
+use crate::search::{search, settled, End};
 use crate::sheet::read;
 
 const SEED: u64 = 1;
@@ -54,7 +54,7 @@ fn the_search_agrees_with_all_assignments() {
         let (mut values, mut trail) = (vec![0; v as usize], vec![0; v as usize]);
         let answer = search(&list, v, &mut values, &mut trail, 1_000_000).unwrap();
         match answer.end {
-            End::Found => assert_eq!(Some(&values), all.first(), "case {case}"),
+            End::Found => assert_eq!(Some(&settled(&values)), all.first(), "case {case}"),
             End::None => assert!(all.is_empty(), "case {case}"),
             End::Spent => panic!("case {case} is spent"),
         }

@@ -2,7 +2,7 @@
 //! (document 01, "Answers that decline", "The finder program").
 
 use crate::clauses::{self, translate};
-use crate::search::{search, Answer, End};
+use crate::search::{search, settled, Answer, End, CHOSEN};
 use crate::sheet::{self, Sheet, CELLS, LENGTH, SHORT};
 
 /// What the finder program lends and allows.
@@ -10,7 +10,7 @@ pub const WORDS: usize = 16_384;
 pub const BUDGET: u64 = 1_000_000;
 pub const BYTES: usize = 4_096;
 
-/// Read-back: numbers 1 to 11 and 13, else the cells' values are copied to the front of the instance.
+/// Read-back: numbers 1 to 11 and 13, else the cells' values are copied to the front of the instance, a 3 as 0.
 pub fn read_back(bytes: &[u8], values: &[u8], instance: &mut [u8]) -> Result<usize, u32> {
     let sheet = sheet::read(bytes)?;
     let size = clauses::count(bytes)?;
@@ -20,13 +20,13 @@ pub fn read_back(bytes: &[u8], values: &[u8], instance: &mut [u8]) -> Result<usi
     }
     // variable 1 is the constant true, the cells come next
     let of_cells = &values[1..1 + cells];
-    if of_cells.iter().any(|&value| value > 1) {
+    if of_cells.iter().any(|&value| value > 1 && value != CHOSEN) {
         return Err(CELLS);
     }
     if instance.len() < cells {
         return Err(SHORT);
     }
-    instance[..cells].copy_from_slice(of_cells);
+    instance[..cells].copy_from_slice(&settled(of_cells));
     Ok(cells)
 }
 

@@ -7,11 +7,13 @@ pub mod clauses;
 pub mod deep;
 pub mod digits;
 pub mod dimacs;
+pub mod every;
 pub mod every_kind;
 pub mod finder;
 pub mod idle_walks;
 pub mod long_search;
 pub mod meaning;
+pub mod next;
 pub mod random;
 pub mod random_cells;
 pub mod random_damage;
@@ -31,5 +33,7 @@ mod cases;
 mod counts;
 #[cfg(test)]
 mod least_cases;
+#[cfg(test)]
+mod next_cases;
 #[cfg(test)]
 mod resume_cases;

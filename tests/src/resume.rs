@@ -57,7 +57,6 @@ pub fn faults(values: &[u8], trail: &[i32], position: &Position, budget: u64) ->
 }
 
 /// The search from the state that slices and record hold: numbers 12, 13 and 14, else the end and the total of each kind.
-/// Only the first v values and trail words are touched; a refusal changes nothing.
 pub fn resume(
     list: &[i32],
     v: u32,
@@ -65,6 +64,22 @@ pub fn resume(
     trail: &mut [i32],
     position: &mut Position,
     budget: u64,
+) -> Result<Answer, u32> {
+    taken_up(list, v, (values, trail), position, budget, State::run)
+}
+
+/// A run over clauses of at most so many steps: its end, and the steps taken.
+pub type Steered = fn(&mut State, &[Vec<i32>], u64) -> (End, Steps);
+
+/// A run from the state that slices and record hold. Only the first v values and trail words are touched; a refusal changes
+/// nothing.
+pub fn taken_up(
+    list: &[i32],
+    v: u32,
+    (values, trail): (&mut [u8], &mut [i32]),
+    position: &mut Position,
+    budget: u64,
+    run: Steered,
 ) -> Result<Answer, u32> {
     let clauses = cut(list, v)?;
     let v = v as usize;
@@ -75,7 +90,7 @@ pub fn resume(
         return Err(STATE);
     }
     let mut state = State { values: values[..v].to_vec(), trail: trail[..position.length].to_vec() };
-    let (end, taken) = state.run(&clauses, budget);
+    let (end, taken) = run(&mut state, &clauses, budget);
     state.store(values, trail);
     let steps = position.steps + taken;
     *position = Position { length: if end == End::None { 0 } else { state.trail.len() }, steps };

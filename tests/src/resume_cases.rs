@@ -7,7 +7,7 @@ use crate::resume::{faults, resume, Fault, Position};
 use crate::search::{Answer, End, Steps};
 use crate::sheet::{LIST, SHORT, STATE};
 
-/// The list of K1, found after 3 forces and a choice, the third step, with the values 1, 0, 1, 1 and the trail 1, 4, -2, 3.
+/// The list of K1, found after 3 forces and a choice, the third step, with the values 1, 3, 1, 1 and the trail 1, 4, -2, 3.
 const K1: &[i32] = &[1, 1, 2, 4, -2, 2, 4, -3, 3, -4, 2, 3, 1, 4];
 /// That of K3, none after 4 forces.
 const K3: &[i32] = &[1, 1, 2, -2, -3, 2, 2, 3, 2, 4, -2, 2, 4, -3, 3, -4, 2, 3, 1, -4];
@@ -36,7 +36,7 @@ fn k1_in_slices() {
         assert_eq!(go(0), (End::Spent, [2, 2, 2, 2, 9], [0, 0, 0, 0, 9], at(0, f, c, t)));
         assert_eq!(go(2), (End::Spent, [1, 2, 2, 1, 9], [1, 4, 0, 0, 9], at(2, f + 2, c, t)));
         assert_eq!(go(1), (End::Spent, [1, 3, 2, 1, 9], [1, 4, -2, 0, 9], at(3, f + 2, c + 1, t)));
-        let found = (End::Found, [1, 0, 1, 1, 9], [1, 4, -2, 3, 9], at(4, f + 3, c + 1, t));
+        let found = (End::Found, [1, 3, 1, 1, 9], [1, 4, -2, 3, 9], at(4, f + 3, c + 1, t));
         assert_eq!(go(5), found);
         // an end is found at once, and nothing is counted
         assert_eq!((go(0), go(9)), (found, found));

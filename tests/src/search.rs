@@ -1,5 +1,6 @@
 //! The search by its step rules, as they are written (document 01, "Search", numbers 12 and 13), with a counter for each kind
-//! of step (document 02, Change 3). What takes a stopped one up again is in `resume.rs`.
+//! of step (document 02, Change 3), and with choices that "found" keeps (Change 6). What takes a stopped one up again is in
+//! `resume.rs`, what goes on to the next in `next.rs`.
 
 use crate::clauses::VARIABLES;
 use crate::sheet::{LIST, SHORT};
@@ -52,6 +53,11 @@ pub struct Answer {
     pub steps: Steps,
 }
 
+/// The assignment that values hold: what is false by choice is false.
+pub fn settled(values: &[u8]) -> Vec<u8> {
+    values.iter().map(|&value| if value == CHOSEN { FALSE } else { value }).collect()
+}
+
 /// The clauses of a list in words, or number 12.
 pub fn cut(list: &[i32], v: u32) -> Result<Vec<Vec<i32>>, u32> {
     if v < 1 || v as usize > VARIABLES || list.len() > i32::MAX as usize {
@@ -81,7 +87,7 @@ pub struct State {
 
 impl State {
     /// Nothing set, of v variables.
-    fn all_open(v: usize) -> State {
+    pub fn all_open(v: usize) -> State {
         State { values: vec![OPEN; v], trail: Vec::new() }
     }
 
@@ -93,7 +99,7 @@ impl State {
         self.value(literal) == OPEN
     }
 
-    fn is_true(&self, literal: i32) -> bool {
+    pub fn is_true(&self, literal: i32) -> bool {
         match self.value(literal) {
             TRUE => literal > 0,
             FALSE | CHOSEN => literal < 0,
@@ -111,7 +117,7 @@ impl State {
     }
 
     /// Opens all back to the latest choice, which becomes true; false where there is no choice.
-    fn turn(&mut self) -> bool {
+    pub fn turn(&mut self) -> bool {
         while let Some(literal) = self.trail.pop() {
             let chosen = self.value(literal) == CHOSEN;
             self.values[literal.unsigned_abs() as usize - 1] = OPEN;
@@ -176,10 +182,8 @@ impl State {
                 None => self.step(clauses, &mut taken),
             }
         };
-        match end {
-            End::Found => self.values.iter_mut().filter(|value| **value == CHOSEN).for_each(|value| *value = FALSE),
-            End::None => *self = State::all_open(self.values.len()),
-            End::Spent => {}
+        if end == End::None {
+            *self = State::all_open(self.values.len());
         }
         (end, taken)
     }
