@@ -10,10 +10,15 @@ use crate::sheet::{self, LENGTH, SHORT};
 /// Each case as the finder prints one, then the end; each with the steps done since the start. The budget is for each call.
 /// After so many cases nothing more is looked for, and the end is left out.
 pub fn every(input: &[u8], most: usize) -> String {
-    cases(input, most).unwrap_or_else(|number| format!("refused {number}\n"))
+    every_within(input, most, BUDGET)
 }
 
-fn cases(input: &[u8], most: usize) -> Result<String, u32> {
+/// The same with another budget for each call.
+pub fn every_within(input: &[u8], most: usize, budget: u64) -> String {
+    cases(input, most, budget).unwrap_or_else(|number| format!("refused {number}\n"))
+}
+
+fn cases(input: &[u8], most: usize, budget: u64) -> Result<String, u32> {
     if input.len() > BYTES {
         return Err(LENGTH);
     }
@@ -26,7 +31,7 @@ fn cases(input: &[u8], most: usize) -> Result<String, u32> {
     let (mut values, mut trail, mut position) = (vec![OPEN; v], vec![0; v], Position::default());
     let (mut printed, mut instance) = (String::new(), vec![0; v]);
     for _ in 0..most {
-        let answer = next(&list, clauses.variables, &mut values, &mut trail, &mut position, BUDGET)?;
+        let answer = next(&list, clauses.variables, &mut values, &mut trail, &mut position, budget)?;
         let steps = answer.steps.sum();
         match answer.end {
             End::Found => {

@@ -20,6 +20,7 @@ pub mod random_damage;
 pub mod random_list;
 pub mod random_rich;
 pub mod random_sheet;
+pub mod random_small;
 pub mod random_state;
 pub mod resume;
 pub mod search;

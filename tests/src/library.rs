@@ -131,6 +131,52 @@ impl Position {
     }
 }
 
+/// A call that takes a search up: list and words, v, values, trail, the record, the budget.
+type TakeUp =
+    unsafe extern "C" fn(*const i32, usize, u32, *mut u8, usize, *mut i32, usize, *mut Position, u64) -> SearchAnswer;
+
+extern "C" {
+    fn fawnloom_resume(
+        list: *const i32,
+        words: usize,
+        v: u32,
+        values: *mut u8,
+        values_length: usize,
+        trail: *mut i32,
+        trail_length: usize,
+        position: *mut Position,
+        budget: u64,
+    ) -> SearchAnswer;
+
+    fn fawnloom_next(
+        list: *const i32,
+        words: usize,
+        v: u32,
+        values: *mut u8,
+        values_length: usize,
+        trail: *mut i32,
+        trail_length: usize,
+        position: *mut Position,
+        budget: u64,
+    ) -> SearchAnswer;
+}
+
+fn take_up(
+    call: TakeUp,
+    (list, v): (&[i32], u32),
+    (values, trail): (&mut [u8], &mut [i32]),
+    position: &mut resume::Position,
+    budget: u64,
+) -> Result<Answer, u32> {
+    let (list, words) = (list.as_ptr(), list.len());
+    let (values, values_length) = (values.as_mut_ptr(), values.len());
+    let (trail, trail_length) = (trail.as_mut_ptr(), trail.len());
+    let mut lent = Position::of(*position);
+    let answer = unsafe { call(list, words, v, values, values_length, trail, trail_length, &mut lent, budget) };
+    *position = lent.position();
+    answer.answer()
+}
+
 pub fn resume(
     list: &[i32],
     v: u32,
@@ -139,27 +185,19 @@ pub fn resume(
     position: &mut resume::Position,
     budget: u64,
 ) -> Result<Answer, u32> {
-    extern "C" {
-        fn fawnloom_resume(
-            list: *const i32,
-            words: usize,
-            v: u32,
-            values: *mut u8,
-            values_length: usize,
-            trail: *mut i32,
-            trail_length: usize,
-            position: *mut Position,
-            budget: u64,
-        ) -> SearchAnswer;
-    }
-    let (list, words) = (list.as_ptr(), list.len());
-    let (values, values_length) = (values.as_mut_ptr(), values.len());
-    let (trail, trail_length) = (trail.as_mut_ptr(), trail.len());
-    let mut lent = Position::of(*position);
-    let answer =
-        unsafe { fawnloom_resume(list, words, v, values, values_length, trail, trail_length, &mut lent, budget) };
-    *position = lent.position();
-    answer.answer()
+    take_up(fawnloom_resume, (list, v), (values, trail), position, budget)
+}
+
+/// After "found" the next.
+pub fn next(
+    list: &[i32],
+    v: u32,
+    values: &mut [u8],
+    trail: &mut [i32],
+    position: &mut resume::Position,
+    budget: u64,
+) -> Result<Answer, u32> {
+    take_up(fawnloom_next, (list, v), (values, trail), position, budget)
 }
 
 #[repr(C)]

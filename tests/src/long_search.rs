@@ -43,3 +43,21 @@ pub fn long(ahead: &[(u8, u8)], forced: u8, late: bool) -> Sheet {
 pub fn of_15_625(n: u8, forced: u8) -> Sheet {
     long(&[(n, 0), (3, 2), (3, 1), (7, 1), (4, 0)], forced, false)
 }
+
+/// Two cases soon, without an element in the sets ahead from one on; and none else, which takes as long as `long` and more. The
+/// sets before that one have them in each of their ways.
+pub fn early(ahead: &[(u8, u8)], from: u8) -> Sheet {
+    let mut sheet = long(ahead, 0, false);
+    let mut push = |kind, a, b| {
+        sheet.nodes.push(Node { kind, a, b });
+        sheet.nodes.len() as u8 - 1
+    };
+    let mut none = |number| {
+        let set = push(1, number, 0);
+        push(23, set, 0)
+    };
+    let each: Vec<u8> = (from..ahead.len() as u8).map(&mut none).collect();
+    let all = each.into_iter().reduce(|all, one| push(31, all, one)).expect("a set ahead");
+    push(32, 4, all);
+    sheet
+}

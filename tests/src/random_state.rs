@@ -61,6 +61,23 @@ impl Call {
         call.after(counters(source))
     }
 
+    /// An assignment set in any order, what is false all by choice, none of it, or in part: 14 lets it pass.
+    pub fn full(source: &mut Source, list: &[i32], v: u32, assignment: &[u8]) -> Call {
+        let mut call = Call::fresh(source, list, v);
+        let mut variables: Vec<usize> = (0..v as usize).collect();
+        let falses = source.pick(&[&[FALSE][..], &[CHOSEN], &[FALSE, CHOSEN]]);
+        for length in 0..v as usize {
+            let at = variables.swap_remove(source.below(variables.len()));
+            let variable = at as i32 + 1;
+            (call.trail[length], call.values[at]) = match assignment[at] {
+                TRUE => (variable, TRUE),
+                _ => (-variable, source.pick(falses)),
+            };
+        }
+        call.position.length = v as usize;
+        call.after(counters(source))
+    }
+
     /// The call made by one side.
     pub fn make(&mut self, resume: Resume) -> Result<Answer, u32> {
         resume(&self.list, self.v, &mut self.values, &mut self.trail, &mut self.position, self.budget)

@@ -2,7 +2,8 @@
 //! find is the first satisfying assignment.
 
 use super::least::Tally;
-use super::resume::{compare, cut, same, up_to_the_limit};
+use super::resume::up_to_the_limit;
+use super::states::{compare, cut, same, RESUME};
 use super::{agree, shown};
 use reference::random::Source;
 use reference::random_state::{counters, Call, MOST};
@@ -97,7 +98,7 @@ pub fn chain(
         // all that is left, and one more
         let rest = (u128::from(MOST) - answer.steps.sum()) as u64;
         for budget in [rest, rest + 1] {
-            compare(&Call { budget, ..left.clone() }, || format!("at the end of a chain, {}", asked()))?;
+            compare(RESUME, &Call { budget, ..left.clone() }, || format!("at the end of a chain, {}", asked()))?;
         }
     }
     Ok((answer.end, made))

@@ -1,10 +1,13 @@
 //! Programs whose input or output fails: they say so on standard error, print nothing more, and end with a status that
 //! is not 0. An input that only comes slowly is no failure.
 
+use super::every::many;
 use super::programs::clause_text;
 use super::{agree, hex};
 use crate::{Outcome, Run};
 use reference::deep::sheets;
+use reference::every::every;
+use reference::sheet::Sheet;
 use std::fs::File;
 use std::io::{Read, Write};
 use std::os::fd::AsRawFd;
@@ -15,7 +18,8 @@ use std::time::{Duration, Instant};
 const K1: [u8; 20] = [1, 0, 1, 2, 0, 0, 0, 4, 1, 0, 0, 0, 0, 6, 1, 0, 0, 22, 0, 0];
 
 /// The programs, each with the name that it says.
-const PROGRAMS: [(&str, &str); 3] = [("finder", "finder"), ("cnf", "cnf"), ("finder_on", "finder")];
+const PROGRAMS: [(&str, &str); 4] =
+    [("finder", "finder"), ("cnf", "cnf"), ("finder_on", "finder"), ("every", "finder")];
 
 extern "C" {
     fn fcntl(fd: i32, command: i32, word: i32) -> i32;
@@ -122,24 +126,22 @@ fn outputs((name, said): (&str, &str)) -> Result<usize, String> {
     Ok(4)
 }
 
-/// A long clause text into a pipe that takes only its start: what was written is the start, and the status says that it
-/// is not all.
-fn long_text() -> Result<(), String> {
-    let (_, sheet) = sheets().into_iter().find(|(name, _)| *name == "union").expect("a sheet");
+/// A long clause text, and many cases, into a pipe that takes only their start: what was written is the start, and the status
+/// says that it is not all.
+fn long_output((name, said): (&str, &str), sheet: &Sheet, want: &str) -> Result<(), String> {
     let bytes = sheet.bytes();
-    let want = clause_text(&bytes);
     let (mut reader, writer) = std::io::pipe().map_err(|error| error.to_string())?;
     without_waiting(&writer);
-    let mut command = program("cnf");
+    let mut command = program(name);
     command.stdin(Stdio::piped()).stdout(writer);
     let mut child = start(command)?;
     child.stdin.take().expect("a pipe").write_all(&bytes).map_err(|error| error.to_string())?;
     let output = ended(child)?;
-    failed("cnf, a long text", output, &format!("cnf: writing standard output: {AGAIN}"))?;
+    failed(&format!("{name}, a long text"), output, &format!("{said}: writing standard output: {AGAIN}"))?;
     let mut got = String::new();
     reader.read_to_string(&mut got).map_err(|error| error.to_string())?;
     agree(!got.is_empty() && got.len() < want.len() && want.starts_with(&got), true, || {
-        format!("cnf, a long text: {} bytes of {}, sheet {}", got.len(), want.len(), hex(&bytes))
+        format!("{name}, a long text: {} bytes of {}, sheet {}", got.len(), want.len(), hex(&bytes))
     })
 }
 
@@ -155,7 +157,11 @@ fn slow_input(name: &str) -> Result<(), String> {
     }
     drop(stdin);
     let output = ended(child)?;
-    let want = if name == "cnf" { clause_text(&K1) } else { "found 4\nr0 01\n".to_string() };
+    let want = match name {
+        "cnf" => clause_text(&K1),
+        "every" => "found 4\nr0 01\nfound 6\nr0 10\nfound 7\nr0 11\nnone 7\n".to_string(),
+        _ => "found 4\nr0 01\n".to_string(),
+    };
     let got = (String::from_utf8_lossy(&output.stdout).to_string(), output.stderr, output.status.code());
     agree(got, (want, vec![], Some(0)), || format!("{name}, K1 in two halves"))
 }
@@ -166,7 +172,9 @@ pub fn run(_: &Run) -> Outcome {
         met += inputs(program)? + outputs(program)?;
         slow_input(program.0)?;
     }
-    long_text()?;
+    let (_, union) = sheets().into_iter().find(|(name, _)| *name == "union").expect("a sheet");
+    long_output(PROGRAMS[1], &union, &clause_text(&union.bytes()))?;
+    long_output(PROGRAMS[3], &many(), &every(&many().bytes(), usize::MAX))?;
     let commands = super::commands::run()?;
-    Ok(format!("{} inputs and outputs that fail are told; slow ones are read; {commands}", met + 1))
+    Ok(format!("{} inputs and outputs that fail are told; slow ones are read; {commands}", met + 2))
 }

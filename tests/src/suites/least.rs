@@ -3,7 +3,7 @@
 use super::search::FEW;
 use super::{agree, covered};
 use reference::brute::{first_assignments, satisfying};
-use reference::search::{cut, End};
+use reference::search::{cut, settled, End};
 use reference::sheet::{read, visits, Sheet};
 
 /// Instances are gone through up to so many cells, and up to so many visits of nodes for all of them.
@@ -60,7 +60,8 @@ impl Tally {
             return Ok(());
         }
         let Some(least) = Least::of_list(list, v) else { return Ok(()) };
-        self.compare((end == End::Found).then_some(&values[..v as usize]), turns, &least, asked)
+        let found = settled(&values[..v as usize]);
+        self.compare((end == End::Found).then_some(&found), turns, &least, asked)
     }
 
     /// What a run found, or nothing after "none", and its turns.

@@ -6,21 +6,27 @@ use std::fmt::Debug;
 mod callers;
 mod chains;
 mod check;
+mod clashes;
 mod commands;
 mod count;
 mod dimacs;
 mod earlier;
+mod every;
 mod failures;
 mod least;
 mod lengths;
+mod next;
 mod onward;
 mod programs;
 mod read;
+mod read_backs;
 mod resume;
 mod search;
 mod solve;
 mod solvers;
 mod stack;
+mod states;
+mod walks;
 
 type Suite = fn(&Run) -> Outcome;
 
@@ -33,10 +39,12 @@ pub fn all() -> Vec<(&'static str, Suite)> {
         ("count", count::run),
         ("search", search::run),
         ("resume", resume::run),
+        ("next", next::run),
         ("dimacs", dimacs::run),
         ("solve", solve::run),
         ("programs", programs::run),
         ("onward", onward::run),
+        ("every", every::run),
         ("failures", failures::run),
         ("stack", stack::run),
     ]

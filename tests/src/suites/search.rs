@@ -44,7 +44,7 @@ const K2: &[i32] = &[1, 1, 2, -2, -3, 2, 2, 3, 2, 4, -2, 2, 4, -3, 3, -4, 2, 3, 
 const K3: &[i32] = &[1, 1, 2, -2, -3, 2, 2, 3, 2, 4, -2, 2, 4, -3, 3, -4, 2, 3, 1, -4];
 
 const fn marked(list: &'static [i32], v: u32, budget: u64) -> Marked {
-    Marked { list, v, budget, end: End::Found, steps: K1_STEPS, values: &[1, 0, 1, 1], trail: &[1, 4, -2, 3] }
+    Marked { list, v, budget, end: End::Found, steps: K1_STEPS, values: &[1, 3, 1, 1], trail: &[1, 4, -2, 3] }
 }
 
 const K1_STEPS: Steps = Steps::new(3, 1, 0);
@@ -58,13 +58,13 @@ const MARKED: [Marked; 10] = [
     marked(K2, 4, 1_000_000),
     Marked { end: End::None, steps: Steps::new(4, 0, 0), values: &[2; 4], trail: &[0; 4], ..marked(K3, 4, 1_000_000) },
     Marked { end: End::Spent, steps: K4_STEPS, values: &[1, 3, 2, 1], trail: &[1, 4, -2, 0], ..marked(K1, 4, 3) },
-    Marked { steps: Steps::new(1, 1, 0), values: &[1, 0], trail: &[1, -2], ..marked(&[1, 1, 2, 2, -2], 2, 9) },
+    Marked { steps: Steps::new(1, 1, 0), values: &[1, 3], trail: &[1, -2], ..marked(&[1, 1, 2, 2, -2], 2, 9) },
     Marked { steps: Steps::new(1, 0, 0), values: &[1], trail: &[1], ..marked(&[2, 1, 1], 1, 9) },
-    Marked { steps: Steps::new(0, 2, 0), values: &[0, 0], trail: &[-1, -2], ..marked(&[], 2, 9) },
-    Marked { steps: Steps::new(1, 2, 1), values: &[1, 0], trail: &[1, -2], ..marked(&[2, 1, 2, 2, 1, -2], 2, 9) },
+    Marked { steps: Steps::new(0, 2, 0), values: &[3, 3], trail: &[-1, -2], ..marked(&[], 2, 9) },
+    Marked { steps: Steps::new(1, 2, 1), values: &[1, 3], trail: &[1, -2], ..marked(&[2, 1, 2, 2, 1, -2], 2, 9) },
     Marked {
         steps: Steps::new(1, 3, 1),
-        values: &[1, 0, 0],
+        values: &[1, 3, 3],
         trail: &[1, -2, -3],
         ..marked(&[2, 1, 2, 2, 1, 3, 2, 1, -2], 3, 9)
     },

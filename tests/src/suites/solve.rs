@@ -1,14 +1,15 @@
-//! Read-back and the whole run over lent slices, each slice compared to its end; what a whole run finds, and a chain of calls
+//! Read-back (`read_backs.rs`) and the whole run over lent slices, each slice compared to its end; what a whole run finds, and a chain of calls
 //! over the sheet's list, is the least instance where there are few cells.
 
 use super::chains::{calls, Chain};
 use super::least::{Least, Tally};
+use super::read_backs::{self, ReadBacks};
 use super::search::FEW;
 use super::{agree, covered, hex};
 use crate::{Outcome, Run};
 use reference::brute::instances;
 use reference::clauses::count;
-use reference::finder::{find, read_back};
+use reference::finder::find;
 use reference::long_search::long;
 use reference::random::Source;
 use reference::random_cells::{by_columns, cells};
@@ -38,13 +39,11 @@ fn marked() -> Result<(), String> {
     Ok(())
 }
 
-const TALLY: [(&str, usize); 9] = [
+const TALLY: [(&str, usize); 7] = [
     ("found", 0),
     ("none", 0),
     ("spent", 0),
     ("a refused find", 0),
-    ("a read-back", 0),
-    ("a refused read-back", 0),
     ("with a force", 0),
     ("with a choice", 0),
     ("with a turn", 0),
@@ -52,18 +51,19 @@ const TALLY: [(&str, usize); 9] = [
 
 pub fn run(run: &Run) -> Outcome {
     marked()?;
+    read_backs::marked()?;
     let (mut tally, mut whole, mut chained) = (TALLY, Tally::default(), Tally::default());
+    let mut backs = ReadBacks::nothing();
     for case in run.cases(2_000) {
         let source = &mut Source::new(run.seed, "solve", case);
         let bytes = some_sheet(source, case);
         let (answer, instance) = compare_find(source, &bytes, case)?;
         let (ended, steps) = answer.map_or((3, Steps::default()), |answer| (answer.end as usize, answer.steps));
         tally[ended].1 += 1;
-        for (at, taken) in [(6, steps.forces), (7, steps.choices), (8, steps.turns)] {
+        for (at, taken) in [(4, steps.forces), (5, steps.choices), (6, steps.turns)] {
             tally[at].1 += usize::from(taken > 0);
         }
-        let back = compare_read_back(source, &bytes, case)?;
-        tally[4 + usize::from(!back)].1 += 1;
+        backs.compare(source, &bytes, case)?;
         if let Some(least) = few_cells(&bytes) {
             let asked = |how| format!("{how}, case {case}, sheet {}", hex(&bytes));
             compare_least(&mut whole, &least, (answer, &instance), || asked("find"))?;
@@ -71,11 +71,12 @@ pub fn run(run: &Run) -> Outcome {
         }
     }
     covered(&tally, 50)?;
+    backs.covered(50)?;
     whole.covered(50, 20)?;
     chained.covered(100, 50)?;
     let times: Vec<String> = tally.iter().map(|(what, times)| format!("{times} {what}")).collect();
     let least = format!("{}; through resumed calls {}; {}", whole.said(), chained.said(), over_cells(run)?);
-    Ok(format!("whole runs and read-backs agree: {}; {least}", times.join(", ")))
+    Ok(format!("whole runs agree: {}; read-backs: {}; {least}", times.join(", "), backs.said()))
 }
 
 /// The same for sheets whose least instance depends on the order of the cells.
@@ -170,7 +171,7 @@ fn in_calls(source: &mut Source, bytes: &[u8]) -> Result<(Answer, Vec<u8>), u32>
 }
 
 /// A length that is mostly enough: exact, longer, one less.
-fn length(source: &mut Source, exact: usize) -> usize {
+pub fn length(source: &mut Source, exact: usize) -> usize {
     match source.below(12) {
         0 => exact.saturating_sub(1),
         1..=6 => exact,
@@ -179,7 +180,7 @@ fn length(source: &mut Source, exact: usize) -> usize {
 }
 
 /// The figures of a sheet: words, variables and cells; small ones where it is refused.
-fn figures(bytes: &[u8]) -> (usize, usize, usize) {
+pub fn figures(bytes: &[u8]) -> (usize, usize, usize) {
     match (count(bytes), read(bytes)) {
         (Ok(size), Ok(sheet)) => (size.words as usize, size.variables as usize, sheet.cells()),
         _ => (20, 6, 3),
@@ -209,26 +210,4 @@ fn compare_find(source: &mut Source, bytes: &[u8], case: u64) -> Result<(Result<
     agree(&instance2, &instance, asked)?;
     instance2.truncate(cells);
     Ok((got, instance2))
-}
-
-/// Read-back of random values; true where it copied.
-fn compare_read_back(source: &mut Source, bytes: &[u8], case: u64) -> Result<bool, String> {
-    let (_, variables, cells) = figures(bytes);
-    let mut values: Vec<u8> = (0..variables).map(|_| source.below(2) as u8).collect();
-    match source.below(8) {
-        0 => values.push(1),
-        1 => drop(values.pop()),
-        2 => values[source.below(variables.min(1 + cells))] = source.pick(&[2, 3, 255]),
-        3 => values.iter_mut().skip(1 + cells).for_each(|value| *value = source.byte()),
-        4 => values[0] = source.byte(),
-        _ => {}
-    }
-    let mut instance = vec![9; length(source, cells)];
-    let mut instance2 = instance.clone();
-    let want = read_back(bytes, &values, &mut instance);
-    let got = library::read_back(bytes, &values, &mut instance2);
-    let asked = || format!("case {case}, read-back of {}, sheet {}", hex(&values), hex(bytes));
-    agree(got, want, asked)?;
-    agree(instance2, instance, asked)?;
-    Ok(want.is_ok())
 }

@@ -10,7 +10,7 @@ use reference::clauses::translate;
 use reference::meaning::check;
 use reference::random::Source;
 use reference::random_sheet::{sheet, style};
-use reference::search::{search, End};
+use reference::search::{search, settled, End};
 use reference::{dimacs, sheet};
 
 /// More steps than this are not waited for.
@@ -44,7 +44,8 @@ pub fn run(run: &Run) -> Outcome {
         if let Some(least) = Least::of_sheet(&sheet) {
             agree(least.first.is_some(), verdict.is_satisfiable(), asked)?;
             if answer.end != End::Spent {
-                let found = (answer.end == End::Found).then_some(&values[1..1 + sheet.cells()]);
+                let found = settled(&values[1..1 + sheet.cells()]);
+                let found = (answer.end == End::Found).then_some(found.as_slice());
                 tallied.compare(found, answer.steps.turns, &least, asked)?;
             }
         }

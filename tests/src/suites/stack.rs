@@ -1,20 +1,21 @@
-//! The deepest sheets through every call and both programs: the answers are the reference's, and no more stack is taken
+//! The deepest sheets through every call and every program: the answers are the reference's, and no more stack is taken
 //! than docs/ARCHITECTURE.md states.
 
+use super::every::printed;
 use super::programs::clause_text;
 use super::{agree, hex};
 use crate::painted::depth_of;
 use crate::{Outcome, Run};
 use reference::deep::sheets;
+use reference::every::every;
 use reference::finder::finder;
 use reference::random::Source;
 use reference::random_state::{Call, Resume};
 use reference::sheet::Sheet;
-use std::io::Write;
 use std::process::{Command, Stdio};
 
 /// The stated stacks in KB (docs/ARCHITECTURE.md, "Stack").
-const CALLS: [(&str, usize); 10] = [
+const CALLS: [(&str, usize); 11] = [
     ("read", 64),
     ("check", 512),
     ("count", 1_024),
@@ -25,8 +26,12 @@ const CALLS: [(&str, usize); 10] = [
     ("text_size", 64),
     ("text", 64),
     ("resume", 64),
+    ("next", 64),
 ];
-const PROGRAMS: [(&str, usize); 3] = [("finder", 1_024), ("cnf", 1_024), ("finder_on", 1_024)];
+const PROGRAMS: [(&str, usize); 4] = [("finder", 1_024), ("cnf", 1_024), ("finder_on", 1_024), ("every", 1_024)];
+
+/// The cases of a sheet that are looked at.
+const CASES: usize = 3;
 
 /// How deep a call went so far: its place in `CALLS`.
 type Depths = [usize; CALLS.len()];
@@ -100,10 +105,11 @@ fn list_calls(depths: &mut Depths, list: &[i32], v: u32, asked: &str) -> Result<
     call(depths, 6, || searched(library::search), searched(reference::search::search), asked)?;
     let resumed = |resume: Resume| {
         let mut call = Call { budget: BUDGET, ..Call::fresh(&mut Source::new(0, "", 0), list, v) };
-        let answers = [call.make(resume), call.make(resume)];
+        let answers = [call.make(resume), call.make(resume), call.make(resume)];
         (answers, call.values, call.trail, call.position)
     };
     call(depths, 9, || resumed(library::resume), resumed(reference::resume::resume), asked)?;
+    call(depths, 10, || resumed(library::next), resumed(reference::next::next), asked)?;
     let size = reference::dimacs::size(list, v);
     call(depths, 7, || library::text_size(list, v), size, asked)?;
     let printed = |text: fn(&[i32], u32, &mut [u8]) -> Result<u64, u32>| {
@@ -113,21 +119,12 @@ fn list_calls(depths: &mut Depths, list: &[i32], v: u32, asked: &str) -> Result<
     call(depths, 8, || printed(library::text), printed(reference::dimacs::write), asked)
 }
 
-/// What a program prints that is started with the stated stack.
-fn program(name: &str, stated: usize, input: &[u8]) -> Result<String, String> {
+/// A program with the stated stack.
+fn program(name: &str, stated: usize) -> Command {
     let script = format!("ulimit -s {stated} && exec target/bin/{name}");
     let mut command = Command::new("bash");
-    command.args(["-c", &script]).stdin(Stdio::piped()).stdout(Stdio::piped()).stderr(Stdio::null());
-    let mut child = command.spawn().map_err(|error| error.to_string())?;
-    let mut stdin = child.stdin.take().expect("a pipe");
-    let input = input.to_vec();
-    let writer = std::thread::spawn(move || stdin.write_all(&input));
-    let output = child.wait_with_output().map_err(|error| error.to_string())?;
-    let _ = writer.join();
-    if !output.status.success() {
-        return Err(format!("{name} with a stack of {stated} KB: {}", output.status));
-    }
-    String::from_utf8(output.stdout).map_err(|error| error.to_string())
+    command.args(["-c", &script]).stderr(Stdio::null());
+    command
 }
 
 pub fn run(_: &Run) -> Outcome {
@@ -138,8 +135,15 @@ pub fn run(_: &Run) -> Outcome {
         let asked = format!("{name}, sheet {}", hex(&bytes));
         calls(&mut depths, sheet, &asked)?;
         for (program_name, stated) in PROGRAMS {
-            let want = if program_name == "cnf" { clause_text(&bytes) } else { finder(&bytes) };
-            agree(program(program_name, stated, &bytes)?, want, || format!("{program_name}, {asked}"))?;
+            let want = match program_name {
+                "cnf" => clause_text(&bytes),
+                "every" => every(&bytes, CASES),
+                _ => finder(&bytes),
+            };
+            let asked = || format!("{program_name} with a stack of {stated} KB, {asked}");
+            let got = printed(program(program_name, stated), &bytes, &want)
+                .map_err(|error| format!("{error}, {}", asked()))?;
+            agree(got, want, asked)?;
         }
     }
     let seen: Vec<String> =
