@@ -90,7 +90,7 @@ fn wanted_of_all(v: u32, list: &[i32]) -> (String, usize) {
 /// All that lists of few assignments have.
 pub fn next(run: &Run) -> Result<String, String> {
     let mut tally = [("none in C", 0), ("one in C", 0), ("several in C", 0)];
-    for case in run.cases(30) {
+    for case in run.cases(60) {
         let source = &mut Source::new(run.seed, "callers, next", case);
         let (list, v) = if case % 2 == 0 { turning(source) } else { list(source) };
         if v > 12 || first_assignments(v, &cut(&list, v).expect("a good list"), 200).len() == 200 {

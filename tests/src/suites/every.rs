@@ -1,7 +1,7 @@
 //! The program behind `./find --every`, line for line: its cases are all instances where there are few cells, each once and in
 //! order, with the total of steps; what it does where the budget of a call is spent; `./find --every`.
 
-use super::programs::some_input;
+use super::programs::{full_lists, some_input};
 use super::{agree, covered, hex};
 use crate::{Outcome, Run};
 use reference::brute::instances;
@@ -18,38 +18,41 @@ use std::process::{Command, Stdio};
 /// Cases of one sheet that are looked at.
 const MOST: usize = 150;
 
-/// What a program prints on an input: all of it where what is wanted has an end, else as many lines as this has.
-pub fn printed(mut command: Command, input: &[u8], want: &str) -> Result<String, String> {
+/// What a program prints on an input: all of it where what is wanted has an end, else as many lines as this has. `every` is
+/// stopped where it prints more.
+fn printed(command: Command, input: &[u8], want: &str) -> Result<String, String> {
+    printed_lines(command, input, want.lines().count(), is_whole(want))
+}
+
+/// What a program prints on an input: so many lines, and one more where these should be all.
+pub fn printed_lines(mut command: Command, input: &[u8], lines: usize, all: bool) -> Result<String, String> {
     command.stdin(Stdio::piped()).stdout(Stdio::piped());
     let mut child = command.spawn().map_err(|error| format!("{command:?}: {error}"))?;
     let (mut stdin, input) = (child.stdin.take().expect("a pipe"), input.to_vec());
     // a program may stop reading where the input is too long
     let writer = std::thread::spawn(move || drop(stdin.write_all(&input)));
     let mut reader = BufReader::new(child.stdout.take().expect("a pipe"));
-    let (mut got, wanted) = (String::new(), want.lines().count());
-    let mut read = 0;
-    while read < wanted || is_whole(want) {
-        match reader.read_line(&mut got) {
-            Ok(0) => break,
-            Ok(_) => read += 1,
-            Err(error) => return Err(error.to_string()),
-        }
+    let (mut got, mut read) = (String::new(), 0);
+    // one line too many shows that it does not end
+    let most = lines + usize::from(all);
+    while read < most && reader.read_line(&mut got).map_err(|error| error.to_string())? > 0 {
+        read += 1;
     }
-    let whole = is_whole(want) || read < wanted;
-    if !whole {
+    let ended = read < most;
+    if !ended {
         let _ = child.kill();
     }
     drop(reader);
     let status = child.wait().map_err(|error| error.to_string())?;
     let _ = writer.join();
-    if whole && !status.success() {
+    if ended && !status.success() {
         return Err(format!("{command:?}: {status}"));
     }
     Ok(got)
 }
 
 /// Whether the last line is no case's.
-fn is_whole(text: &str) -> bool {
+pub fn is_whole(text: &str) -> bool {
     !text.lines().last().is_some_and(|line| line.starts_with('r') && !line.starts_with("refused "))
 }
 
@@ -120,9 +123,10 @@ pub fn run(run: &Run) -> Outcome {
             whole += 1;
         }
     }
-    covered(&met.0, 8)?;
+    covered(&met.0, 5)?;
     covered(&[("all instances", whole)], 50)?;
     let examples = examples(&mut met)?;
+    edges()?;
     many_cases()?;
     let long = long_searches()?;
     commands()?;
@@ -151,6 +155,21 @@ fn bytes_of(text: &str) -> Vec<u8> {
     let digits: Vec<u8> =
         lines.flat_map(str::chars).filter_map(|char| char.to_digit(16)).map(|digit| digit as u8).collect();
     digits.chunks(2).map(|pair| pair[0] << 4 | pair[1]).collect()
+}
+
+/// As the finder it takes a list of exactly 16,384 words, and none of more; and parses 4,096 bytes, and no more.
+fn edges() -> Result<(), String> {
+    for (words, sheet) in full_lists() {
+        let (bytes, asked) = (sheet.bytes(), || format!("{words} words"));
+        let want = every(&bytes, 1);
+        agree(want.starts_with("refused 13"), words > 16_384, asked)?;
+        agree(printed(program(), &bytes, &want)?, want, asked)?;
+    }
+    for (length, number) in [(0, 1), (1, 1), (4_095, 1), (4_096, 1), (4_097, 2), (10_000, 2)] {
+        let want = format!("refused {number}\n");
+        agree(printed(program(), &vec![0; length], &want)?, want, || format!("{length} bytes of 0"))?;
+    }
+    Ok(())
 }
 
 /// Two sets of six cells of which some is 1: 4,095 cases.

@@ -77,7 +77,7 @@ fn sheets(run: &Run) -> Outcome {
         }
     }
     covered(&tally, 50)?;
-    walks.covered(30)?;
+    walks.covered(25)?;
     let all: usize = tally[..3].iter().map(|(_, times)| times).sum();
     let kinds: Vec<String> = tally.iter().map(|(what, times)| format!("{times} with {what}")).collect();
     Ok(format!("all instances of {all} sheets, {}: {}", kinds.join(", "), walks.said()))
@@ -118,7 +118,7 @@ fn lists(run: &Run) -> Outcome {
         tally[3].1 += usize::from(wanted.len() > 20);
     }
     covered(&tally, 50)?;
-    walks.covered(50)?;
+    walks.covered(25)?;
     let all: usize = tally[..3].iter().map(|(_, times)| times).sum();
     Ok(format!("all assignments of {all} lists: {}", walks.said()))
 }
@@ -144,7 +144,7 @@ fn states(run: &Run) -> Outcome {
         }
         in_parts += usize::from(parts(source, &call, case)?);
     }
-    covered(met.tally(), 50)?;
+    covered(met.tally(), 30)?;
     covered(&[("as the resumed call", as_resumed), ("a call in parts", in_parts)], 100)?;
     let said = met.said();
     Ok(format!("from other states {said}; {as_resumed} as the resumed call; {in_parts} in parts come to one"))

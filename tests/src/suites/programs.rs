@@ -15,18 +15,26 @@ use reference::random_cells::cells;
 use reference::random_damage::any;
 use reference::random_sheet::{closures, gates_of, pigeonhole, sheet, style};
 use reference::search::{search, End};
-use reference::sheet::{read, LENGTH, SHORT};
+use reference::sheet::{read, Sheet, LENGTH, SHORT};
 use std::io::Write;
 use std::process::{Command, Stdio};
 
 /// Searches of more steps than this are not waited for.
 const BUDGET: u64 = 3_000;
 
-/// The finder takes a list of exactly 16,384 words, and none of 16,386 or more.
-fn full_list() -> Result<(), String> {
-    for (gates, mark, words) in [(1_638, 0, 16_384), (1_638, 2, 16_386), (1_639, 0, 16_394)] {
+/// Sheets whose lists have 16,384 words, which the finder takes, and more.
+pub fn full_lists() -> Vec<(usize, Sheet)> {
+    let sheet = |(gates, mark, words)| {
         let mut sheet = gates_of(gates);
         sheet.relations[0].mark = mark;
+        (words, sheet)
+    };
+    [(1_638, 0, 16_384), (1_638, 2, 16_386), (1_639, 0, 16_394)].map(sheet).to_vec()
+}
+
+/// The finder takes a list of exactly 16,384 words, and none of 16,386 or more.
+fn full_list() -> Result<(), String> {
+    for (words, sheet) in full_lists() {
         let bytes = sheet.bytes();
         agree(translate(&sheet).map(|list| list.words().len()), Ok(words), || hex(&bytes))?;
         agree(program("finder", &bytes)?, finder(&bytes), || format!("{words} words, sheet {}", hex(&bytes)))?;

@@ -1,7 +1,7 @@
 //! The deepest sheets through every call and every program: the answers are the reference's, and no more stack is taken
 //! than docs/ARCHITECTURE.md states.
 
-use super::every::printed;
+use super::every::{is_whole, printed_lines};
 use super::programs::clause_text;
 use super::{agree, hex};
 use crate::painted::depth_of;
@@ -141,8 +141,9 @@ pub fn run(_: &Run) -> Outcome {
                 _ => finder(&bytes),
             };
             let asked = || format!("{program_name} with a stack of {stated} KB, {asked}");
-            let got = printed(program(program_name, stated), &bytes, &want)
-                .map_err(|error| format!("{error}, {}", asked()))?;
+            let all = program_name != "every" || is_whole(&want);
+            let got = printed_lines(program(program_name, stated), &bytes, want.lines().count(), all);
+            let got = got.map_err(|error| format!("{error}, {}", asked()))?;
             agree(got, want, asked)?;
         }
     }

@@ -10,7 +10,7 @@ use reference::resume::Position;
 use reference::search::{End, Steps};
 
 /// Steps that are waited for, times the words of the list.
-const EFFORT: u64 = 6_000_000;
+const EFFORT: u64 = 16_000_000;
 
 /// What walks came to.
 pub struct Walks {
