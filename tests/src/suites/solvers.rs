@@ -44,9 +44,8 @@ pub fn run(run: &Run) -> Outcome {
         if let Some(least) = Least::of_sheet(&sheet) {
             agree(least.first.is_some(), verdict.is_satisfiable(), asked)?;
             if answer.end != End::Spent {
-                let found = settled(&values[1..1 + sheet.cells()]);
-                let found = (answer.end == End::Found).then_some(found.as_slice());
-                tallied.compare(found, answer.steps.turns, &least, asked)?;
+                let found = (answer.end == End::Found).then(|| settled(&values[1..1 + sheet.cells()]));
+                tallied.compare(found.as_deref(), answer.steps.turns, &least, asked)?;
             }
         }
         tally[usize::from(!verdict.is_satisfiable())].1 += 1;
