@@ -1,15 +1,15 @@
 -- Calls for the next from a fresh start on give every satisfying assignment, each once and in ascending order.
-use mathlib.Core.Path.{_≡_, refl, sym, _∙_, ap}
+use mathlib.Core.Path.{_≡_, sym, _∙_, ap}
 use mathlib.Core.Bool.{true, false}
 use mathlib.Core.Logic.{_⊎_, inl, inr, ⊎-elim}
-use mathlib.Core.List.{List, [], _∷_, _++_, map}
+use mathlib.Core.List.{List, [], map}
 use Prim.Native.Nat.{ℕ, _+_, _≤_}
 use native.Mathlib.Omega.{arith}
 use native.Mathlib.Nat.{min-le-right}
 use lib.IntN.{ℤ}
 use lib.ListN.{length, take, length-take}
 use borrow.Author.Tests.{le-ltb}
-use Rattle.prelude.specs.Order.{Before, Each, Some, Pairs, Lists}
+use Rattle.prelude.specs.Order.{Before, Each, Some, Pairs}
 use Rattle.prelude.proofs.Laws.{clash, decided}
 use Rattle.prelude.proofs.Order.{ascending-different}
 use Rattle.clause_list.specs.ClauseList.{clausesOf, isList, Satisfying}

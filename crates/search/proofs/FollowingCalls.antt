@@ -22,7 +22,7 @@ use Rattle.search_rules.proofs.Invariant.{length-values}
 use Rattle.search_rules.proofs.Found.{found-ended, found-satisfying}
 use Rattle.search_rules.proofs.Following.{full-found, first-full, first-other, follow-resumes, FollowEnds, follow-ends, follow-spent-exactly}
 use Rattle.search_rules.proofs.Ending.{following-ends}
-use Rattle.search.specs.Answers.{found, spent, refused, answerAt, valuesAt}
+use Rattle.search.specs.Answers.{found, answerAt, valuesAt}
 use Rattle.search.specs.Resumed.{Resumption, startOf, declinesState, resumedRun, resumption}
 use Rattle.search.specs.First.{bitsOf}
 use Rattle.search.specs.Following.{followedRun, following, OpenOrFalse, FirstStep, FollowingCall, FollowingTaken, FollowingCalls}

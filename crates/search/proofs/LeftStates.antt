@@ -1,7 +1,7 @@
 -- A call over what a run left takes up the state that it left.
-use mathlib.Core.Path.{_≡_, refl, sym, _∙_, ap}
+use mathlib.Core.Path.{_≡_, refl, _∙_, ap}
 use mathlib.Core.Bool.{true}
-use mathlib.Core.List.{List, [], _++_}
+use mathlib.Core.List.{List, _++_}
 use Prim.Native.Nat.{ℕ, _+_, _≤_}
 use native.Mathlib.Omega.{arith}
 use lib.IntN.{ℤ}
@@ -9,14 +9,13 @@ use lib.ListN.{length, take, drop, length-append}
 use lib.Seq.{take-at, drop-at}
 use Rattle.clause_list.specs.ClauseList.{isList}
 use Rattle.search_rules.specs.declared.Steps.{Steps}
-use Rattle.search_rules.specs.declared.Position.{Position}
 use Rattle.search_rules.specs.Rules.{State, valuesOf, trailOf}
 use Rattle.search_rules.specs.Run.{total, End}
 use Rattle.search_rules.specs.Held.{positionOf, stepLimit, WasOpen, Stored}
 use Rattle.search_rules.proofs.Invariant.{length-values}
 use Rattle.search_rules.proofs.Trails.{length-trail}
 use Rattle.search_rules.proofs.StateHeld.{read-stored, stored-passes}
-use Rattle.search.specs.Resumed.{finishAt, startOf, Running, takenUp}
+use Rattle.search.specs.Resumed.{finishAt, Running, takenUp}
 use Rattle.search.proofs.Resumptions as resumed
 
 -- slices whose first v bytes and words hold a state

@@ -1,13 +1,13 @@
 -- What the answer of a resumed call means, for every list, v, values, trail, record and budget: over the definition that `resumed` ensures.
 use mathlib.Core.Path.{_≡_, sym, _∙_, ap}
 use mathlib.Core.Bool.{true, false}
-use mathlib.Core.Logic.{⊎-elim, _↔_}
+use mathlib.Core.Logic.{_↔_}
 use mathlib.Core.List.{List, []}
 use mathlib.Core.Option.{some}
 use Prim.Native.Nat.{ℕ, _≤_}
 use native.Mathlib.Omega.{arith}
 use lib.IntN.{ℤ}
-use lib.ListN.{length, take}
+use lib.ListN.{length}
 use Rattle.prelude.specs.Order.{NoneBefore}
 use Rattle.clause_list.specs.ClauseList.{clausesOf, isList, Satisfying}
 use Rattle.search_rules.specs.declared.Steps.{Steps}

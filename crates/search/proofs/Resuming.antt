@@ -1,25 +1,21 @@
 -- A record of zeros over open slices is a fresh start; a chain of calls of one kind, resumed or for the next, comes to one.
 use mathlib.Core.Path.{_≡_, refl, sym, _∙_, ap}
 use mathlib.Core.Bool.{Bool, true, false}
-use mathlib.Core.Logic.{⊎-elim}
-use mathlib.Core.List.{List, [], _++_}
+use mathlib.Core.List.{List, []}
 use Prim.Native.Nat.{ℕ, _+_, _≤_}
 use native.Mathlib.Omega.{arith}
 use lib.Dec.{leb}
 use lib.IntN.{ℤ}
-use lib.ListN.{length, take, drop, length-append}
-use lib.Seq.{take-at, drop-at}
+use lib.ListN.{length, take}
 use borrow.Author.Tests.{leb-true, leb-false}
 use Rattle.clause_list.specs.ClauseList.{clausesOf, isList}
 use Rattle.search_rules.specs.declared.Steps.{Steps}
 use Rattle.search_rules.specs.declared.Position.{Position}
 use Rattle.search_rules.specs.Rules.{State, valuesOf, trailOf}
 use Rattle.search_rules.specs.Run.{total, End, wasSpent}
-use Rattle.search_rules.specs.Held.{stepsOf, positionOf, stepLimit, stateIn, WasOpen, Stored}
-use Rattle.search_rules.proofs.Invariant.{length-values}
-use Rattle.search_rules.proofs.Trails.{length-trail}
+use Rattle.search_rules.specs.Held.{stepsOf, stepLimit, stateIn, WasOpen, Stored}
 use Rattle.search_rules.proofs.Ranges.{fine-list, ranged}
-use Rattle.search_rules.proofs.StateHeld.{read-stored, stored-passes}
+use Rattle.search_rules.proofs.StateHeld.{stored-passes}
 use Rattle.search_rules.proofs.Theorems.{spent-state, again, resume}
 use Rattle.search_rules.proofs.Again.{spent-open}
 use Rattle.search_rules.proofs.Following.{following-open, following-counted, following-again}

@@ -24,7 +24,7 @@ use Rattle.search_rules.specs.Run.{wasNone, wasFound, wasSpent}
 use Rattle.search_rules.specs.Following.{firstStep, followingRun}
 use Rattle.search_rules.proofs.Assignments.{Assignment, assignment, holds, Has, Follows, model-of}
 use Rattle.search_rules.proofs.Ranges.{Ranged}
-use Rattle.search_rules.proofs.StepView.{Full, Kept, Step, ends-none, ends-found, backtracks, propagates, decides, view, turn-leads}
+use Rattle.search_rules.proofs.StepView.{Kept, Step, ends-none, ends-found, backtracks, propagates, decides, view, turn-leads}
 use Rattle.search_rules.proofs.StepView.{steps-keep}
 use Rattle.search_rules.proofs.Invariant.{length-values, Keeps, turn-keeps, follows-keeps, follows-not-none}
 use Rattle.search_rules.proofs.Found.{place-below, found-ended, found-satisfying}

@@ -17,7 +17,9 @@ same-length-2 : tie.Need-same-length-2
 same-length-2 c = search needs
 
 returns : tie.Need-returns
-returns c = in-parts _ (c .before .before .before .before .followed .result) _ _ _ (c .before .before .before .before .followed .ensures) (c .in-numbers .ensures)
+returns c =
+    let k = c .before .before .before .before in
+    in-parts _ (k .followed .result) _ _ _ (k .followed .ensures) (c .in-numbers .ensures)
 
 pub followed-answer-spec : {M : Type 1} → statement M
 followed-answer-spec = tie.close (tie.spec followed-requires in-numbers-requires same-length same-length-2 returns)

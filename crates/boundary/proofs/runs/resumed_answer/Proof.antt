@@ -17,7 +17,9 @@ same-length-2 : tie.Need-same-length-2
 same-length-2 c = search needs
 
 returns : tie.Need-returns
-returns c = in-parts _ (c .before .before .before .before .resumed .result) _ _ _ (c .before .before .before .before .resumed .ensures) (c .in-numbers .ensures)
+returns c =
+    let k = c .before .before .before .before in
+    in-parts _ (k .resumed .result) _ _ _ (k .resumed .ensures) (c .in-numbers .ensures)
 
 pub resumed-answer-spec : {M : Type 1} → statement M
 resumed-answer-spec = tie.close (tie.spec resumed-requires in-numbers-requires same-length same-length-2 returns)
