@@ -31,7 +31,8 @@ pub record Loop (list : List ℤ) (v : ℕ) (values₀ : List ℕ) (trail₀ : L
   pub wide : length values ≡ length values₀
   pub deep : length trail ≡ length trail₀
   pub few : calls ≤ most-calls
-  pub chain : (n : ℕ) (r : Resumption) → Chain (resumption list v) values trail p n r → Chain (resumption list v) values₀ trail₀ start (so-far calls + n) r
+  pub chain : (n : ℕ) (r : Resumption) → Chain (resumption list v) values trail p n r
+      → Chain (resumption list v) values₀ trail₀ start (so-far calls + n) r
 
 module _ (list : List ℤ) (v : ℕ) (values₀ : List ℕ) (trail₀ : List ℤ) where
   abbrev From : Resumption → ℕ → Type 0

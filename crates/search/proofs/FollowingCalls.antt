@@ -77,7 +77,8 @@ module _ (list : List ℤ) (v : ℕ) (values : List ℕ) (trail : List ℤ) (p :
   found-satisfies steps e =
       let r = answered (followedRun list v) list v values trail p budget (found steps) (λ n d. let z : _≡_ {A = ℕ} 0 1 = cc in omega arith) e in
       let w = was-found ending steps (r .1) in
-      let h = follow-ends (clausesOf list) v (λ s. Unit {0}) (λ s k s' u d. tt) budget (stepsOf p) begin (wasFound steps (w .0)) (λ k s d. tt) (w .1) in
+      let h = follow-ends (clausesOf list) v (λ s. Unit {0}) (λ s k s' u d. tt) budget (stepsOf p) begin (wasFound steps (w .0))
+      (λ k s d. tt) (w .1) in
       let left : bitsOf v (call .outcome .values) ≡ map settle (valuesOf v (w .0)) =
       ap (bitsOf v) (ap (λ o. o .outcome .values) (r .0 .ends) ∙ ap (λ x. valuesAt v x ++ drop v values) (w .1))
       ∙ ap (map settle) (found-values v (w .0) values) in

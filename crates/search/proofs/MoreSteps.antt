@@ -55,11 +55,14 @@ module _ (list : List ℤ) (v : ℕ) (values : List ℕ) (trail : List ℤ) (p :
 
   by-tests : (a b c d : Bool) → isList v list ≡ a → leb v (length values) ≡ b → leb v (length trail) ≡ c
       → noState v (take v values) (take v trail) (p .length) ≡ d → call (m + n) ≡ call m
-  by-tests false b c d e f g h = no-list (resumedRun list v) list v values trail p (m + n) e ∙ sym (no-list (resumedRun list v) list v values trail p m e)
+  by-tests false b c d e f g h = no-list (resumedRun list v) list v values trail p (m + n) e
+      ∙ sym (no-list (resumedRun list v) list v values trail p m e)
   by-tests true false c d e f g h =
-      short-values (resumedRun list v) list v values trail p (m + n) e (leb-false _ _ f) ∙ sym (short-values (resumedRun list v) list v values trail p m e (leb-false _ _ f))
+      short-values (resumedRun list v) list v values trail p (m + n) e (leb-false _ _ f)
+      ∙ sym (short-values (resumedRun list v) list v values trail p m e (leb-false _ _ f))
   by-tests true true false d e f g h =
-      short-trail (resumedRun list v) list v values trail p (m + n) e (leb-false _ _ g) ∙ sym (short-trail (resumedRun list v) list v values trail p m e (leb-false _ _ g))
+      short-trail (resumedRun list v) list v values trail p (m + n) e (leb-false _ _ g)
+      ∙ sym (short-trail (resumedRun list v) list v values trail p m e (leb-false _ _ g))
   by-tests true true true true e f g h =
       no-state (resumedRun list v) list v values trail p (m + n) e (leb-true _ _ f) (leb-true _ _ g) h
       ∙ sym (no-state (resumedRun list v) list v values trail p m e (leb-true _ _ f) (leb-true _ _ g) h)

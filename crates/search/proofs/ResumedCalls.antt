@@ -47,7 +47,11 @@ module _ (running : Running) (list : List ℤ) (v : ℕ) (values : List ℕ) (tr
       by true false c d e f g h i j = inl (13, short-values running list v values trail p budget f (leb-false _ _ g))
       by true true false d e f g h i j = inl (13, short-trail running list v values trail p budget f (leb-false _ _ h))
       by true true true true e f g h i j = inl (14, no-state running list v values trail p budget f (leb-true _ _ g) (leb-true _ _ h) i)
-      by true true true false true f g h i j = inl (14, too-many running list v values trail p budget f (leb-true _ _ g) (leb-true _ _ h) (ltb-true _ _ j))
+      by true true true false true f g h i j = inl (
+        14,
+        too-many running list v values trail p budget f (leb-true _ _ g) (leb-true _ _ h)
+            (ltb-true _ _ j),
+      )
       by true true true false false f g h i j = inr (record {
         is-list = f;
         wide = leb-true _ _ g;

@@ -49,7 +49,8 @@ module _ (list : List ℤ) (v : ℕ) (values : List ℕ) (trail : List ℤ) (bud
   by-tests : (a b c : Bool) → isList v list ≡ a → leb v (length values) ≡ b → leb v (length trail) ≡ c
       → resumption list v values trail start budget .outcome ≡ outcome list v values trail budget
   by-tests false b c d e f =
-      ap (λ o. o .outcome) (resumed.no-list (resumedRun list v) list v values trail start budget d) ∙ sym (searched.no-list list v values trail budget d)
+      ap (λ o. o .outcome) (resumed.no-list (resumedRun list v) list v values trail start budget d)
+      ∙ sym (searched.no-list list v values trail budget d)
   by-tests true false c d e f =
       ap (λ o. o .outcome) (resumed.short-values (resumedRun list v) list v values trail start budget d (leb-false _ _ e))
       ∙ sym (searched.short-values list v values trail budget d (leb-false _ _ e))
@@ -73,7 +74,8 @@ pub record GoesOn (list : List ℤ) (v : ℕ) (running : Running) : Type 0 where
   pub goes-on : (m n : ℕ) (t t' : Steps) (state s : State) → running t state m ≡ wasSpent t' s → running t state (m + n) ≡ running t' s n
 
 -- one call is spent, and another takes up what it left
-module _ (list : List ℤ) (v : ℕ) (running : Running) (one : GoesOn list v running) (values : List ℕ) (trail : List ℤ) (p : Position) (m : ℕ) (t : Steps)
+module _ (list : List ℤ) (v : ℕ) (running : Running) (one : GoesOn list v running) (values : List ℕ) (trail : List ℤ) (p : Position)
+    (m : ℕ) (t : Steps)
     (answers : takenUp running list v values trail p m .outcome .answer ≡ spent t) where
   abbrev call : List ℕ → List ℤ → Position → ℕ → Resumption
   call = takenUp running list v

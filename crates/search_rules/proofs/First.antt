@@ -19,7 +19,8 @@ use Rattle.prelude.proofs.Laws.{clash, all-at}
 use Rattle.prelude.proofs.Order.{before-irreflexive, before-transitive, before-at}
 use Rattle.clause_list.specs.ClauseList.{Satisfying}
 use Rattle.search_rules.specs.Held.{WasOpen}
-use Rattle.search_rules.specs.Rules.{Truth, falsified, satisfied, unassigned, truthOf, negated, Entry, propagated, decided, State, wordOf, byteOf, placeOf}
+use Rattle.search_rules.specs.Rules.{Truth, falsified, satisfied, unassigned, truthOf, negated}
+use Rattle.search_rules.specs.Rules.{Entry, propagated, decided, State, wordOf, byteOf, placeOf}
 use Rattle.search_rules.specs.Rules.{valuesOf, Kind, endFound, step, next, settle}
 use Rattle.search_rules.specs.Run.{after}
 use Rattle.search_rules.proofs.Assignments.{Assignment, assignment, holds, Has, Agrees, Follows, values-agree, model-of}
@@ -111,12 +112,14 @@ module _ (a : Assignment) (v : ℕ) where
   unfolding WasOpen LowestDecided Follows Has wordOf holds
   has-or-leaves [] o low f = inl tt
   has-or-leaves (propagated l ∷ state) o low f =
-      ⊎-elim (λ g. inl (f .0 g, g)) (λ d. inr (parts-later true (propagated l) state (unfold wordOf in o .1) d)) (has-or-leaves state (o .2) low (f .1))
+      ⊎-elim (λ g. inl (f .0 g, g)) (λ d. inr (parts-later true (propagated l) state (unfold wordOf in o .1) d))
+      (has-or-leaves state (o .2) low (f .1))
   has-or-leaves (decided i ∷ state) o low f =
       ⊎-elim (by (a i) refl) (λ d. inr (parts-later true (decided i) state (unfold wordOf in o .1) d)) (has-or-leaves state (o .2) (low .1) f)
     where
       by : (b : Bool) → a i ≡ b → Has a state → Has a (decided i ∷ state) ⊎ Parts true a (valuesOf v (decided i ∷ state))
-      by true e g = inr (parts-here true (decided i) state o (unfold byteOf truthOf in refl) (unfold wordOf placeOf in low .0) g (unfold wordOf placeOf in e))
+      by true e g = inr (parts-here true (decided i) state o (unfold byteOf truthOf in refl) (unfold wordOf placeOf in low .0) g
+          (unfold wordOf placeOf in e))
       by false e g = inl (ap not e, g)
 
 -- the settled byte of a variable that is set is that of an assignment which agrees

@@ -236,7 +236,11 @@ module _ (clauses : List (List ℤ)) (v : ℕ) (ranged : Ranged v clauses) (a : 
   -- at a fresh start all wait
   pub waiting-fresh : 1 ≤ v → Waiting []
   unfolding Follows
-  waiting-fresh h = (tt, λ g e. found-ended clauses v [] e .1 0 (omega (arith, length-values v [])) (unfold valuesOf in getD-replicate v 0 2 2 (omega arith)))
+  waiting-fresh h = (
+    tt,
+    λ g e. found-ended clauses v [] e .1 0 (omega (arith, length-values v []))
+        (unfold valuesOf in getD-replicate v 0 2 2 (omega arith)),
+  )
 
 -- a call for the next keeps states sound, and what it finds satisfies the clauses and is past from then on
 module _ (clauses : List (List ℤ)) (v : ℕ) (ranged : Ranged v clauses) (n : ℕ) (t t' : Steps) (state s : State) (sound : Sound v state) where
@@ -244,13 +248,15 @@ module _ (clauses : List (List ℤ)) (v : ℕ) (ranged : Ranged v clauses) (n : 
   unfolding FollowEnds
   sound-spent e =
       ⊎-elim (λ d. rw d sound) (λ d. d .0)
-      (follow-ends clauses v (Sound v) (sound-keeps clauses v ranged) n t state (wasSpent t' s) (λ k r d. sound-first clauses v ranged state k r sound d) e)
+      (follow-ends clauses v (Sound v) (sound-keeps clauses v ranged) n t state (wasSpent t' s)
+      (λ k r d. sound-first clauses v ranged state k r sound d) e)
 
   module _ (e : followingRun clauses v n t state ≡ wasFound t' s) where
     found-here : Sound v s × (next clauses v s ≡ endFound)
     unfolding FollowEnds
     found-here =
-        follow-ends clauses v (Sound v) (sound-keeps clauses v ranged) n t state (wasFound t' s) (λ k r d. sound-first clauses v ranged state k r sound d) e
+        follow-ends clauses v (Sound v) (sound-keeps clauses v ranged) n t state (wasFound t' s)
+        (λ k r d. sound-first clauses v ranged state k r sound d) e
 
     pub sound-found : Sound v s
     sound-found = found-here .0

@@ -20,7 +20,8 @@ use Rattle.solve_rules.specs.Demand3.{FitsLimits, FitSlices}
 -- read-back over values of v variables, and so many cells
 abbrev pub cellsAnswer : ℕ → ℕ → List ℕ → ℕ → Answer
 cellsAnswer v cells values room =
-    cond (eqb (length values) v && all (λ (b : ℕ). leb b 1) (take cells (drop 1 (map settle values)))) (cond (leb cells room) (copied cells) (refused 13))
+    cond (eqb (length values) v && all (λ (b : ℕ). leb b 1) (take cells (drop 1 (map settle values))))
+    (cond (leb cells room) (copied cells) (refused 13))
     (refused 11)
 
 abbrev pub cellsLeft : ℕ → ℕ → List ℕ → List ℕ → List ℕ

@@ -183,7 +183,8 @@ module _ (s : List ℕ) (lent : Slices) (h : FitsLimits s) (k : FitSlices s lent
       λ n few. taken-there written v is-list to (stand .0) (stand .1) n few in
       let lists : Lists (Solution (sheetOf s)) instances =
       subst (Lists (Solution (sheetOf s))) (a .reads-are)
-      (lists-of-map (Satisfying v (clausesOf written)) (Solution (sheetOf s)) (readBack (sheetOf s)) solves in-order from-one (a .assignments) (l .lists)) in
+      (lists-of-map (Satisfying v (clausesOf written)) (Solution (sheetOf s)) (readBack (sheetOf s)) solves in-order from-one
+      (a .assignments) (l .lists)) in
       record {
         listing =
             record {

@@ -39,7 +39,8 @@ returns-2 : tie.Need-returns-2
 returns-2 c state i =
     let e = c .before .before .before .before .before .before .before .ends .ensures state (i .was-open) (i .values-are) in
     let s : tie.Start = c .before .before .before .before .before .before .before .before .before .before in
-    not-full _ _ _ (s .args .start) _ _ _ _ _ e (c .before .before .before .before .before .before .match .keys2) (c .before .before .before .run .ensures state i)
+    not-full _ _ _ (s .args .start) _ _ _ _ _ e (c .before .before .before .before .before .before .match .keys2)
+    (c .before .before .before .run .ensures state i)
 
 pub run-next-spec : {M : Type 1} → statement M
 run-next-spec =
