@@ -2,6 +2,7 @@
 //! counts.
 //! Before anything is timed, both sides are held to the same answers.
 
+mod every;
 mod idle;
 mod resuming;
 mod search;
@@ -178,6 +179,7 @@ fn main() {
     let words = large.size().words;
     let large = [large];
     searches(&format!("search of a list of {words} words"), &large, 5_000);
+    every::cases("every case of 300 random sheets", &lists, 300, 50);
     resuming::slices("search of 300 random sheets", &lists, 300);
     resuming::slices(&format!("search of a list of {words} words"), &large, 5_000);
     resuming::number_14("states of 300 random sheets", &lists, 300, 20);

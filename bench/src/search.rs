@@ -68,40 +68,69 @@ fn turn(values: &mut [u8], trail: &mut [i32], mut length: usize) -> Option<usize
     None
 }
 
+/// Where a search stands: the trail's length, and the steps done.
+#[derive(Clone, Copy, Default)]
+pub struct Standing {
+    pub length: usize,
+    pub steps: Steps,
+}
+
 /// The search over a good list, with slices of v values and v words.
 pub fn search(list: &[i32], values: &mut [u8], trail: &mut [i32], budget: u64) -> Answer {
     values.fill(OPEN);
     trail.fill(0);
-    let (mut length, mut left, mut steps) = (0, budget, Steps::default());
+    go_on(list, values, trail, &mut Standing::default(), budget)
+}
+
+/// The call for the next: a full assignment that it starts on is a clash.
+pub fn next(list: &[i32], values: &mut [u8], trail: &mut [i32], at: &mut Standing, budget: u64) -> Answer {
+    let full = matches!(scan(list, values), Scan::Nothing) && at.length == values.len();
+    if !full {
+        return go_on(list, values, trail, at, budget);
+    }
+    if !values.contains(&CHOSEN) {
+        return open_all(values, trail, at);
+    }
+    if budget == 0 {
+        return Answer { end: End::Spent, steps: at.steps };
+    }
+    at.length = turn(values, trail, at.length).unwrap_or(0);
+    at.steps.turns += 1;
+    go_on(list, values, trail, at, budget - 1)
+}
+
+fn open_all(values: &mut [u8], trail: &mut [i32], at: &mut Standing) -> Answer {
+    values.fill(OPEN);
+    trail.fill(0);
+    at.length = 0;
+    Answer { end: End::None, steps: at.steps }
+}
+
+/// The run from where it stands.
+fn go_on(list: &[i32], values: &mut [u8], trail: &mut [i32], at: &mut Standing, budget: u64) -> Answer {
+    let mut left = budget;
     loop {
         let met = scan(list, values);
         match met {
-            Scan::Nothing if length == values.len() => {
-                values.iter_mut().filter(|value| **value == CHOSEN).for_each(|value| *value = 0);
-                return Answer { end: End::Found, steps };
-            }
-            Scan::Clash if !values.contains(&CHOSEN) => {
-                values.fill(OPEN);
-                trail.fill(0);
-                return Answer { end: End::None, steps };
-            }
-            _ if left == 0 => return Answer { end: End::Spent, steps },
+            Scan::Nothing if at.length == values.len() => return Answer { end: End::Found, steps: at.steps },
+            Scan::Clash if !values.contains(&CHOSEN) => return open_all(values, trail, at),
+            _ if left == 0 => return Answer { end: End::Spent, steps: at.steps },
             Scan::Clash => {
-                length = turn(values, trail, length).unwrap_or(0);
-                steps.turns += 1;
+                at.length = turn(values, trail, at.length).unwrap_or(0);
+                at.steps.turns += 1;
             }
             Scan::Force(literal) => {
                 values[literal.unsigned_abs() as usize - 1] = u8::from(literal > 0);
-                trail[length] = literal;
-                length += 1;
-                steps.forces += 1;
+                trail[at.length] = literal;
+                at.length += 1;
+                at.steps.forces += 1;
             }
             Scan::Nothing => {
                 let variable = values.iter().position(|&value| value == OPEN).unwrap_or(0);
                 values[variable] = CHOSEN;
-                trail[length] = -(variable as i32 + 1);
-                length += 1;
-                steps.choices += 1;
+                trail[at.length] = -(variable as i32 + 1);
+                at.length += 1;
+                at.steps.choices += 1;
             }
         }
         left -= 1;
