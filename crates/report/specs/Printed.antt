@@ -6,6 +6,8 @@ use lib.Dec.{eqb, leb}
 use lib.ListN.{length}
 use Rattle.text.specs.Texts.{bytesOf, digit, decimal, endLine}
 use Rattle.sheet_rules.specs.Blocks.{Sheet, sheetOf, byte, relationCount}
+use Rattle.sheet_rules.specs.Reading as sheets
+use Rattle.sheet_rules.specs.Reading.{reading}
 use Rattle.relational.specs.Cells.{rowCount, rowLength, cell}
 use Rattle.clauses_rules.specs.Whole.{series}
 use Rattle.search_rules.specs.Run.{total}
@@ -36,6 +38,17 @@ report (found steps) sheet instance = endLine (bytesOf "found ") (total steps) +
 report (none steps) sheet instance = endLine (bytesOf "none ") (total steps)
 report (spent steps) sheet instance = endLine (bytesOf "spent ") (total steps)
 report (refused n) sheet instance = endLine (bytesOf "refused ") n
+
+-- the same of any input: it has lines of relations where it is an accepted sheet. An input that a search found something for is one.
+abbrev pub linesOf : sheets.Answer → Sheet → List ℕ → List ℕ
+linesOf (sheets.accepted layout) sheet instance = relationLines sheet instance
+linesOf (sheets.refused n) sheet instance = []
+
+abbrev pub answerText : Answer → List ℕ → List ℕ → List ℕ
+answerText (found steps) input instance = endLine (bytesOf "found ") (total steps) ++ linesOf (reading input) (sheetOf input) instance
+answerText (none steps) input instance = report (none steps) (sheetOf input) instance
+answerText (spent steps) input instance = report (spent steps) (sheetOf input) instance
+answerText (refused n) input instance = report (refused n) (sheetOf input) instance
 
 -- "a budget of 1,000,000"
 abbrev pub finderBudget : ℕ

@@ -12,7 +12,7 @@ ghost use Rattle.search_rules.specs.Held.{stepLimit};
 ghost use Rattle.search.specs.Answers.{found, answerOf, stepsIn};
 ghost use Rattle.solve_rules.specs.Finding.{slices};
 ghost use Rattle.solve_rules.specs.Demand3.{FitsLimits};
-ghost use Rattle.report.specs.Printed.{report, finderBudget, findingText, slicesAfter};
+ghost use Rattle.report.specs.Printed.{report, answerText, finderBudget, findingText, slicesAfter};
 ghost use Rattle.report.specs.Tells.{Tells};
 use super::lines::put_lines;
 use search::answer::Search;
@@ -28,12 +28,11 @@ pub fn step_figure(steps: Steps) -> u64
     steps.propagations + steps.decisions + steps.backtracks
 }
 
-// Puts the line of `found`, and the lines of the relations.
+// Puts the line of `found`, and the lines of the relations where the sheet is accepted.
 fn put_found(text: &mut [u8], input: &[u8], steps: Steps, instance: &[u8]) -> usize
     requires { ⌜ 2048 ≤ length (now text) ⌝ }
-    requires { ⌜ FitsLimits (now input) ⌝ }
     requires { ⌜ total steps ≤ stepLimit ⌝ }
-    ensures { λ r. ⌜ Put (now (text .entry)) 0 (report (found steps) (sheetOf (now (input .entry))) (now (instance .entry)))
+    ensures { λ r. ⌜ Put (now (text .entry)) 0 (answerText (found steps) (now (input .entry)) (now (instance .entry)))
         (now (text .exit)) r ⌝ }
     ensures { λ r. ⌜ r ≤ 2048 ⌝ }
 {
@@ -45,13 +44,12 @@ fn put_found(text: &mut [u8], input: &[u8], steps: Steps, instance: &[u8]) -> us
     }
 }
 
-// Puts the line of an end, and after `found` the lines of the relations. It is for a crate that prints what its own search found, and
-// asks of it room for 2,048 bytes, that a sheet fits the limits if something was found, and that the steps fit.
-pub fn put_report(text: &mut [u8], input: &[u8], ended: Search, instance: &[u8]) -> usize
+// Puts the line of an end, and after `found` the lines of the relations, for any input. It is for a crate that prints what its own search
+// found, and asks of it room for 2,048 bytes, and that the steps fit.
+pub fn put_answer(text: &mut [u8], input: &[u8], ended: Search, instance: &[u8]) -> usize
     requires { ⌜ 2048 ≤ length (now text) ⌝ }
-    requires { ⌜ ((steps : Steps) → answerOf ended ≡ found steps → FitsLimits (now input)) ⌝ }
     requires { ⌜ ((steps : Steps) → stepsIn (answerOf ended) ≡ some steps → total steps ≤ stepLimit) ⌝ }
-    ensures { λ r. ⌜ Put (now (text .entry)) 0 (report (answerOf ended) (sheetOf (now (input .entry))) (now (instance .entry)))
+    ensures { λ r. ⌜ Put (now (text .entry)) 0 (answerText (answerOf ended) (now (input .entry)) (now (instance .entry)))
         (now (text .exit)) r ⌝ }
     ensures { λ r. ⌜ r ≤ 2048 ⌝ }
 {
@@ -61,6 +59,18 @@ pub fn put_report(text: &mut [u8], input: &[u8], ended: Search, instance: &[u8])
         Search::Spent(steps) => put_end(text, b"spent ", step_figure(steps)),
         Search::Refused(r) => put_end(text, b"refused ", refusal::number(r) as u64),
     }
+}
+
+// The same, where a sheet fits the limits if something was found: it is `report`.
+pub fn put_report(text: &mut [u8], input: &[u8], ended: Search, instance: &[u8]) -> usize
+    requires { ⌜ 2048 ≤ length (now text) ⌝ }
+    requires { ⌜ ((steps : Steps) → answerOf ended ≡ found steps → FitsLimits (now input)) ⌝ }
+    requires { ⌜ ((steps : Steps) → stepsIn (answerOf ended) ≡ some steps → total steps ≤ stepLimit) ⌝ }
+    ensures { λ r. ⌜ Put (now (text .entry)) 0 (report (answerOf ended) (sheetOf (now (input .entry))) (now (instance .entry)))
+        (now (text .exit)) r ⌝ }
+    ensures { λ r. ⌜ r ≤ 2048 ⌝ }
+{
+    put_answer(text, input, ended, instance)
 }
 
 // Reads the input as a sheet, and writes what the finder prints to the front of the text: with 16,384 clause words, and room for all
