@@ -1,4 +1,3 @@
-mod AnswerTests
 mod CallByCall
 mod TakenUp
 mod AtOnce

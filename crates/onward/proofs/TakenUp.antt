@@ -1,5 +1,5 @@
 -- What the functions of `find_on` have to ensure: the search of a call with no steps, taken up, is that of a call with all the steps.
-use mathlib.Core.Path.{_≡_, refl, sym, _∙_, ap}
+use mathlib.Core.Path.{_≡_, sym, _∙_, ap}
 use mathlib.Core.Bool.{true}
 use mathlib.Core.Logic.{⊎-elim}
 use mathlib.Core.List.{List}
@@ -17,14 +17,14 @@ use Rattle.clauses_rules.specs.Whole.{variableTotal, wordTotal}
 use Rattle.clauses_rules.proofs.Theorems.{listed}
 use Rattle.search_rules.specs.declared.Steps.{Steps}
 use Rattle.search_rules.specs.declared.Position.{Position}
-use Rattle.search.specs.Answers.{Answer, found, none, spent, refused, Outcome, outcome}
+use Rattle.search.specs.Answers.{Answer, found, spent, refused, Outcome, outcome}
 use Rattle.search.specs.Resumed.{left, resumption}
 use Rattle.search.specs.Resuming.{start}
 use Rattle.solve_rules.specs.Answers.{instanceAfter}
 use Rattle.solve_rules.specs.Finding.{Slices, slices, instanceFor, findIn, finding}
 use Rattle.solve_rules.specs.Demand3.{FitSlices}
 use Rattle.solve_rules.proofs.Calls.{counts, writes-words}
-use Rattle.solve_rules.proofs.Findings.{Declined, Ran, called}
+use Rattle.solve_rules.proofs.Findings.{Declined, Ran, called, instance-kept}
 use Rattle.solve.specs.Private.{Left}
 use Rattle.onward.specs.Limits.{mostSteps}
 use Rattle.onward.specs.Private.{Begun, SomeBegun}
@@ -140,11 +140,5 @@ module _ (s : List ℕ) (lent opened : Slices) (b : Begun s lent opened) where
           leaves instance (f ∙ ap (λ (x : Answer). instanceFor x s (take v values) (opened .instance)) (sym e))
 
       -- any other end leaves it as it was
-      kept : (x : Answer) → ((steps : Steps) → x ≡ found steps → ⊥) → opened .instance ≡ instanceFor x s (take v values) (opened .instance)
-      kept (found steps) h = absurd (h steps refl)
-      kept (none steps) h = refl
-      kept (spent steps) h = refl
-      kept (refused n) h = refl
-
       pub leaves-kept : ((steps : Steps) → a ≡ found steps → ⊥) → Left s lent mostSteps a (slices (opened .list) values trail (opened .instance))
-      leaves-kept h = leaves (opened .instance) (kept a h)
+      leaves-kept h = leaves (opened .instance) (instance-kept a s (take v values) (opened .instance) h)

@@ -90,6 +90,10 @@ module _ (list : List ℤ) (v : ℕ) (values : List ℕ) (trail : List ℤ) (p :
       let f = following-within (clausesOf list) v budget (stepsOf p) (startOf v values trail p) in
       omega (arith, f, ap total (are-its (followedRun list v) list v values trail p budget steps shows))
 
+  -- together they fit in 64 bits
+  pub followed-limit : total steps ≤ stepLimit
+  followed-limit = omega (arith, followed-few, ran (followedRun list v) list v values trail p budget steps shows .few)
+
 -- none is counted before a call from the start
 none-before : (kind : Kind) → counter kind zeros ≡ 0
 unfolding counter

@@ -13,6 +13,7 @@ pub mod Counters
 pub mod FollowingCalls
 pub mod Every
 pub mod MoreSteps
+pub mod AnswerTests
 pub mod OpenSlices
 pub mod Lent
 pub mod LentWalk

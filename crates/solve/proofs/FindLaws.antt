@@ -18,13 +18,13 @@ use Rattle.clauses.proofs.Answered.{count-fits}
 use Rattle.clauses_rules.proofs.Match.{cells-variables}
 use Rattle.search_rules.specs.declared.Steps.{Steps}
 use Rattle.search_rules.specs.Rules.{settle}
-use Rattle.search.specs.Answers.{Answer, found, none, spent, refused, Outcome, outcome}
+use Rattle.search.specs.Answers.{Answer, found, refused, Outcome, outcome}
 use Rattle.solve_rules.specs.Answers.{instanceAfter}
 use Rattle.solve_rules.specs.Finding.{Slices, slices, Finding, decline, haveRoom, instanceFor, findIn, findAfter, finding}
 use Rattle.solve_rules.specs.Finds.{Finds}
 use Rattle.solve.specs.Private.{Fitting, Left}
 use Rattle.solve_rules.proofs.Demand3.{found-instance}
-use Rattle.solve_rules.proofs.Findings.{Room, has-room, Declined, Ran, is-after, called}
+use Rattle.solve_rules.proofs.Findings.{Room, has-room, Declined, Ran, is-after, called, instance-kept}
 use Rattle.solve_rules.proofs.Finds.{finds}
 
 module _ (s : List ℕ) (lent : Slices) (budget : ℕ) where
@@ -142,13 +142,7 @@ module _ (s : List ℕ) (lent : Slices) (budget : ℕ) (size : Size) (cells : �
         ∙ ap (λ (x : Answer). instanceFor x s (take v (o .values)) (lent .instance)) (sym p))
 
     -- any other end leaves the instance as it was
-    kept : (x : Answer) (vs : List ℕ) → ((steps : Steps) → x ≡ found steps → ⊥) → lent .instance ≡ instanceFor x s vs (lent .instance)
-    kept (found steps) vs h = absurd (h steps refl)
-    kept (none steps) vs h = refl
-    kept (spent steps) vs h = refl
-    kept (refused n) vs h = refl
-
     pub leaves-kept : ((steps : Steps) → a ≡ found steps → ⊥) → Left s lent budget a (slices list values trail (lent .instance))
     leaves-kept h =
         leaves (lent .instance)
-        (kept (over (listAfter s (lent .list)) .answer) _ (λ steps e. h steps (answer-is ∙ e)))
+        (instance-kept (over (listAfter s (lent .list)) .answer) s _ (lent .instance) (λ steps e. h steps (answer-is ∙ e)))

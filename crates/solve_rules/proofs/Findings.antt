@@ -18,9 +18,9 @@ use Rattle.clauses.specs.Answers.{countAnswer, listAfter}
 use Rattle.clauses.proofs.Answered.{Counted, count-fits}
 use Rattle.search_rules.specs.declared.Steps.{Steps}
 use Rattle.search_rules.specs.Run.{total}
-use Rattle.search.specs.Answers.{found, refused, stepsIn}
+use Rattle.search.specs.Answers.{Answer, found, none, spent, refused, stepsIn}
 use Rattle.search.proofs.Counters.{refused-shows-none, searched-few}
-use Rattle.solve_rules.specs.Finding.{Slices, decline, haveRoom, findIn, findAfter, finding}
+use Rattle.solve_rules.specs.Finding.{Slices, decline, haveRoom, instanceFor, findIn, findAfter, finding}
 use Rattle.solve_rules.specs.Demand3.{FitsLimits, FitSlices}
 use Rattle.solve_rules.proofs.Calls.{counts}
 
@@ -142,3 +142,11 @@ module _ (s : List ℕ) (lent : Slices) (budget : ℕ) where
       absurd (omega arith))
       (λ (r : Ran). r .limits)
       called
+
+-- without a "found" the instance stays
+pub instance-kept : (a : Answer) (s values instance : List ℕ) → ((steps : Steps) → a ≡ found steps → ⊥)
+    → instance ≡ instanceFor a s values instance
+instance-kept (found steps) s values instance h = absurd (h steps refl)
+instance-kept (none steps) s values instance h = refl
+instance-kept (spent steps) s values instance h = refl
+instance-kept (refused n) s values instance h = refl

@@ -10,7 +10,7 @@ use Rattle.solve.specs.Private.{Left}
 use Rattle.solve.proofs.FindLaws.{means}
 use Rattle.onward.specs.Limits.{mostSteps}
 use Rattle.onward.specs.Private.{Begun}
-use Rattle.onward.proofs.AnswerTests.{was-spent, not-spent}
+use Rattle.search.proofs.AnswerTests.{was-spent, not-spent}
 use Rattle.onward.proofs.TakenUp.{begins, still-fit}
 use Rattle.onward.proofs.AtOnce.{at-once}
 use Rattle.onward.proofs.find_on.Statement.{statement}

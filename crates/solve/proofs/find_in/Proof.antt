@@ -1,35 +1,14 @@
 -- `find_in` meets its contract: what writing, search and the copy leave is the definition's.
-use mathlib.Core.Path.{_≡_, refl, sym}
-use mathlib.Core.Logic.{_⊎_, ⊎-elim}
-use Prim.Native.Nat.{ℕ}
+use mathlib.Core.Path.{_≡_, sym}
 use native.Mathlib.Omega.{arith}
 use lib.ListN.{length, take}
 use lib.Seq.{length-take-le}
 use borrow.Author.Needs.{needs}
-use denote.Enum.Declared.{tagOf}
-use Rattle.search_rules.specs.declared.Steps.{Steps}
-use Rattle.search.proofs.answer.Search.{the-type}
-use Rattle.search.specs.declared.answer.Search.{Search}
-use Rattle.search.specs.declared.answer.Search.the-variants.{Found, None, Spent, Refused}
-use Rattle.search.specs.Answers.{found, answerOf}
+use Rattle.search.proofs.AnswerTests.{was-found, not-found}
 use Rattle.solve_rules.specs.Finding.{Slices, slices}
 use Rattle.solve.proofs.FindLaws.{cells-below, leaves-found, leaves-kept}
 use Rattle.solve.proofs.find_in.Statement.{statement}
 use Rattle.solve.proofs.find_in.Tie as tie
-
--- the test of the answer
-was-found : (r : Search) → tagOf the-type r ≡ 0 → (steps : Steps) × (answerOf r ≡ found steps)
-was-found (Found n) e = (n, refl)
-was-found (None n) e = absurd (omega arith)
-was-found (Spent n) e = absurd (omega arith)
-was-found (Refused n) e = absurd (omega arith)
-
-not-found : (r : Search) → (tagOf the-type r ≡ 1) ⊎ ((tagOf the-type r ≡ 2) ⊎ (tagOf the-type r ≡ 3))
-    → (steps : Steps) → answerOf r ≡ found steps → ⊥
-not-found (Found n) e steps f = ⊎-elim (λ x. omega arith) (⊎-elim (λ x. omega arith) (λ x. omega arith)) e
-not-found (None n) e steps f = let z : _≡_ {A = ℕ} 0 1 = cc in omega arith
-not-found (Spent n) e steps f = let z : _≡_ {A = ℕ} 0 1 = cc in omega arith
-not-found (Refused n) e steps f = let z : _≡_ {A = ℕ} 0 1 = cc in omega arith
 
 -- where the call started, and what it was lent
 abbrev start : tie.After-search → tie.Start

@@ -7,7 +7,7 @@ use lib.Seq.{length-take-le}
 use borrow.Author.Needs.{needs}
 use Rattle.clauses.proofs.Answered.{count-fits}
 use Rattle.solve_rules.specs.Finding.{slices}
-use Rattle.onward.proofs.AnswerTests.{was-found, not-found}
+use Rattle.search.proofs.AnswerTests.{was-found, not-found}
 use Rattle.onward.proofs.TakenUp.{Fit, fit, leaves-found, leaves-kept}
 use Rattle.onward.proofs.begun.run_on.Statement.{statement}
 use Rattle.onward.proofs.begun.run_on.Tie as tie

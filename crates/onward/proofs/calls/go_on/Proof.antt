@@ -3,7 +3,7 @@ use mathlib.Core.Path.{sym, _∙_, ap}
 use borrow.Author.Needs.{needs}
 use Rattle.search.specs.Answers.{answerOf, stepsIn}
 use Rattle.search.proofs.Counters.{resumed-few}
-use Rattle.onward.proofs.AnswerTests.{not-spent}
+use Rattle.search.proofs.AnswerTests.{not-spent}
 use Rattle.onward.proofs.CallByCall.{Loop, begins, ended, goes-on, at-end}
 use Rattle.onward.proofs.calls.go_on.Statement.{statement}
 use Rattle.onward.proofs.calls.go_on.Tie as tie

@@ -1,0 +1,55 @@
+-- How a listing begins: by the length of the input, and by what writing answers.
+use mathlib.Core.Path.{_≡_, refl, sym, ap, _∙_, subst}
+use mathlib.Core.List.{List}
+use Prim.Native.Nat.{ℕ, _+_, _≤_, _<_}
+use native.Mathlib.Omega.{arith}
+use native.Mathlib.Nat.{zero-add}
+use lib.IntN.{ℤ}
+use lib.ListN.{length, take}
+use borrow.Author.Tests.{le-leb, lt-leb}
+use Rattle.text.specs.Puts.{Put}
+use Rattle.text.specs.Texts.{bytesOf, endLine, Prints}
+use Rattle.text.proofs.Puts.{prints, counts}
+use Rattle.clauses.specs.declared.answer.Size.{Size}
+use Rattle.clauses.specs.Answers.{Answer, fits, refused, writeAnswer, listAfter}
+use Rattle.listing.specs.declared.answer.Begun.{Begun}
+use Rattle.listing.specs.declared.answer.Begun.the-variants.{Refused, Cases}
+use Rattle.listing.specs.Printed.{beginning, listBegun, begunText, begunOf, bytesIn}
+
+module _ (input : List ℕ) (list : List ℤ) where
+  pub long-refused : 4096 < length input → beginning input list ≡ refused 2
+  unfolding beginning
+  long-refused h = rw (lt-leb (length input) 4096 h)
+
+  pub long-list : 4096 < length input → listBegun input list ≡ list
+  unfolding listBegun
+  long-list h = rw (lt-leb (length input) 4096 h)
+
+  pub short-writes : length input ≤ 4096 → beginning input list ≡ writeAnswer input list
+  unfolding beginning
+  short-writes h = rw (le-leb (length input) 4096 h)
+
+  pub short-list : length input ≤ 4096 → listBegun input list ≡ listAfter input list
+  unfolding listBegun
+  short-list h = rw (le-leb (length input) 4096 h)
+
+-- what is ensured of an answer, but for the list
+abbrev Begins : Answer → Begun → (before after : List ℕ) → Type 0
+Begins a r before after =
+    (r ≡ begunOf a)
+    × (((bytesIn r ≤ length after) × (bytesIn r ≡ length (take (bytesIn r) after))) × Prints (begunText a) before after (bytesIn r))
+
+refused-is : (n : ℕ) {before after : List ℕ} {end : ℕ} → Put before 0 (endLine (bytesOf "refused ") n) after end → end ≤ length before
+    → Begins (refused n) (Refused end) before after
+refused-is n p l = (ap Refused (p .ends ∙ zero-add _), (counts p l, prints p l))
+
+cases-are : (size : Size) (text : List ℕ) → Begins (fits (size .variables) (size .clauses) (size .words)) (Cases size) text text
+cases-are size text = (refl, ((omega arith, refl), record { ends = refl; stands = refl }))
+
+pub begins-refused : (a : Answer) (n : ℕ) → a ≡ refused n → {before after : List ℕ} {end : ℕ} → Put before 0 (endLine (bytesOf "refused ") n) after end
+    → end ≤ length before → Begins a (Refused end) before after
+begins-refused a n e {before} {after} {end} p l = subst (λ (x : Answer). Begins x (Refused end) before after) (sym e) (refused-is n p l)
+
+pub begins-cases : (a : Answer) (size : Size) → a ≡ fits (size .variables) (size .clauses) (size .words) → (text : List ℕ)
+    → Begins a (Cases size) text text
+begins-cases a size e text = subst (λ (x : Answer). Begins x (Cases size) text text) (sym e) (cases-are size text)
