@@ -1,2 +1,4 @@
 mod Beginning
 mod NextCall
+pub mod ShowsRead
+pub mod SameRefusals

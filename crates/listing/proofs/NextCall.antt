@@ -62,8 +62,7 @@ module _ (list : List ℤ) (v : ℕ) (values : List ℕ) (trail : List ℤ) (p :
         → ((end ≤ length after) × (end ≡ length (take end after)))
         × (Prints (is .text) before after end × ((more ≡ is .more) × ((standing vs ts q ≡ is .left) × (read ≡ is .instance))))
     ensured e l m =
-        let t = put-as (ap (λ (x : Shown). x .text) shown-is) e in
-        (
+        let t = put-as (ap (λ (x : Shown). x .text) shown-is) e in (
           counts t l,
           (
             prints t l,

@@ -1,5 +1,5 @@
 mod Pieces
-mod Texts
-mod Tells
+pub mod Texts
+pub mod Tells
 pub mod Printing
 pub mod Cases

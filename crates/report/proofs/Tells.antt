@@ -46,7 +46,7 @@ module _ (sheet : Sheet) (instance rest : List ℕ) (e : length instance ≡ cel
       (same-series (rowCount sheet r) (λ i. bytesOf " " ++ rowDigits sheet (instance ++ rest) r i)
       (λ i. bytesOf " " ++ rowDigits sheet instance r i) λ i k. ap (λ (ds : List ℕ). bytesOf " " ++ ds) (row-of r i h k))
 
-  lines-of : relationLines sheet (instance ++ rest) ≡ relationLines sheet instance
+  pub lines-of : relationLines sheet (instance ++ rest) ≡ relationLines sheet instance
   unfolding relationLines
   lines-of = same-series (relationCount sheet) (relationLine sheet (instance ++ rest)) (relationLine sheet instance) line-of
 

@@ -50,7 +50,7 @@ returns-2 c =
     let s = k .before .before .before .before in
     let h = k .before .before .if1 .left in
     let a = short-writes (s .args .input .now) (s .args .list .now) h ∙ sym (k .write .ensures .0)
-        ∙ ap answerOf (c .before .before .before .before .before .written .given .1) in
+    ∙ ap answerOf (c .before .before .before .before .before .written .given .1) in
     let e = c .put-end2 .ensures in
     let p = put-as (ap (endLine (bytesOf "refused ")) (c .before .number .ensures)) (e .0) in
     let b = begins-refused _ _ a p (omega (arith, e .1)) in
