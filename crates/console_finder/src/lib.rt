@@ -1,5 +1,5 @@
-// The finder program: a sheet is read from a descriptor, and what `report` makes of it is printed on standard output. Crate
-// `console_finder_on` reads and prints with the same functions.
+// The finder program: a sheet is read from a descriptor, and what `report` makes of it is printed on standard output. Crates
+// `console_finder_on` and `console_every` read and print with the same functions.
 ghost use Prim.Native.Nat.{_≤_};
 ghost use Rattle.io.specs.Counts.{Counts};
 use console::Input;
@@ -15,9 +15,14 @@ pub fn read_sheet(fd: i32, input: &mut [u8; 4097]) -> Input
     console::read_input(fd, input, b"finder: reading standard input")
 }
 
+// Prints a text, and answers whether it was written.
+pub fn print_text(text: &[u8]) -> bool {
+    console::print(text, b"finder: writing standard output")
+}
+
 // Prints an answer to an input, says of a refused one whether its list is too long, and answers whether the answer was written.
 pub fn print_answer(input: &[u8], answer: &[u8]) -> bool {
-    if !console::print(answer, b"finder: writing standard output") {
+    if !print_text(answer) {
         return false;
     }
     // `refused` is the only answer that starts with an r

@@ -1,20 +1,33 @@
 -- How a listing begins: by the length of the input, and by what writing answers.
 use mathlib.Core.Path.{_≡_, refl, sym, ap, _∙_, subst}
+use mathlib.Core.Logic.{⊎-elim}
 use mathlib.Core.List.{List}
 use Prim.Native.Nat.{ℕ, _+_, _≤_, _<_}
 use native.Mathlib.Omega.{arith}
 use native.Mathlib.Nat.{zero-add}
+use lib.Dec.{leb}
 use lib.IntN.{ℤ}
-use lib.ListN.{length, take}
-use borrow.Author.Tests.{le-leb, lt-leb}
+use lib.ListN.{length, take, drop, length-append}
+use borrow.Author.Tests.{leb-true, leb-false, le-leb, lt-leb}
+use Rattle.prelude.proofs.Laws.{decided}
 use Rattle.text.specs.Puts.{Put}
 use Rattle.text.specs.Texts.{bytesOf, endLine, Prints}
 use Rattle.text.proofs.Puts.{prints, counts}
+use Rattle.sheet_rules.specs.Blocks.{sheetOf}
+use Rattle.clauses_rules.specs.Whole.{words, wordTotal}
 use Rattle.clauses.specs.declared.answer.Size.{Size}
 use Rattle.clauses.specs.Answers.{Answer, fits, refused, writeAnswer, listAfter}
+use Rattle.clauses.proofs.Answered.{count-fits, write-fits}
 use Rattle.listing.specs.declared.answer.Begun.{Begun}
 use Rattle.listing.specs.declared.answer.Begun.the-variants.{Refused, Cases}
 use Rattle.listing.specs.Printed.{beginning, listBegun, begunText, begunOf, bytesIn}
+
+-- the numbers of an answer
+sized : (a : Answer) (size : Size) → Cases size ≡ begunOf a → a ≡ fits (size .variables) (size .clauses) (size .words)
+sized (refused n) size e = absurd (let z : _≡_ {A = ℕ} 0 1 = cc in omega arith)
+sized (fits v c w) size e =
+    let f : size ≡ record { variables = v; clauses = c; words = w } = cc in
+    λ i. fits (sym f i .variables) (sym f i .clauses) (sym f i .words)
 
 module _ (input : List ℕ) (list : List ℤ) where
   pub long-refused : 4096 < length input → beginning input list ≡ refused 2
@@ -32,6 +45,34 @@ module _ (input : List ℕ) (list : List ℤ) where
   pub short-list : length input ≤ 4096 → listBegun input list ≡ listAfter input list
   unfolding listBegun
   short-list h = rw (le-leb (length input) 4096 h)
+
+  -- it begins where the input is short and writing answers with numbers
+  module _ (v c w : ℕ) (e : beginning input list ≡ fits v c w) where
+    begun-short : length input ≤ 4096
+    begun-short =
+        ⊎-elim (leb-true (length input) 4096)
+        (λ t.
+        let r : refused 2 ≡ fits v c w = sym (long-refused (leb-false (length input) 4096 t)) ∙ e in
+        let z : _≡_ {A = ℕ} 0 1 = cc in
+        absurd (omega arith))
+        (decided (leb (length input) 4096))
+
+    pub begun-writes : writeAnswer input list ≡ fits v c w
+    begun-writes = sym (short-writes begun-short) ∙ e
+
+    -- the words are in the list, and the variables are within the limit
+    begun-fits : (w ≤ length (listBegun input list)) × (v ≤ 16000)
+    begun-fits =
+        let l = write-fits input list v c w begun-writes in
+        let d = count-fits input v c w (l .counted) in
+        let k = ap length (short-list begun-short ∙ l .list) in (
+          omega (arith, d .words, k, length-append (words (sheetOf input)) (drop (wordTotal (sheetOf input)) list)),
+          omega (arith, d .variables, d .small),
+        )
+
+  pub cases-fit : (size : Size) → Cases size ≡ begunOf (beginning input list)
+      → (size .words ≤ length (listBegun input list)) × (size .variables ≤ 16000)
+  cases-fit size e = begun-fits (size .variables) (size .clauses) (size .words) (sized (beginning input list) size e)
 
 -- what is ensured of an answer, but for the list
 abbrev Begins : Answer → Begun → (before after : List ℕ) → Type 0

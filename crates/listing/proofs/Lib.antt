@@ -1,4 +1,4 @@
-mod Beginning
+pub mod Beginning
 mod NextCall
 pub mod ShowsRead
 pub mod SameRefusals

@@ -29,7 +29,7 @@ use Rattle.report.specs.Printed.{report, findingText}
 use Rattle.report.proofs.Texts.{long-text, short-text}
 use Rattle.listing.specs.Printed.{beginning}
 use Rattle.listing.specs.Laws.{FinderSlices, RefusedAlike, SameRefusals}
-use Rattle.listing.proofs.Beginning.{long-refused, short-writes}
+use Rattle.listing.proofs.Beginning.{long-refused, short-writes, begun-writes}
 
 -- at most 16 relations of 64 cells
 few-cells : (s : List ℕ) (l : Layout) → reading s ≡ accepted l → cellCount (sheetOf s) ≤ 1024
@@ -97,14 +97,8 @@ module _ (budget : ℕ) (input : List ℕ) (lent : Slices) (h : FinderSlices len
 
   not-refused : (v c w : ℕ) → beginning input (lent .list) ≡ count.fits v c w → (n : ℕ) → answer ≡ refused n → ⊥
   not-refused v c w e n f =
-      ⊎-elim
-      (λ t.
-      let k = fits-all v c w (sym (short-writes input (lent .list) (leb-true (length input) 4096 t)) ∙ e) in
-      finds input lent budget .refused-exactly .0 (n, f) (k .0) (k .1))
-      (λ t.
-      let r : count.refused 2 ≡ count.fits v c w = sym (long-refused input (lent .list) (leb-false (length input) 4096 t)) ∙ e in
-      let z : _≡_ {A = ℕ} 0 1 = cc in omega arith)
-      (decided (leb (length input) 4096))
+      let k = fits-all v c w (begun-writes input (lent .list) v c w e) in
+      finds input lent budget .refused-exactly .0 (n, f) (k .0) (k .1)
 
 pub same-refusals : SameRefusals
 same-refusals budget input lent h = record { same-text = same-text budget input lent h; not-refused = not-refused budget input lent h }
