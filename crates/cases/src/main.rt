@@ -1,4 +1,4 @@
-// The stored inputs of data/, through the finder, through the finder that goes on, and through `cnf`.
+// The stored inputs of data/, through the finder, through the finder that goes on, through `every`, and through `cnf`.
 fn open(name: &[u8]) -> i32 {
     let fd = os::open_read(name);
     if fd < 0 {
@@ -22,6 +22,15 @@ fn find_on(name: &[u8]) {
     io::write_all(1, b"\n");
     let fd = open(name);
     console_finder_on::find_on(fd);
+    libc::close(fd);
+}
+
+fn every(name: &[u8]) {
+    io::write_all(1, b"every ");
+    io::write_all(1, name);
+    io::write_all(1, b"\n");
+    let fd = open(name);
+    console_every::every(fd);
     libc::close(fd);
 }
 
@@ -63,4 +72,7 @@ fn main() {
     find(b"closure_8");
     both(b"some_4096");
     both(b"closures_12");
+    every(b"k1");
+    every(b"k3");
+    every(b"closure_8");
 }
