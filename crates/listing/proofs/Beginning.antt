@@ -16,11 +16,11 @@ use Rattle.text.proofs.Puts.{prints, counts}
 use Rattle.sheet_rules.specs.Blocks.{sheetOf}
 use Rattle.clauses_rules.specs.Whole.{words, wordTotal}
 use Rattle.clauses.specs.declared.answer.Size.{Size}
-use Rattle.clauses.specs.Answers.{Answer, fits, refused, writeAnswer, listAfter}
+use Rattle.clauses.specs.Answers.{Answer, fits, refused, countAnswer, writeAnswer, listAfter}
 use Rattle.clauses.proofs.Answered.{count-fits, write-fits}
 use Rattle.listing.specs.declared.answer.Begun.{Begun}
 use Rattle.listing.specs.declared.answer.Begun.the-variants.{Refused, Cases}
-use Rattle.listing.specs.Printed.{beginning, listBegun, begunText, begunOf, bytesIn}
+use Rattle.listing.specs.Printed.{asFinder, beginning, listBegun, begunText, begunOf, bytesIn}
 
 -- the numbers of an answer
 sized : (a : Answer) (size : Size) → Cases size ≡ begunOf a → a ≡ fits (size .variables) (size .clauses) (size .words)
@@ -38,7 +38,7 @@ module _ (input : List ℕ) (list : List ℤ) where
   unfolding listBegun
   long-list h = rw (lt-leb (length input) 4096 h)
 
-  pub short-writes : length input ≤ 4096 → beginning input list ≡ writeAnswer input list
+  pub short-writes : length input ≤ 4096 → beginning input list ≡ asFinder (countAnswer input) (writeAnswer input list)
   unfolding beginning
   short-writes h = rw (le-leb (length input) 4096 h)
 
@@ -58,7 +58,11 @@ module _ (input : List ℕ) (list : List ℤ) where
         (decided (leb (length input) 4096))
 
     pub begun-writes : writeAnswer input list ≡ fits v c w
-    begun-writes = sym (short-writes begun-short) ∙ e
+    begun-writes = by (writeAnswer input list) (sym (short-writes begun-short) ∙ e)
+      where
+        by : (a : Answer) → asFinder (countAnswer input) a ≡ fits v c w → a ≡ fits v c w
+        by (refused n) d = absurd (let z : _≡_ {A = ℕ} 0 1 = cc in omega arith)
+        by (fits v' c' w') d = d
 
     -- the words are in the list, and the variables are within the limit
     begun-fits : (w ≤ length (listBegun input list)) × (v ≤ 16000)

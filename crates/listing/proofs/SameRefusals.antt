@@ -16,7 +16,6 @@ use Rattle.sheet_rules.specs.Reading.{accepted, reading}
 use Rattle.sheet_rules.proofs.Acceptance.{accepted-facts}
 use Rattle.relational.specs.Cells.{cellCount}
 use Rattle.cells.proofs.Layouts.{first-most}
-use Rattle.clauses_rules.specs.Whole.{wordTotal}
 use Rattle.clauses.specs.Answers as count
 use Rattle.clauses.specs.Answers.{countAnswer, writeAfter, writeAnswer}
 use Rattle.clauses.proofs.Answered.{count-fits, write-fits}
@@ -24,10 +23,10 @@ use Rattle.search.specs.Answers.{Answer, refused}
 use Rattle.solve_rules.specs.Finding.{Slices, finding}
 use Rattle.solve_rules.specs.Demand3.{FitsLimits, FitSlices}
 use Rattle.solve_rules.proofs.Finds.{finds}
-use Rattle.solve.proofs.FindLaws.{counting-declines, too-short}
+use Rattle.solve.proofs.FindLaws.{counting-declines, too-many-words, too-short}
 use Rattle.report.specs.Printed.{report, findingText}
 use Rattle.report.proofs.Texts.{long-text, short-text}
-use Rattle.listing.specs.Printed.{beginning}
+use Rattle.listing.specs.Printed.{asFinder, beginning}
 use Rattle.listing.specs.Laws.{FinderSlices, RefusedAlike, SameRefusals}
 use Rattle.listing.proofs.Beginning.{long-refused, short-writes, begun-writes}
 
@@ -41,35 +40,37 @@ module _ (budget : ℕ) (input : List ℕ) (lent : Slices) (h : FinderSlices len
   abbrev answer : Answer
   answer = finding input lent budget .answer
 
-  -- writing refuses: by what counting answers
-  no-room : (v c w n : ℕ) → countAnswer input ≡ count.fits v c w → w ≤ 2147483647 → (b : Bool) → leb w (length (lent .list)) ≡ b
-      → cond b (count.fits v c w) (count.refused 13) ≡ count.refused n → refused n ≡ answer
-  no-room v c w n e k true f g = absurd (let z : _≡_ {A = ℕ} 0 1 = cc in omega arith)
-  no-room v c w n e k false f g =
-      let l = leb-false w (length (lent .list)) f in
-      let m : n ≡ 13 = cc in
-      ap refused m ∙ too-short input lent budget v c w e k (λ r. omega (arith, r .list, l)) .answer-is
+  -- a list that is too long, and one that is too short: 12 comes first
+  too-long : (v c w n : ℕ) → countAnswer input ≡ count.fits v c w → leb w (length (lent .list)) ≡ false → (b : Bool) → leb w 2147483647 ≡ b
+      → cond b 13 12 ≡ n → refused n ≡ answer
+  too-long v c w n e f true g h =
+      ap refused (sym h)
+      ∙ too-short input lent budget v c w e (leb-true w 2147483647 g) (λ r. omega (arith, r .list, leb-false w (length (lent .list)) f)) .answer-is
+  too-long v c w n e f false g h = ap refused (sym h) ∙ too-many-words input lent budget v c w e (leb-false w 2147483647 g) .answer-is
 
-  by-counting : (n : ℕ) (a : count.Answer) → countAnswer input ≡ a → writeAfter a (length (lent .list)) ≡ count.refused n
-      → wordTotal (sheetOf input) ≤ 2147483647 → refused n ≡ answer
-  by-counting n (count.refused m) e f k =
+  -- writing refuses: by what counting answers
+  no-room : (v c w n : ℕ) → countAnswer input ≡ count.fits v c w → (b : Bool) → leb w (length (lent .list)) ≡ b
+      → asFinder (count.fits v c w) (cond b (count.fits v c w) (count.refused 13)) ≡ count.refused n → refused n ≡ answer
+  no-room v c w n e true f g = absurd (let z : _≡_ {A = ℕ} 0 1 = cc in omega arith)
+  no-room v c w n e false f g = too-long v c w n e f (leb w 2147483647) refl (let m : cond (leb w 2147483647) 13 12 ≡ n = cc in m)
+
+  by-counting : (n : ℕ) (a : count.Answer) → countAnswer input ≡ a → asFinder a (writeAfter a (length (lent .list))) ≡ count.refused n
+      → refused n ≡ answer
+  by-counting n (count.refused m) e f =
       let g : n ≡ m = cc in
       ap refused g ∙ counting-declines input lent budget m e .answer-is
-  by-counting n (count.fits v c w) e f k =
-      let d = count-fits input v c w e in
-      no-room v c w n e (omega (arith, d .words)) (leb w (length (lent .list))) refl f
+  by-counting n (count.fits v c w) e f = no-room v c w n e (leb w (length (lent .list))) refl f
 
-  refuses : (n : ℕ) → writeAnswer input (lent .list) ≡ count.refused n → wordTotal (sheetOf input) ≤ 2147483647 → refused n ≡ answer
+  refuses : (n : ℕ) → asFinder (countAnswer input) (writeAnswer input (lent .list)) ≡ count.refused n → refused n ≡ answer
   unfolding writeAnswer
-  refuses n e k = by-counting n (countAnswer input) refl e k
+  refuses n e = by-counting n (countAnswer input) refl e
 
-  same-text : (n : ℕ) → beginning input (lent .list) ≡ count.refused n → wordTotal (sheetOf input) ≤ 2147483647
-      → findingText budget input lent ≡ endLine (bytesOf "refused ") n
-  same-text n e k =
+  same-text : (n : ℕ) → beginning input (lent .list) ≡ count.refused n → findingText budget input lent ≡ endLine (bytesOf "refused ") n
+  same-text n e =
       ⊎-elim
       (λ t.
       let l = leb-true (length input) 4096 t in
-      let r = refuses n (sym (short-writes input (lent .list) l) ∙ e) k in
+      let r = refuses n (sym (short-writes input (lent .list) l) ∙ e) in
       short-text budget input lent l ∙ ap (λ (a : Answer). report a (sheetOf input) (finding input lent budget .left .instance)) (sym r))
       (λ f.
       let l = leb-false (length input) 4096 f in

@@ -1,11 +1,10 @@
 -- What the printed text of `every` has to do with the finder's, and with the instances of demand 3.
 use mathlib.Core.Path.{_≡_}
 use mathlib.Core.List.{List, _++_}
-use Prim.Native.Nat.{ℕ, _≤_}
+use Prim.Native.Nat.{ℕ}
 use lib.ListN.{length}
 use Rattle.text.specs.Texts.{bytesOf, endLine}
 use Rattle.sheet_rules.specs.Blocks.{sheetOf}
-use Rattle.clauses_rules.specs.Whole.{wordTotal}
 use Rattle.clauses.specs.Answers as count
 use Rattle.search_rules.specs.declared.Steps.{Steps}
 use Rattle.search_rules.specs.Run.{total}
@@ -25,9 +24,8 @@ pub record FinderSlices (lent : Slices) : Type 0 where
 
 -- "a refusal is printed as the finder prints it", within any budget
 pub record RefusedAlike (budget : ℕ) (input : List ℕ) (lent : Slices) : Type 0 where
-  -- where the listing is refused the finder prints the same; of a list beyond the word limit the finder says 12, before 13
-  pub same-text : (n : ℕ) → beginning input (lent .list) ≡ count.refused n → wordTotal (sheetOf input) ≤ 2147483647
-      → findingText budget input lent ≡ endLine (bytesOf "refused ") n
+  -- where the listing is refused the finder prints the same
+  pub same-text : (n : ℕ) → beginning input (lent .list) ≡ count.refused n → findingText budget input lent ≡ endLine (bytesOf "refused ") n
   -- where it begins the finder does not refuse
   pub not-refused : (v c w : ℕ) → beginning input (lent .list) ≡ count.fits v c w → (n : ℕ) → finding input lent budget .answer ≡ refused n → ⊥
 

@@ -7,7 +7,7 @@ use lib.IntN.{ℤ}
 use lib.ListN.{length, take}
 use Rattle.text.specs.Texts.{bytesOf, endLine}
 use Rattle.clauses.specs.Answers as count
-use Rattle.clauses.specs.Answers.{writeAnswer, listAfter}
+use Rattle.clauses.specs.Answers.{countAnswer, writeAnswer, listAfter}
 use Rattle.search_rules.specs.declared.Position.{Position}
 use Rattle.search.specs.Answers.{Answer, found, none, spent, refused}
 use Rattle.search.specs.Resumed.{Resumption}
@@ -17,9 +17,19 @@ use Rattle.report.specs.Printed.{answerText}
 use Rattle.listing.specs.declared.answer.Begun.{Begun}
 use Rattle.listing.specs.declared.answer.Begun.the-variants.{Refused, Cases}
 
--- what writing answers for an input: "An input over 4,096 bytes is printed as `refused 2` unparsed."
+-- the finder's number: 12 LIST, "more than 2^31 - 1 words", comes before 13
+abbrev pub finderNumber : count.Answer → ℕ → ℕ
+finderNumber (count.refused m) n = n
+finderNumber (count.fits v c w) n = cond (leb w 2147483647) n 12
+
+-- what writing answers, with that number
+abbrev pub asFinder : count.Answer → count.Answer → count.Answer
+asFinder counted (count.refused n) = count.refused (finderNumber counted n)
+asFinder counted (count.fits v c w) = count.fits v c w
+
+-- how a listing begins: "An input over 4,096 bytes is printed as `refused 2` unparsed."
 unfoldable pub beginning : List ℕ → List ℤ → count.Answer
-beginning input list = cond (leb (length input) 4096) (writeAnswer input list) (count.refused 2)
+beginning input list = cond (leb (length input) 4096) (asFinder (countAnswer input) (writeAnswer input list)) (count.refused 2)
 
 -- the list that is left
 unfoldable pub listBegun : List ℕ → List ℤ → List ℤ

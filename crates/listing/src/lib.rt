@@ -7,10 +7,13 @@ ghost use Rattle.search.specs.Answers.{answerOf};
 ghost use Rattle.search.specs.Resumed.{left};
 ghost use Rattle.search.specs.Following.{following};
 ghost use Rattle.solve_rules.specs.Finding.{instanceFor};
-ghost use Rattle.listing.specs.Printed.{beginning, listBegun, begunText, begunOf, bytesIn, standing, isFound, shown};
+ghost use Rattle.refusal.specs.Refusals.{numberOf};
+ghost use Rattle.clauses.specs.Answers.{countAnswer};
+ghost use Rattle.listing.specs.Printed.{finderNumber, beginning, listBegun, begunText, begunOf, bytesIn, standing, isFound, shown};
 use answer::Begun;
 use answer::Piece;
 use clauses::answer::Count;
+use refusal::Refusal;
 use report::finder::put_answer;
 use search::answer::Position;
 use search::answer::Resumed;
@@ -20,6 +23,22 @@ use solve::read_back;
 use text::put_end;
 
 pub mod answer; // answer.rt: what the pieces of a listing answer
+
+// What the finder says of an input that writing refuses: more than 2^31 - 1 words come before a list that is too short.
+fn finder_refusal(input: &[u8], refused: Refusal) -> Refusal
+    ensures { λ r. ⌜ numberOf r ≡ finderNumber (countAnswer (now (input .entry))) (numberOf refused) ⌝ }
+{
+    let counted = clauses::count(input);
+    match counted {
+        Count::Refused(_) => refused,
+        Count::Fits(size) => {
+            if size.words > 2147483647 {
+                return Refusal::List;
+            }
+            refused
+        }
+    }
+}
 
 // Writes the clauses of an input to the list, with as many words as the finder has. A refusal is put to the front of the text, with the number
 // that the finder prints (`SameRefusals`).
@@ -35,7 +54,8 @@ pub fn begin(input: &[u8], list: &mut [i32; 16384], text: &mut [u8; 2048]) -> Be
     let written = clauses::write(input, list);
     match written {
         Count::Refused(r) => {
-            let bytes = put_end(text, b"refused ", refusal::number(r) as u64);
+            let told = finder_refusal(input, r);
+            let bytes = put_end(text, b"refused ", refusal::number(told) as u64);
             Begun::Refused(bytes)
         }
         Count::Fits(size) => Begun::Cases(size),
