@@ -33,7 +33,7 @@ fn print_cases(
     instance: &mut [u8; 1024],
     text: &mut [u8; 2048],
 ) -> bool {
-    let mut position = Position {
+    let mut at = Position {
         length: 0,
         propagations: 0,
         decisions: 0,
@@ -41,28 +41,18 @@ fn print_cases(
     };
     let mut left = CALLS;
     while left > 0 {
-        let piece = next_text(
-            input,
-            list,
-            v,
-            values,
-            trail,
-            position,
-            STEPS,
-            instance,
-            text,
-        );
+        let piece = next_text(input, list, v, values, trail, at, STEPS, instance, text);
         if !print_front(text, piece.bytes) {
             return false;
         }
         if !piece.more {
             return true;
         }
-        position = piece.position;
+        at = piece.position;
         left -= 1;
     }
-    // no step can be counted any more: a call with none says that the search has not ended, or that it has
-    let piece = next_text(input, list, v, values, trail, position, 0, instance, text);
+    // no more steps can be counted: a call with none says whether the search has ended
+    let piece = next_text(input, list, v, values, trail, at, 0, instance, text);
     print_front(text, piece.bytes)
 }
 

@@ -91,8 +91,8 @@ refused-is n p l = (ap Refused (p .ends ∙ zero-add _), (counts p l, prints p l
 cases-are : (size : Size) (text : List ℕ) → Begins (fits (size .variables) (size .clauses) (size .words)) (Cases size) text text
 cases-are size text = (refl, ((omega arith, refl), record { ends = refl; stands = refl }))
 
-pub begins-refused : (a : Answer) (n : ℕ) → a ≡ refused n → {before after : List ℕ} {end : ℕ} → Put before 0 (endLine (bytesOf "refused ") n) after end
-    → end ≤ length before → Begins a (Refused end) before after
+pub begins-refused : (a : Answer) (n : ℕ) → a ≡ refused n → {before after : List ℕ} {end : ℕ}
+    → Put before 0 (endLine (bytesOf "refused ") n) after end → end ≤ length before → Begins a (Refused end) before after
 begins-refused a n e {before} {after} {end} p l = subst (λ (x : Answer). Begins x (Refused end) before after) (sym e) (refused-is n p l)
 
 pub begins-cases : (a : Answer) (size : Size) → a ≡ fits (size .variables) (size .clauses) (size .words) → (text : List ℕ)

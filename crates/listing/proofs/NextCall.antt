@@ -33,8 +33,8 @@ found-not (refused n) h = refl
 refused-not-found : (steps : Steps) (n : ℕ) → refused n ≡ found steps → ⊥
 refused-not-found steps n e = let z : _≡_ {A = ℕ} 0 1 = cc in omega arith
 
-module _ (list : List ℤ) (v : ℕ) (values : List ℕ) (trail : List ℤ) (p : Position) (budget : ℕ) (a : Answer) (vs : List ℕ) (ts : List ℤ) (q : Position)
-    (call : left a vs ts q ≡ following list v values trail p budget) where
+module _ (list : List ℤ) (v : ℕ) (values : List ℕ) (trail : List ℤ) (p : Position) (budget : ℕ) (a : Answer) (vs : List ℕ) (ts : List ℤ)
+    (q : Position) (call : left a vs ts q ≡ following list v values trail p budget) where
   -- a call that found something had room for the values
   pub found-wide : (steps : Steps) → a ≡ found steps → v ≤ length values
   found-wide steps e =

@@ -98,8 +98,8 @@ fn find_next(
     call
 }
 
-// One call for the next on a list of clauses, and read-back of what it found. Puts what it came to to the front of the text; the steps are
-// those that the record had, and those of the call. `ShowsRead` says of a case that its lines are those of the instance read back.
+// One call for the next on a list of clauses, and read-back of what it found. The answer is put to the front of the text, with all steps since
+// the record's zeros. `ShowsRead` says of a case that its lines are those of the instance read back.
 pub fn next_text(
     input: &[u8],
     list: &[i32],

@@ -4,10 +4,10 @@ use Rattle.console_every.proofs.print_cases.Statement.{statement}
 use Rattle.console_every.proofs.print_cases.Tie as tie
 
 abbrev Inv-loop : tie.InvT-loop
-Inv-loop input list v values₀ trail₀ instance₀ text₀ position₀ left₀ values trail instance text position left = Unit {0}
+Inv-loop input list v values₀ trail₀ instance₀ text₀ at₀ left₀ values trail instance text at left = Unit {0}
 
 abbrev μ-loop : tie.MeasureT-loop
-μ-loop input list v values₀ trail₀ instance₀ text₀ position₀ left₀ values trail instance text position left = left
+μ-loop input list v values₀ trail₀ instance₀ text₀ at₀ left₀ values trail instance text at left = left
 
 loop-holds : tie.Need-loop-holds Inv-loop μ-loop
 loop-holds c = search needs

@@ -24,7 +24,8 @@ wide : (c : tie.After-followed) → tagOf the-type (c .followed .result .answer)
 wide c t =
     let f = was-found (c .followed .result .answer) t in
     let a = start c .args in
-    let w = found-wide (a .list .now) (a .v) (a .values .now) (a .trail .now) (a .position) (a .budget) _ _ _ _ (c .followed .ensures) (f .0) (f .1) in
+    let e = c .followed .ensures in
+    let w = found-wide (a .list .now) (a .v) (a .values .now) (a .trail .now) (a .position) (a .budget) _ _ _ _ e (f .0) (f .1) in
     omega (arith, w, c .followed .kept .1 .1 .0)
 
 followed-requires : tie.Need-followed-requires
