@@ -1,5 +1,6 @@
 -- K1 to K10 of document 01: the definitions give every row of the joint table, by computation.
 use mathlib.Core.Path.{refl}
+use Rattle.prelude.specs.Order.{Each}
 use Rattle.prelude.specs.Tests.{each, all, any}
 use Rattle.text.specs.Texts.{digits, decimal}
 use Rattle.clause_list.specs.ClauseList.{cut, wordsOf, wellCut, isList}
@@ -31,7 +32,7 @@ use Rattle.cnf_text.specs.Printed.{clauseText, listLeft}
 use Rattle.marked.specs.Shown.{Marked}
 
 pub cases : Marked
-unfolding rowOf each all any digits decimal tables.table shapeStep freeStep visitsStep
+unfolding Each rowOf each all any digits decimal tables.table shapeStep freeStep visitsStep
     counted scoped declared nodesFine shaped rooted walkable reading symbolOf treeStep firstCell withinScopes rounds
     valueOf evaluation.truthOf marksHold holds heldAnswer checkAnswer builder.each remaining or inputClauses gatesClauses afterRounds translate
     series markClauses rootWalk clauses words wordsOf variableTotal countAnswer writeAnswer listAfter cut wellCut isList

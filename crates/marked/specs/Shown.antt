@@ -1,9 +1,11 @@
--- What is shown of a row of the table: what each public call and both programs answer, and what they leave in every slice that is lent.
+-- What is shown of a row of the table: what reading, the check, counting, writing, search, read-back, clause text, `find`, `cnf` and the finder
+-- answer, and what they leave in every slice that is lent.
 use mathlib.Core.Path.{_≡_}
 use mathlib.Core.List.{List, [], _∷_, _++_}
 use Prim.Native.Nat.{ℕ}
 use lib.IntN.{ℤ, pos}
 use lib.ListN.{length, take, drop, replicate}
+use Rattle.prelude.specs.Order.{Each}
 use Rattle.text.specs.Texts.{bytesOf}
 use Rattle.sheet_rules.specs.declared.Layout.{Layout}
 use Rattle.sheet_rules.specs.Reading.{Answer, accepted, refused, reading}
@@ -149,11 +151,6 @@ inFull (table.refusing n prints) =
     (lent .list)
     finderLent
 
--- every row shows what it states
-abbrev pub Each : List Row → Type 0
-Each [] = Unit {0}
-Each (row ∷ rows) = (shown row ≡ inFull (row .stated)) × Each rows
-
--- "These ten are shown in a joint table with one theorem over all its rows."
+-- "These ten are shown in a joint table with one theorem over all its rows.": every row shows what it states
 abbrev pub Marked : Type 0
-Marked = Each table.table
+Marked = Each (λ (row : Row). shown row ≡ inFull (row .stated)) table.table

@@ -7,7 +7,7 @@ use Prim.Native.Nat.{ℕ, _+_, _≤_}
 use native.Mathlib.Omega.{arith}
 use native.Mathlib.Nat.{min-le-right}
 use lib.IntN.{ℤ}
-use lib.ListN.{length, take, length-take}
+use lib.ListN.{length, take, length-take, getD-replicate}
 use borrow.Author.Tests.{le-ltb}
 use Rattle.prelude.specs.Order.{Before, Each, Some, Pairs}
 use Rattle.prelude.proofs.Laws.{clash, decided}
@@ -22,17 +22,20 @@ use Rattle.search_rules.specs.Following.{followingRun, FollowingEnded}
 use Rattle.search_rules.proofs.Ranges.{Ranged, fine-list, ranged}
 use Rattle.search_rules.proofs.Booleans.{or-both-false}
 use Rattle.search_rules.proofs.Invariant.{length-values}
-use Rattle.search_rules.proofs.Trails.{length-trail}
+use Rattle.search_rules.proofs.Trails.{length-trail, full-length}
 use Rattle.search_rules.proofs.Ending.{following-ends}
 use Rattle.search_rules.proofs.StateHeld.{read-stored, stored-passes}
 use Rattle.search_rules.proofs.Passed.{Sound, sound-fresh, Past, Waiting, past-found, past-spent, waiting-found, waiting-spent, waiting-none}
-use Rattle.search_rules.proofs.Passed.{waiting-fresh, sound-spent, sound-found, found-next, found-past}
-use Rattle.search.specs.Answers.{Answer, found, none, spent, refused, answerAt, valuesAt, trailAt}
-use Rattle.search.specs.Resumed.{Resumption, left, finishAt, startOf, declinesState}
+use Rattle.search_rules.proofs.Passed.{waiting-fresh, sound-spent, sound-found, found-state, found-next, found-past}
+use Rattle.search_rules.proofs.Found.{found-ended}
+use Rattle.search_rules.proofs.Following.{follow-resumes}
+use Rattle.search.specs.Answers.{Answer, found, none, spent, refused, answerAt, valuesAt, trailAt, outcome}
+use Rattle.search.specs.Resumed.{Resumption, left, finishAt, startOf, declinesState, resumedRun, resumption}
 use Rattle.search.specs.Following.{followedRun, FollowingTaken}
-use Rattle.search.specs.Every.{Standing, leftBy, Fresh, nextCall, Calls, no-call, finds, spends, Listing, EveryAssignment}
+use Rattle.search.specs.Every.{Standing, leftBy, Fresh, nextCall, Calls, no-call, finds, spends, Listing, SearchBegins, EveryAssignment}
 use Rattle.search.proofs.Outcomes.{was-none, was-found, was-spent, found-values}
-use Rattle.search.proofs.ResumedCalls.{answered}
+use Rattle.search.proofs.ResumedCalls.{Runs, answered, alike}
+use Rattle.search.proofs.Resuming.{fresh-start}
 use Rattle.search.proofs.FollowingCalls.{following-calls}
 use Rattle.search.proofs.LeftStates.{stored, leftValues, leftTrail, holds-left}
 
@@ -270,3 +273,35 @@ module _ (list : List ℤ) (v : ℕ) (no : isList v list ≡ false) where
 pub every-assignment : EveryAssignment
 every-assignment list v at to cases fresh calls =
     ⊎-elim (λ is. listing list v is at to cases fresh calls) (λ no. no-listing list v no at to cases fresh calls) (decided (isList v list))
+
+-- from a fresh start the first call is that of `search`
+module _ (list : List ℤ) (v : ℕ) (at : Standing) (n : ℕ) (fresh : Fresh v at) (few : n ≤ stepLimit) where
+  here : Stands v at []
+  here = fresh-stands v at fresh
+
+  resumes-here : Runs (followedRun list v) list v (at .values) (at .trail) (at .position) n
+      → followedRun list v (stepsOf (at .position)) (startOf v (at .values) (at .trail) (at .position)) n
+      ≡ resumedRun list v (stepsOf (at .position)) (startOf v (at .values) (at .trail) (at .position)) n
+  resumes-here r =
+      rw (read-stored v [] _ _ _ (here .held))
+      (follow-resumes (clausesOf list) v n (stepsOf (at .position)) []
+      (λ e. found-ended (clausesOf list) v [] e .1 0 (omega (arith, length-values v [], list-some-variable v list (r .is-list)))
+      (unfold valuesOf in getD-replicate v 0 2 2 (list-some-variable v list (r .is-list)))))
+
+  begun : nextCall list v at n .outcome ≡ outcome list v (at .values) (at .trail) n
+  begun =
+      ap (λ r. r .outcome) (alike (followedRun list v) (resumedRun list v) list v (at .values) (at .trail) (at .position) n resumes-here)
+      ∙ ap (λ p. resumption list v (at .values) (at .trail) p n .outcome) (fresh .zeros)
+      ∙ fresh-start list v (at .values) (at .trail) n (fresh .values-open) (fresh .trail-open) few
+
+  record-found : (steps : Steps) → nextCall list v at n .outcome .answer ≡ found steps → nextCall list v at n .position ≡ positionOf v steps
+  record-found steps e =
+      let r = ran list v at [] here n (found steps) (λ k d. let z : _≡_ {A = ℕ} 0 1 = cc in omega arith) e in
+      let l = found-leads list v at [] here n steps e (r .is-list) in
+      let w = found-state (clausesOf list) v (ranged v list (fine-list v list (r .is-list))) n (stepsOf (at .position)) steps [] (l .to)
+      (here .sound) (l .runs) in
+      ap (λ o. o .position) (r .ends ∙ ap (finishAt v (at .values) (at .trail)) (l .runs))
+      ∙ ap (λ k. positionOf k steps) (full-length v (l .to) (l .holds .sound .was-open) (found-ended (clausesOf list) v (l .to) w .1))
+
+pub search-begins : SearchBegins
+search-begins list v at n fresh few = record { as-search = begun list v at n fresh few; record-is = record-found list v at n fresh few }

@@ -1,7 +1,7 @@
 -- What is promised of calls for the next, one after another from a fresh start on (document 02, Change 6).
 use mathlib.Core.Path.{_≡_}
 use mathlib.Core.List.{List, [], _∷_, map}
-use Prim.Native.Nat.{ℕ}
+use Prim.Native.Nat.{ℕ, _≤_}
 use lib.IntN.{ℤ}
 use lib.ListN.{take}
 use Rattle.prelude.specs.Order.{Some, Lists}
@@ -9,7 +9,8 @@ use Rattle.clause_list.specs.ClauseList.{clausesOf, Satisfying}
 use Rattle.search_rules.specs.declared.Steps.{Steps}
 use Rattle.search_rules.specs.declared.Position.{Position}
 use Rattle.search_rules.specs.Rules.{valuesOf, trailOf, settle}
-use Rattle.search.specs.Answers.{found, none, spent}
+use Rattle.search_rules.specs.Held.{positionOf, stepLimit}
+use Rattle.search.specs.Answers.{found, none, spent, outcome}
 use Rattle.search.specs.Resumed.{Resumption}
 use Rattle.search.specs.Resuming.{start}
 use Rattle.search.specs.Following.{following}
@@ -48,6 +49,15 @@ module _ (list : List ℤ) (v : ℕ) where
     pub lists : Lists P cases
     -- "once a found assignment was treated as a clash, "none" says that no instance is left beyond those given"
     pub all-given : (n : ℕ) (steps : Steps) → nextCall to n .outcome .answer ≡ none steps → (case : List ℕ) → P case → Some (λ c. c ≡ case) cases
+
+-- a search may begin them: from a fresh start the first call is that of `search`, and where it finds, the record that goes with what `search` leaves
+-- is that of v words and the steps that its answer shows
+pub record BegunBySearch (list : List ℤ) (v : ℕ) (at : Standing) (n : ℕ) : Type 0 where
+  pub as-search : nextCall list v at n .outcome ≡ outcome list v (at .values) (at .trail) n
+  pub record-is : (steps : Steps) → nextCall list v at n .outcome .answer ≡ found steps → nextCall list v at n .position ≡ positionOf v steps
+
+abbrev pub SearchBegins : Type 0
+SearchBegins = (list : List ℤ) (v : ℕ) (at : Standing) (n : ℕ) → Fresh v at → n ≤ stepLimit → BegunBySearch list v at n
 
 -- over any list, of its satisfying assignments
 abbrev pub EveryAssignment : Type 0

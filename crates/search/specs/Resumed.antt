@@ -1,4 +1,4 @@
--- What a resumed call answers, and what it leaves in the lent slices and in the lent record (document 02, Changes 1 and 3).
+-- What a call that takes up a state answers, and what it leaves in the lent slices and in the lent record (document 02, Changes 1, 3 and 6).
 use mathlib.Core.Bool.{Bool, cond, _&&_, _||_}
 use mathlib.Core.List.{List}
 use Prim.Native.Nat.{ℕ}

@@ -9,7 +9,7 @@ pub enum Search {
     Refused(refusal::Refusal),
 }
 
-// What a resumed call answers, and the position that it leaves.
+// What a call that takes up a state answers, and the position that it leaves.
 pub struct Resumed {
     pub answer: Search,
     pub position: Position,

@@ -42,7 +42,7 @@ pub fn search(list: &[i32], v: u32, values: &mut [u8], trail: &mut [i32], budget
     fresh(list, vs, ts, budget)
 }
 
-// A refusal of a resumed call: the position stays.
+// A refusal of a call that takes up a state: the position stays.
 fn refused(refusal: Refusal, position: Position) -> Resumed
     ensures { λ r. ⌜ (r .answer ≡ Refused refusal) × (r .position ≡ position) ⌝ }
 {

@@ -261,6 +261,9 @@ module _ (clauses : List (List ℤ)) (v : ℕ) (ranged : Ranged v clauses) (n : 
     pub sound-found : Sound v s
     sound-found = found-here .0
 
+    pub found-state : next clauses v s ≡ endFound
+    found-state = found-here .1
+
     pub found-next : Satisfying v clauses (map settle (valuesOf v s))
     found-next = found-satisfying clauses v ranged s (found-here .1)
 

@@ -9,6 +9,7 @@ use lib.Seq.{getD-set-other}
 use Rattle.search_rules.specs.Held.{InRange, WasOpen}
 use Rattle.search_rules.specs.Rules.{Entry, propagated, decided, State, wordOf, byteOf, placeOf, valuesOf, trailOf}
 use Rattle.search_rules.proofs.Invariant.{length-values}
+use Rattle.search_rules.proofs.StepView.{Full}
 use Rattle.search_rules.proofs.Found.{place-below}
 
 -- open variables, counted
@@ -62,6 +63,22 @@ unfolding opens
 some-open [] i h e = absurd (omega arith)
 some-open (b ∷ values) zero h e = omega (arith, one-open b e)
 some-open (b ∷ values) (suc i) h e = omega (arith, some-open values i (omega arith) e)
+
+-- where none is open all are on it
+one-set : (b : ℕ) → (b ≡ 2 → ⊥) → one b ≡ 0
+unfolding one
+one-set zero h = refl
+one-set (suc zero) h = refl
+one-set (suc (suc zero)) h = absurd (h refl)
+one-set (suc (suc (suc n))) h = refl
+
+none-open : (values : List ℕ) → Full values → opens values ≡ 0
+unfolding opens
+none-open [] f = refl
+none-open (b ∷ values) f = omega (arith, one-set b (f 0 (omega arith)), none-open values (λ i l e. f (suc i) (omega arith) e))
+
+pub full-length : (v : ℕ) (state : State) → WasOpen v state → Full (valuesOf v state) → length state ≡ v
+full-length v state o f = omega (arith, counted v state o, none-open (valuesOf v state) f)
 
 -- an open variable leaves room on the trail
 pub room : (v : ℕ) (state : State) (i : ℕ) → WasOpen v state → i < v → getD (valuesOf v state) i 2 ≡ 2 → length state < v

@@ -155,8 +155,8 @@ module _ (s : List ℕ) (lent : Slices) (v w : ℕ) where
   NextCalls = Calls written v (λ values instance. ReadsBack s values (lent .instance) instance)
 
   -- the state in which they stand
-  abbrev pub standing : Standing → State
-  standing to = startOf v (to .values) (to .trail) (to .position)
+  abbrev pub stateAt : Standing → State
+  stateAt to = startOf v (to .values) (to .trail) (to .position)
 
   -- "the calls, repeated until "none" with enough budget, give each satisfying instance of the sheet exactly once, in the ascending order of
   -- Change 5": of calls that gave these instances and stand there
@@ -170,8 +170,8 @@ module _ (s : List ℕ) (lent : Slices) (v w : ℕ) where
     pub taken : (n : ℕ) → total (stepsOf (to .position)) + n ≤ stepLimit → (number : ℕ)
         → nextCall written v to n .outcome .answer ≡ refused number → ⊥
     pub spent-exactly : (n : ℕ) → total (stepsOf (to .position)) + n ≤ stepLimit
-        → ((steps : Steps) × (nextCall written v to n .outcome .answer ≡ spent steps)) ↔ (FollowingEnded (clausesOf written) v n (standing to) → ⊥)
-    pub ends : (n : ℕ) × FollowingEnded (clausesOf written) v n (standing to)
+        → ((steps : Steps) × (nextCall written v to n .outcome .answer ≡ spent steps)) ↔ (FollowingEnded (clausesOf written) v n (stateAt to) → ⊥)
+    pub ends : (n : ℕ) × FollowingEnded (clausesOf written) v n (stateAt to)
 
 -- what is demanded of a sheet and of the slices that are lent
 pub record Demanded (s : List ℕ) (lent : Slices) : Type 0 where

@@ -73,5 +73,5 @@ returns-3 c =
 pub begin-spec : {M : Type 1} → statement M
 begin-spec =
     tie.close
-    (tie.spec slice-aggregate-put-end put-end-requires returns write-requires enum-known-written finder-refusal-requires slice-aggregate-put-end-2 number-requires
-    cast-put-end put-end-requires-2 enum-known-written-2 returns-2 returns-3)
+    (tie.spec slice-aggregate-put-end put-end-requires returns write-requires enum-known-written finder-refusal-requires
+    slice-aggregate-put-end-2 number-requires cast-put-end put-end-requires-2 enum-known-written-2 returns-2 returns-3)
