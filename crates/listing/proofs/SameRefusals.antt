@@ -3,7 +3,7 @@ use mathlib.Core.Path.{_≡_, refl, sym, ap, _∙_}
 use mathlib.Core.Bool.{Bool, true, false, cond}
 use mathlib.Core.Logic.{⊎-elim}
 use mathlib.Core.List.{List}
-use Prim.Native.Nat.{ℕ, _≤_, _<_}
+use Prim.Native.Nat.{ℕ, _≤_}
 use native.Mathlib.Omega.{arith}
 use lib.Dec.{leb}
 use lib.ListN.{length}
@@ -27,7 +27,7 @@ use Rattle.solve.proofs.FindLaws.{counting-declines, too-many-words, too-short}
 use Rattle.report.specs.Printed.{report, findingText}
 use Rattle.report.proofs.Texts.{long-text, short-text}
 use Rattle.listing.specs.Printed.{asFinder, beginning}
-use Rattle.listing.specs.Laws.{FinderSlices, RefusedAlike, SameRefusals}
+use Rattle.listing.specs.Laws.{FinderSlices, SameRefusals}
 use Rattle.listing.proofs.Beginning.{long-refused, short-writes, begun-writes}
 
 -- at most 16 relations of 64 cells

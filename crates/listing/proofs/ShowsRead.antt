@@ -10,10 +10,9 @@ use Rattle.text.specs.Texts.{bytesOf, endLine}
 use Rattle.sheet_rules.specs.Blocks.{sheetOf}
 use Rattle.relational.specs.Cells.{cellCount}
 use Rattle.clauses_rules.specs.Whole.{variableTotal}
-use Rattle.search_rules.specs.declared.Steps.{Steps}
 use Rattle.search_rules.specs.Run.{total}
 use Rattle.search.specs.Answers.{found}
-use Rattle.solve_rules.specs.Answers.{Answer, copied, refused, hasValues, readBackAfter, readBackAnswer, instanceAfter}
+use Rattle.solve_rules.specs.Answers.{copied, refused, hasValues, readBackAfter, readBackAnswer, instanceAfter}
 use Rattle.solve_rules.specs.Demand3.{FitsLimits, ReadsBack}
 use Rattle.solve_rules.proofs.Calls.{counts}
 use Rattle.report.specs.Printed.{relationLines}

@@ -1,7 +1,7 @@
 -- What is shown of a row of the table: what reading, the check, counting, writing, search, read-back, clause text, `find`, `cnf` and the finder
 -- answer, and what they leave in every slice that is lent.
 use mathlib.Core.Path.{_≡_}
-use mathlib.Core.List.{List, [], _∷_, _++_}
+use mathlib.Core.List.{List, [], _++_}
 use Prim.Native.Nat.{ℕ}
 use lib.IntN.{ℤ, pos}
 use lib.ListN.{length, take, drop, replicate}
