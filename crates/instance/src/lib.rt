@@ -1,4 +1,5 @@
 // The check of an instance: does it satisfy the marks and the formula of a sheet (document 01, "Kinds and meanings")?
+// Its steps are in `instance_evaluation` and `instance_matrix`, in the order of section 2.2 of source document 001.
 ghost use mathlib.Core.Path.{_≡_};
 ghost use Rattle.sheet_rules.specs.Reading.{accepted, reading};
 ghost use Rattle.instance.specs.Answers.{CheckAnswers, answerOf};

@@ -25,7 +25,7 @@ use Rattle.instance_matrix.specs.declared.Value.{Value}
 use Rattle.instance_matrix.specs.Values.{Gives, matrixOf}
 use Rattle.instance_evaluation.specs.Walking.{valueOfTree, truthInTree, bodiesOf}
 
--- ---- expressions
+-- ---- 2.2.1 to 2.2.5: expressions
 module _ {sheet : Sheet} {v : ℕ} {node : Node} (h : Reached sheet v node IsExpression) where
   module _ (instance : List ℕ) (env : Environment) where
     abbrev value : ℕ → Matrix Bool
@@ -56,7 +56,7 @@ module _ {sheet : Sheet} {v : ℕ} {node : Node} (h : Reached sheet v node IsExp
     unfolding valueOfTree truthInTree valueOf
     comprehension-value e g = let b = at-comprehension h e in rw (h .tree .is, b .is) (rw (b .body .is) at g)
 
--- ---- formulas
+-- ---- 2.2.6: formulas
 module _ {sheet : Sheet} {v : ℕ} {node : Node} (h : Reached sheet v node IsFormula) where
   module _ (instance : List ℕ) (env : Environment) where
     abbrev operand : ℕ → Matrix Bool

@@ -1,4 +1,4 @@
-// The leaves of an expression: kinds 1 to 4.
+// 2.2.1 Basic expressions, the leaves: a relation, a variable, a sort, an identity.
 ghost use mathlib.Core.Path.{_≡_};
 ghost use Prim.Native.Nat.{_<_};
 ghost use Rattle.sheet_rules.specs.Blocks.{sheetOf, relationCount};
@@ -15,14 +15,14 @@ use cells::row_length;
 use cells::scope;
 use cells::scope_of_variable;
 use instance_matrix::Value;
-use instance_matrix::leaves::full;
-use instance_matrix::leaves::given;
-use instance_matrix::leaves::identity;
-use instance_matrix::leaves::single;
+use instance_matrix::basic::full;
+use instance_matrix::basic::given;
+use instance_matrix::basic::identity;
+use instance_matrix::basic::single;
 use nodes::environments::atom_at;
 use sheet_rules::Layout;
 
-// The flags of a relation.
+// Kind 1: the flags of a relation.
 fn relation(sheet: &[u8], layout: Layout, instance: &[u8], starts: &[usize], r: usize) -> Value
     requires { ⌜ Located (now sheet) layout (now starts) ⌝ }
     requires { ⌜ r < relationCount (sheetOf (now sheet)) ⌝ }
@@ -35,7 +35,7 @@ fn relation(sheet: &[u8], layout: Layout, instance: &[u8], starts: &[usize], r: 
     given(instance, first, arity(sheet, layout, r), rows, columns)
 }
 
-// The value of a leaf of a kind over field a.
+// Kinds 1 to 4: the value of a leaf over field a.
 pub(crate) fn leaf(
     sheet: &[u8],
     layout: Layout,

@@ -1,4 +1,5 @@
 // The value of an expression and the truth of a formula in an instance (document 01, "Kinds and meanings"), and whether the marks hold.
+// The steps stand in the order of section 2.2 of source document 001, headed by the numbers of its parts.
 ghost use mathlib.Core.Path.{_≡_};
 ghost use Rattle.sheet_rules.specs.Blocks.{sheetOf};
 ghost use Rattle.cells.specs.Private.{Located};
@@ -8,9 +9,9 @@ use prelude::both;
 use sheet_rules::Layout;
 use walk::formula;
 
-mod leaves; // leaves.rt: the leaves of an expression
-mod marks; // marks.rt: multiplicities
-mod walk; // walk.rt: expressions and formulas
+mod leaves; // leaves.rt, 2.2.1: relations, variables, sorts, identities
+mod walk; // walk.rt, 2.2.1 to 2.2.6: expressions and formulas
+mod marks; // marks.rt, 2.1.2: multiplicities
 
 // Whether the marks hold and the root is true.
 pub fn holds(sheet: &[u8], layout: Layout, instance: &[u8], starts: &[usize]) -> bool

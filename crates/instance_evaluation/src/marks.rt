@@ -1,4 +1,4 @@
-// Multiplicities: "For a relation the mark holds for each atom of the first sort; a set is a single row."
+// 2.1.2 Multiplicities: "For a relation the mark holds for each atom of the first sort; a set is a single row."
 ghost use mathlib.Core.Path.{_≡_};
 ghost use Prim.Native.Nat.{_<_};
 ghost use Rattle.sheet_rules.specs.Blocks.{sheetOf, relationCount};
@@ -8,8 +8,8 @@ ghost use Rattle.instance_evaluation.specs.Walking.{rowsHold};
 use cells::multiplicity;
 use cells::row_count;
 use cells::row_length;
-use instance_matrix::leaves::given;
-use instance_matrix::truths::row_holds;
+use instance_matrix::basic::given;
+use instance_matrix::marks::row_holds;
 use prelude::both;
 use sheet_rules::Layout;
 

@@ -9,10 +9,10 @@ ghost use Rattle.instance_evaluation.specs.Walking.{valueAt, truthAt, bo
 use super::leaves::leaf;
 use cells::scope_of_variable;
 use instance_matrix::Value;
-use instance_matrix::flags::connect;
 use instance_matrix::operators::binary;
 use instance_matrix::operators::unary;
 use instance_matrix::truths::compare;
+use instance_matrix::truths::connect;
 use instance_matrix::truths::quantify;
 use instance_matrix::truths::test;
 use nodes::environments::bind;
@@ -21,7 +21,7 @@ use nodes::forms::FormulaForm;
 use nodes::forms::read_node;
 use sheet_rules::Layout;
 
-// The value of the expression at a node.
+// 2.2.1 to 2.2.5: the value of the expression at a node.
 fn expression(
     sheet: &[u8],
     layout: Layout,
@@ -40,21 +40,25 @@ fn expression(
     let a = node.a;
     let b = node.b;
     match form {
+        // 2.2.1 relation, variable, sort, identity
         ExpressionForm::Leaf => leaf(sheet, layout, instance, starts, env, kind, a),
+        // 2.2.1 union, intersection, difference; 2.2.2 join; 2.2.3 product
         ExpressionForm::Binary => {
             let p = expression(sheet, layout, instance, starts, env, a);
             let q = expression(sheet, layout, instance, starts, env, b);
             binary(kind, p, q)
         }
+        // 2.2.4 inverse; 2.2.5 closure
         ExpressionForm::Unary => {
             let p = expression(sheet, layout, instance, starts, env, a);
             unary(kind, p)
         }
+        // a binder, as those of 2.2.6
         ExpressionForm::Comprehension => bodies(sheet, layout, instance, starts, env, b, a),
     }
 }
 
-// The truth of the formula at a node.
+// 2.2.6: the truth of the formula at a node.
 pub(crate) fn formula(
     sheet: &[u8],
     layout: Layout,
@@ -73,21 +77,25 @@ pub(crate) fn formula(
     let a = node.a;
     let b = node.b;
     match form {
+        // 2.2.6 inclusion and equality
         FormulaForm::Comparison => {
             let p = expression(sheet, layout, instance, starts, env, a);
             let q = expression(sheet, layout, instance, starts, env, b);
             compare(kind, p, q)
         }
+        // 2.2.6 some, none, at most one
         FormulaForm::Test => {
             let p = expression(sheet, layout, instance, starts, env, a);
             test(kind, p)
         }
+        // 2.2.6 the connectives
         FormulaForm::Negation => !formula(sheet, layout, instance, starts, env, a),
         FormulaForm::Connective => {
             let p = formula(sheet, layout, instance, starts, env, a);
             let q = formula(sheet, layout, instance, starts, env, b);
             connect(kind, p, q)
         }
+        // 2.2.6 all and some
         FormulaForm::Quantifier => {
             let row = bodies(sheet, layout, instance, starts, env, b, a);
             quantify(kind, row)
@@ -95,7 +103,7 @@ pub(crate) fn formula(
     }
 }
 
-// The body of a binder of variable x, for each atom, ascending: the set of those for which it holds.
+// 2.2.6: the body of a binder of variable x, for each atom, ascending; the set of those for which it holds.
 fn bodies(
     sheet: &[u8],
     layout: Layout,

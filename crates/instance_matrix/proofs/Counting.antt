@@ -1,4 +1,4 @@
--- Loops that count flags or test them in turn, one more flag at a time.
+-- Loops that test flags in turn (2.2.2 join, 2.2.6 comparisons) or count them (2.2.6, 2.1.2), one more flag at a time.
 use mathlib.Core.Path.{_≡_, refl, sym, ap, _∙_}
 use mathlib.Core.Bool.{Bool, true, false, _&&_, _||_}
 use mathlib.Core.List.{List, [], _∷_, _++_, map}
@@ -52,7 +52,7 @@ module _ {A : Type 0} (p : A → Bool) (f : ℕ → A) where
       h ∙ ap (λ (b : Bool). b && p (f k)) e ∙ sym (and-last (all p (map f (upto k))) (p (f k)))
       ∙ sym (all-append p (map f (upto k)) (f k ∷ [])) ∙ ap (all p) (sym step)
 
--- ---- how many flags are true
+-- ---- 2.2.6 tests and quantifiers: how many flags are true
 pub count-last : (xs : List Bool) (b : Bool) → count (xs ++ (b ∷ [])) ≡ counted (count xs) b
 count-last [] true = refl
 count-last [] false = refl
@@ -82,7 +82,7 @@ count-all [] = refl
 count-all (true ∷ xs) = eqb·suc-suc (count xs) (length xs) ∙ count-all xs
 count-all (false ∷ xs) = ne-eqb (count xs) (suc (length xs)) (λ e. omega (arith, count-few xs))
 
--- a mark that is neither 0 nor 1
+-- ---- 2.1.2 marks: one that is neither 0 nor 1
 pub exact-row : (sheet : Sheet) (instance : List ℕ) (mark : ℕ) (cells : List Bool) → (mark ≡ 0 → ⊥) → (mark ≡ 1 → ⊥)
     → rowHolds sheet instance mark cells ≡ eqb (count cells) 1
 exact-row sheet instance zero cells h g = absurd (h refl)

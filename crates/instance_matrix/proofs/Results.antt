@@ -42,7 +42,7 @@ gives-set n cells f l h u e =
     let one : n ≡ 1 * n = omega arith in
     gives 1 1 n cells f l (omega arith) h (inl (refl, refl)) (subst (λ (m : ℕ). Filled cells f m) one u) (rw (← one) e)
 
--- ---- leaves
+-- ---- 2.2.1 relations, variables, sorts, identities
 pub given-law : (instance : List ℕ) (first arity rows columns : ℕ) (cells : List Bool) (k : ℕ) → k ≡ rows * columns → rows ≤ 8 → columns ≤ 8
     → SetOrRelation arity rows → Filled cells (λ j. eqb (byte instance (first + j)) 1) k
     → Gives (value arity rows columns cells) (sized arity rows columns (flagsFrom instance first (rows * columns)))
@@ -69,28 +69,12 @@ places-law r c g cells k e hr hc u =
 
 -- ---- two operands
 module _ (p q : Value) (fp : Fine p) (fq : Fine q) where
-  -- the operands' cells, as the code reads them
+  -- ---- 2.2.1 union, intersection, difference
+  -- the operands' cells, as the code reads them, here and below
   pub matched-cells : matched false (matrixOf p) (matrixOf q)
       ≡ map {B = Bool × Bool} (λ (k : ℕ). (getD (p .cells) k false, getD (q .cells) k false)) (upto (p .rows * p .columns))
   matched-cells =
       ap₂ (λ (x y : ℕ → Bool). map {B = Bool × Bool} (λ (k : ℕ). (x k, y k)) (upto (p .rows * p .columns))) (cells-of p fp) (cells-of q fq)
-
-  pub middle-cells : (i j : ℕ) → middles false (matrixOf p) (matrixOf q) (i, j)
-      ≡ map {B = Bool × Bool}
-      (λ (k : ℕ). (getD (p .cells) (i * p .columns + k) false, getD (q .cells) (k * joinColumns (matrixOf q) + j) false))
-      (upto (p .columns))
-  middle-cells i j =
-      ap₂
-      (λ (x y : ℕ → Bool).
-      map {B = Bool × Bool} (λ (k : ℕ). (x (i * p .columns + k), y (k * joinColumns (matrixOf q) + j))) (upto (p .columns)))
-      (cells-of p fp) (cells-of q fq)
-
-  crossed-cells : crossed false (matrixOf p) (matrixOf q)
-      ≡ map {B = Bool × Bool} (λ (t : Place). (getD (p .cells) (t .0) false, getD (q .cells) (t .1) false))
-      (places (p .columns) (q .columns))
-  crossed-cells =
-      ap₂ (λ (x y : ℕ → Bool). map {B = Bool × Bool} (λ (t : Place). (x (t .0), y (t .1))) (places (p .columns) (q .columns)))
-      (cells-of p fp) (cells-of q fq)
 
   pub matched-law : (pairing : Pairing) (cells : List Bool) (k : ℕ) → k ≡ p .rows * p .columns
       → Filled cells (λ j. paired pairing (getD (p .cells) j false, getD (q .cells) j false)) k
@@ -106,17 +90,16 @@ module _ (p q : Value) (fp : Fine p) (fq : Fine q) where
       (filled-upto cells f n w (square (fp .few-rows) (fp .few-columns)) f (λ j l. refl)
       ∙ sym (map-map (paired pairing) pair (upto n)) ∙ ap (map (paired pairing)) (sym matched-cells))
 
-  pub product-law : (cells : List Bool) (k : ℕ) → k ≡ p .columns * q .columns
-      → Filled cells (λ j. both (getD (p .cells) (j / q .columns) false, getD (q .cells) (j % q .columns) false)) k
-      → Gives (value 2 (p .columns) (q .columns) cells) (valueBinary product (matrixOf p) (matrixOf q))
-  product-law cells k e u =
-      let r : ℕ = p .columns in
-      let c : ℕ = q .columns in
-      let pair : Place → Bool × Bool = λ t. (getD (p .cells) (t .0) false, getD (q .cells) (t .1) false) in
-      let same : map (λ (t : Place). both (pair t)) (places r c) ≡ map both (crossed false (matrixOf p) (matrixOf q))
-      = sym (map-map both pair (places r c)) ∙ ap (map both) (sym crossed-cells) in
-      subst (λ (l : List Bool). Gives (value 2 r c cells) (relationOf r c l)) same
-      (places-law r c (λ t. both (pair t)) cells k e (fp .few-columns) (fq .few-columns) u)
+  -- ---- 2.2.2 join
+  pub middle-cells : (i j : ℕ) → middles false (matrixOf p) (matrixOf q) (i, j)
+      ≡ map {B = Bool × Bool}
+      (λ (k : ℕ). (getD (p .cells) (i * p .columns + k) false, getD (q .cells) (k * joinColumns (matrixOf q) + j) false))
+      (upto (p .columns))
+  middle-cells i j =
+      ap₂
+      (λ (x y : ℕ → Bool).
+      map {B = Bool × Bool} (λ (k : ℕ). (x (i * p .columns + k), y (k * joinColumns (matrixOf q) + j))) (upto (p .columns)))
+      (cells-of p fp) (cells-of q fq)
 
   -- a join that is a set is small: a set has one row, and as a right operand one column
   join-narrow : joinColumns (matrixOf q) ≤ 8
@@ -173,7 +156,27 @@ module _ (p q : Value) (fp : Fine p) (fq : Fine q) where
         (λ d w. ((λ s. join-relation s d w), λ s. join-set s d w))
         e u
 
--- ---- one operand
+  -- ---- 2.2.3 product
+  crossed-cells : crossed false (matrixOf p) (matrixOf q)
+      ≡ map {B = Bool × Bool} (λ (t : Place). (getD (p .cells) (t .0) false, getD (q .cells) (t .1) false))
+      (places (p .columns) (q .columns))
+  crossed-cells =
+      ap₂ (λ (x y : ℕ → Bool). map {B = Bool × Bool} (λ (t : Place). (x (t .0), y (t .1))) (places (p .columns) (q .columns)))
+      (cells-of p fp) (cells-of q fq)
+
+  pub product-law : (cells : List Bool) (k : ℕ) → k ≡ p .columns * q .columns
+      → Filled cells (λ j. both (getD (p .cells) (j / q .columns) false, getD (q .cells) (j % q .columns) false)) k
+      → Gives (value 2 (p .columns) (q .columns) cells) (valueBinary product (matrixOf p) (matrixOf q))
+  product-law cells k e u =
+      let r : ℕ = p .columns in
+      let c : ℕ = q .columns in
+      let pair : Place → Bool × Bool = λ t. (getD (p .cells) (t .0) false, getD (q .cells) (t .1) false) in
+      let same : map (λ (t : Place). both (pair t)) (places r c) ≡ map both (crossed false (matrixOf p) (matrixOf q))
+      = sym (map-map both pair (places r c)) ∙ ap (map both) (sym crossed-cells) in
+      subst (λ (l : List Bool). Gives (value 2 r c cells) (relationOf r c l)) same
+      (places-law r c (λ t. both (pair t)) cells k e (fp .few-columns) (fq .few-columns) u)
+
+-- ---- 2.2.4 inverse
 pub inverse-law : (p : Value) → Fine p → (cells : List Bool) (k : ℕ) → k ≡ p .columns * p .rows
     → Filled cells (λ j. getD (p .cells) (j % p .rows * p .columns + j / p .rows) false) k
     → Gives (value 2 (p .columns) (p .rows) cells) (valueUnary inverse (matrixOf p))

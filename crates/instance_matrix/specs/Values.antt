@@ -42,11 +42,6 @@ pub record Gives (v : Value) (m : Matrix Bool) : Type 0 where
   pub fine : Fine v
   pub is : matrixOf v ≡ m
 
--- one more flag
-abbrev pub counted : ℕ → Bool → ℕ
-counted n true = suc n
-counted n false = n
-
 -- what two flags make
 abbrev pub paired : Pairing → Bool × Bool → Bool
 paired Either = either
@@ -54,3 +49,8 @@ paired Both = both
 paired Without = without
 paired Implies = implies
 paired Same = same
+
+-- one more flag
+abbrev pub counted : ℕ → Bool → ℕ
+counted n true = suc n
+counted n false = n

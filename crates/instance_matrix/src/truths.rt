@@ -1,13 +1,13 @@
-// Truths of matrices: comparisons, tests, quantifiers, and the multiplicity of a row.
+// 2.2.6 Quantifiers and logical connectives: comparisons and tests of matrices, connectives, quantifiers.
 ghost use mathlib.Core.Path.{_≡_};
 ghost use mathlib.Core.Bool.{false};
-ghost use mathlib.Core.List.{List};
-ghost use Prim.Native.Nat.{ℕ, _<_};
+ghost use Prim.Native.Nat.{_<_};
 ghost use Rattle.prelude.specs.Tests.{all};
-ghost use Rattle.sheet_rules.specs.Blocks.{Sheet};
-ghost use Rattle.relational.specs.Trees.{Comparison, Test, Quantifier, comparison-symbol, test-symbol, quantifier-symbol, symbolOf};
+ghost use Rattle.relational.specs.Trees.{Comparison, Test, Connective, Quantifier, symbolOf};
+ghost use Rattle.relational.specs.Trees.{comparison-symbol, test-symbol, connective-symbol, quantifier-symbol};
 ghost use Rattle.relational.specs.Matrices as matrices;
 ghost use Rattle.relational.specs.Evaluation as spec;
+ghost use Rattle.relational.specs.Evaluation.{truthConnective};
 ghost use Rattle.instance_matrix.specs.Values.{matrixOf, Fine, counted, paired};
 use super::Value;
 use super::flags::Pairing;
@@ -52,7 +52,7 @@ fn add_flag(n: usize, flag: bool) -> usize
 }
 
 // How many cells are true.
-fn count(p: Value) -> usize
+pub(crate) fn count(p: Value) -> usize
     requires { ⌜ Fine p ⌝ }
     ensures { λ r. ⌜ r ≡ spec.count (matrixOf p .cells) ⌝ }
 {
@@ -79,6 +79,18 @@ pub fn test(kind: usize, p: Value) -> bool
     }
 }
 
+// Kinds 31 to 34: and, or, implies, iff.
+pub fn connect(kind: usize, a: bool, b: bool) -> bool
+    ensures { λ r. ⌜ ((o : Connective) → symbolOf kind ≡ connective-symbol o → r ≡ truthConnective o a b) ⌝ }
+{
+    match kind {
+        31 => pair(Pairing::Both, a, b),
+        32 => pair(Pairing::Either, a, b),
+        33 => pair(Pairing::Implies, a, b),
+        _ => pair(Pairing::Same, a, b),
+    }
+}
+
 // Kinds 40 and 41, over the truths of the bodies: for all, for some.
 pub fn quantify(kind: usize, p: Value) -> bool
     requires { ⌜ Fine p ⌝ }
@@ -88,18 +100,5 @@ pub fn quantify(kind: usize, p: Value) -> bool
     match kind {
         40 => n == size(p.rows, p.columns),
         _ => 1 <= n,
-    }
-}
-
-// "Mark 0 is free, 1 at most one value, 2 exactly one."
-pub fn row_holds(mark: usize, p: Value) -> bool
-    requires { ⌜ Fine p ⌝ }
-    ensures { λ r. ⌜ ((sheet : Sheet) (instance : List ℕ) → r ≡ spec.rowHolds sheet instance mark (matrixOf p .cells)) ⌝ }
-{
-    let n = count(p);
-    match mark {
-        0 => true,
-        1 => n <= 1,
-        _ => n == 1,
     }
 }

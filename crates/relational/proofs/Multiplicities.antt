@@ -1,4 +1,4 @@
--- The check of the rows agrees with the marks.
+-- 2.1.2 Multiplicities: the check of the rows agrees with the marks.
 use mathlib.Core.Path.{_≡_, refl}
 use mathlib.Core.Logic.{_⊎_, ⊎-elim, _↔_}
 use mathlib.Core.Bool.{Bool, true, false}
@@ -15,8 +15,8 @@ use Rattle.relational.specs.Evaluation.{flagAt, rowHolds, rowCells, mark
 use Rattle.relational.proofs.Places.{length-map-from}
 use Rattle.relational.proofs.Flags.{Is, recast, is-each}
 use Rattle.relational.proofs.Counts.{is-lone, is-one}
-use Rattle.relational.proofs.Operators.{beyond}
-use Rattle.relational.proofs.Evaluates.{flags-at}
+use Rattle.relational.proofs.Basic.{flags-at}
+use Rattle.relational.proofs.Truths.{beyond}
 
 module _ (sheet : Sheet) (instance : List ℕ) where
   -- marks speak of values that are the same

@@ -20,11 +20,11 @@ use Rattle.relational.specs.Matrices.{matched}
 use Rattle.relational.specs.Matrices.{middles, crossed, inverted}
 
 -- ---- flags
-abbrev pub both : Bool × Bool → Bool
-both t = t .0 && t .1
-
 abbrev pub either : Bool × Bool → Bool
 either t = t .0 || t .1
+
+abbrev pub both : Bool × Bool → Bool
+both t = t .0 && t .1
 
 abbrev pub without : Bool × Bool → Bool
 without t = t .0 && not (t .1)
@@ -34,12 +34,6 @@ implies t = not (t .0) || t .1
 
 abbrev pub same : Bool × Bool → Bool
 same t = implies t && implies (t .1, t .0)
-
--- how many flags are true
-abbrev pub count : List Bool → ℕ
-count [] = 0
-count (true ∷ flags) = suc (count flags)
-count (false ∷ flags) = count flags
 
 -- ---- expressions, operator by operator
 abbrev pub joinCells : Matrix Bool → Matrix Bool → List Bool
@@ -68,6 +62,12 @@ valueUnary closure p = afterRounds (rounds (p .rows)) p
 abbrev pub truthComparison : Comparison → Matrix Bool → Matrix Bool → Bool
 truthComparison equal p q = all same (matched false p q)
 truthComparison within p q = all implies (matched false p q)
+
+-- how many flags are true
+abbrev pub count : List Bool → ℕ
+count [] = 0
+count (true ∷ flags) = suc (count flags)
+count (false ∷ flags) = count flags
 
 abbrev pub truthTest : Test → List Bool → Bool
 truthTest some cells = leb 1 (count cells)

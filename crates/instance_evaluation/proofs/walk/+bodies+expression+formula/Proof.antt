@@ -34,12 +34,12 @@ use Rattle.instance_evaluation.proofs.walk.formula.Kinds as formula-kin
 use Rattle.instance_evaluation.proofs.walk.+bodies+expression+formula.Lts-formula as formula-lts
 use Rattle.cells.proofs.scope_of_variable.Reads as scope-of-variable-reads
 use Rattle.instance_evaluation.proofs.leaves.leaf.Reads as leaf-reads
-use Rattle.instance_matrix.proofs.flags.connect.Reads as connect-reads
 use Rattle.instance_matrix.proofs.operators.binary.Reads as binary-reads
 use Rattle.instance_matrix.proofs.operators.unary.Reads as unary-reads
 use Rattle.instance_matrix.proofs.truths.compare.Reads as compare-reads
-use Rattle.instance_matrix.proofs.truths.quantify.Reads as quantify-reads
 use Rattle.instance_matrix.proofs.truths.test.Reads as test-reads
+use Rattle.instance_matrix.proofs.truths.connect.Reads as connect-reads
+use Rattle.instance_matrix.proofs.truths.quantify.Reads as quantify-reads
 use Rattle.nodes.proofs.environments.bind.Reads as bind-reads
 use Rattle.nodes.proofs.forms.read_node.Reads as read-node-reads
 use Rattle.instance_evaluation.proofs.walk.+bodies+expression+formula.{statement}
@@ -120,6 +120,225 @@ formula-calls t = (
   quantify-reads.Learnt,
 )
 
+-- where the walk started, and the node that it has read
+abbrev expression-start : (t : ℕ) → expression-lts.After-read-node (expression-calls t) (expression-at t) expression.Post
+    → expression-lts.Start (expression-calls t) (expression-at t) expression.Post
+expression-start t n = n .before .before .before .before
+
+expression-node : (t : ℕ) (n : expression-lts.After-read-node (expression-calls t) (expression-at t) expression.Post)
+    → Reached (sheetOf (expression-start t n .args .sheet .now)) (expression-start t n .args .at) (n .read-node .result) IsExpression
+expression-node t n =
+    let h = expression-start t n .pre .1 in
+    record { facts = facts-of (h .0); read = n .read-node .ensures .0; tree = h .1 }
+
+expression-read-node-requires : (t : ℕ) → expression-lts.Need-read-node-requires (expression-calls t) (expression-at t) expression.Post
+expression-read-node-requires t c κs =
+    let h = c .before .before .before .pre .1 in
+    (h .0 .taken, expression-low (facts-of (h .0)) (h .1))
+
+-- ---- 2.2.1: relation, variable, sort, identity
+expression-enum-told : (t : ℕ) → expression-lts.Need-enum-told (expression-calls t) (expression-at t) expression.Post
+expression-enum-told t c = search needs
+
+expression-leaf-requires : (t : ℕ) → expression-lts.Need-leaf-requires (expression-calls t) (expression-at t) expression.Post
+expression-leaf-requires t c κs =
+    let n = c .before .before in
+    (expression-start t n .pre .1 .0, at-leaf (expression-node t n) (c .enum-told .given .1) .names)
+
+expression-returns : (t : ℕ) → expression-lts.Need-returns (expression-calls t) (expression-at t) expression.Post
+expression-returns t c =
+    let k = c .before in
+    let h = expression-node t (k .before .before) in
+    leaf-value h _ _ (k .enum-told .given .1) (c .leaf .ensures)
+
+-- ---- 2.2.1 union, intersection, difference; 2.2.2 join; 2.2.3 product
+expression-enum-told-2 : (t : ℕ) → expression-lts.Need-enum-told-2 (expression-calls t) (expression-at t) expression.Post
+expression-enum-told-2 t c = search needs
+
+expression-expression-requires : (t : ℕ) → expression-lts.Need-expression-requires (expression-calls t) (expression-at t) expression.Post
+expression-expression-requires t c κs =
+    let n = c .before .before in
+    let b = at-binary (expression-node t n) (c .enum-told2 .given .1) in
+    (omega (arith, b .lower-a, expression-start t n .pre .0), (expression-start t n .pre .1 .0, b .left))
+
+expression-expression-requires-2 : (t : ℕ)
+    → expression-lts.Need-expression-requires-2 (expression-calls t) (expression-at t) expression.Post
+expression-expression-requires-2 t c κs =
+    let n = c .before .before .before in
+    let b = at-binary (expression-node t n) (c .before .enum-told2 .given .1) in
+    (omega (arith, b .lower-b, expression-start t n .pre .0), (expression-start t n .pre .1 .0, b .right))
+
+expression-binary-requires : (t : ℕ) → expression-lts.Need-binary-requires (expression-calls t) (expression-at t) expression.Post
+expression-binary-requires t c κs = (c .before .expression .ensures .fine, c .expression2 .ensures .fine)
+
+expression-returns-2 : (t : ℕ) → expression-lts.Need-returns-2 (expression-calls t) (expression-at t) expression.Post
+expression-returns-2 t c =
+    let k = c .before .before .before in
+    let h = expression-node t (k .before .before) in
+    let x = c .before .before .expression in
+    let y = c .before .expression2 in
+    binary-value h _ _ (k .enum-told2 .given .1) (x .ensures) (y .ensures) (c .binary .ensures)
+
+-- ---- 2.2.4 inverse; 2.2.5 closure
+expression-enum-told-3 : (t : ℕ) → expression-lts.Need-enum-told-3 (expression-calls t) (expression-at t) expression.Post
+expression-enum-told-3 t c = search needs
+
+expression-expression-requires-3 : (t : ℕ)
+    → expression-lts.Need-expression-requires-3 (expression-calls t) (expression-at t) expression.Post
+expression-expression-requires-3 t c κs =
+    let n = c .before .before in
+    let b = at-unary (expression-node t n) (c .enum-told3 .given .1) in
+    (omega (arith, b .lower-a, expression-start t n .pre .0), (expression-start t n .pre .1 .0, b .left))
+
+expression-unary-requires : (t : ℕ) → expression-lts.Need-unary-requires (expression-calls t) (expression-at t) expression.Post
+expression-unary-requires t c κs = c .expression3 .ensures .fine
+
+expression-returns-3 : (t : ℕ) → expression-lts.Need-returns-3 (expression-calls t) (expression-at t) expression.Post
+expression-returns-3 t c =
+    let k = c .before .before in
+    let h = expression-node t (k .before .before) in
+    unary-value h _ _ (k .enum-told3 .given .1) (c .before .expression3 .ensures) (c .unary .ensures)
+
+-- ---- comprehension: a binder, as those of 2.2.6
+expression-enum-told-4 : (t : ℕ) → expression-lts.Need-enum-told-4 (expression-calls t) (expression-at t) expression.Post
+expression-enum-told-4 t c = search needs
+
+expression-bodies-requires : (t : ℕ) → expression-lts.Need-bodies-requires (expression-calls t) (expression-at t) expression.Post
+expression-bodies-requires t c κs =
+    let n = c .before .before in
+    let b = at-comprehension (expression-node t n) (c .enum-told4 .given .1) in
+    (omega (arith, b .lower-b, expression-start t n .pre .0), (expression-start t n .pre .1 .0, (b .body, b .names)))
+
+expression-returns-4 : (t : ℕ) → expression-lts.Need-returns-4 (expression-calls t) (expression-at t) expression.Post
+expression-returns-4 t c =
+    let k = c .before in
+    let h = expression-node t (k .before .before) in
+    comprehension-value h _ _ (k .enum-told4 .given .1) (c .bodies .ensures)
+
+-- where the walk started, and the node that it has read
+abbrev formula-start : (t : ℕ) → formula-lts.After-read-node (formula-calls t) (formula-at t) formula.Post
+    → formula-lts.Start (formula-calls t) (formula-at t) formula.Post
+formula-start t n = n .before .before .before .before
+
+formula-node : (t : ℕ) (n : formula-lts.After-read-node (formula-calls t) (formula-at t) formula.Post)
+    → Reached (sheetOf (formula-start t n .args .sheet .now)) (formula-start t n .args .at) (n .read-node .result) IsFormula
+formula-node t n =
+    let h = formula-start t n .pre .1 in
+    record { facts = facts-of (h .0); read = n .read-node .ensures .0; tree = h .1 }
+
+formula-read-node-requires : (t : ℕ) → formula-lts.Need-read-node-requires (formula-calls t) (formula-at t) formula.Post
+formula-read-node-requires t c κs =
+    let h = c .before .before .before .pre .1 in
+    (h .0 .taken, formula-low (facts-of (h .0)) (h .1))
+
+-- ---- 2.2.6: inclusion and equality
+formula-enum-told : (t : ℕ) → formula-lts.Need-enum-told (formula-calls t) (formula-at t) formula.Post
+formula-enum-told t c = search needs
+
+formula-expression-requires : (t : ℕ) → formula-lts.Need-expression-requires (formula-calls t) (formula-at t) formula.Post
+formula-expression-requires t c κs =
+    let n = c .before .before in
+    let b = at-comparison (formula-node t n) (c .enum-told .given .1) in
+    (omega (arith, b .lower-a, formula-start t n .pre .0), (formula-start t n .pre .1 .0, b .left))
+
+formula-expression-requires-2 : (t : ℕ) → formula-lts.Need-expression-requires-2 (formula-calls t) (formula-at t) formula.Post
+formula-expression-requires-2 t c κs =
+    let n = c .before .before .before in
+    let b = at-comparison (formula-node t n) (c .before .enum-told .given .1) in
+    (omega (arith, b .lower-b, formula-start t n .pre .0), (formula-start t n .pre .1 .0, b .right))
+
+formula-compare-requires : (t : ℕ) → formula-lts.Need-compare-requires (formula-calls t) (formula-at t) formula.Post
+formula-compare-requires t c κs = (c .before .expression .ensures .fine, c .expression2 .ensures .fine)
+
+formula-returns : (t : ℕ) → formula-lts.Need-returns (formula-calls t) (formula-at t) formula.Post
+formula-returns t c =
+    let k = c .before .before .before in
+    let h = formula-node t (k .before .before) in
+    let x = c .before .before .expression in
+    let y = c .before .expression2 in
+    comparison-truth h _ _ (k .enum-told .given .1) (x .ensures) (y .ensures) (c .compare .ensures)
+
+-- ---- 2.2.6: some, none, at most one
+formula-enum-told-2 : (t : ℕ) → formula-lts.Need-enum-told-2 (formula-calls t) (formula-at t) formula.Post
+formula-enum-told-2 t c = search needs
+
+formula-expression-requires-3 : (t : ℕ) → formula-lts.Need-expression-requires-3 (formula-calls t) (formula-at t) formula.Post
+formula-expression-requires-3 t c κs =
+    let n = c .before .before in
+    let b = at-test (formula-node t n) (c .enum-told2 .given .1) in
+    (omega (arith, b .lower-a, formula-start t n .pre .0), (formula-start t n .pre .1 .0, b .left))
+
+formula-test-requires : (t : ℕ) → formula-lts.Need-test-requires (formula-calls t) (formula-at t) formula.Post
+formula-test-requires t c κs = c .expression3 .ensures .fine
+
+formula-returns-2 : (t : ℕ) → formula-lts.Need-returns-2 (formula-calls t) (formula-at t) formula.Post
+formula-returns-2 t c =
+    let k = c .before .before in
+    let h = formula-node t (k .before .before) in
+    test-truth h _ _ (k .enum-told2 .given .1) (c .before .expression3 .ensures) (c .test .ensures)
+
+-- ---- 2.2.6: the connectives
+formula-enum-told-3 : (t : ℕ) → formula-lts.Need-enum-told-3 (formula-calls t) (formula-at t) formula.Post
+formula-enum-told-3 t c = search needs
+
+formula-formula-requires : (t : ℕ) → formula-lts.Need-formula-requires (formula-calls t) (formula-at t) formula.Post
+formula-formula-requires t c κs =
+    let n = c .before .before in
+    let b = at-negation (formula-node t n) (c .enum-told3 .given .1) in
+    (omega (arith, b .lower-a, formula-start t n .pre .0), (formula-start t n .pre .1 .0, b .left))
+
+formula-returns-3 : (t : ℕ) → formula-lts.Need-returns-3 (formula-calls t) (formula-at t) formula.Post
+formula-returns-3 t c =
+    let k = c .before in
+    let h = formula-node t (k .before .before) in
+    negation-truth h _ _ (k .enum-told3 .given .1) (c .formula .ensures)
+
+formula-enum-told-4 : (t : ℕ) → formula-lts.Need-enum-told-4 (formula-calls t) (formula-at t) formula.Post
+formula-enum-told-4 t c = search needs
+
+formula-formula-requires-2 : (t : ℕ) → formula-lts.Need-formula-requires-2 (formula-calls t) (formula-at t) formula.Post
+formula-formula-requires-2 t c κs =
+    let n = c .before .before in
+    let b = at-connective (formula-node t n) (c .enum-told4 .given .1) in
+    (omega (arith, b .lower-a, formula-start t n .pre .0), (formula-start t n .pre .1 .0, b .left))
+
+formula-formula-requires-3 : (t : ℕ) → formula-lts.Need-formula-requires-3 (formula-calls t) (formula-at t) formula.Post
+formula-formula-requires-3 t c κs =
+    let n = c .before .before .before in
+    let b = at-connective (formula-node t n) (c .before .enum-told4 .given .1) in
+    (omega (arith, b .lower-b, formula-start t n .pre .0), (formula-start t n .pre .1 .0, b .right))
+
+formula-connect-requires : (t : ℕ) → formula-lts.Need-connect-requires (formula-calls t) (formula-at t) formula.Post
+formula-connect-requires t c κs = search needs
+
+formula-returns-4 : (t : ℕ) → formula-lts.Need-returns-4 (formula-calls t) (formula-at t) formula.Post
+formula-returns-4 t c =
+    let k = c .before .before .before in
+    let h = formula-node t (k .before .before) in
+    let x = c .before .before .formula2 in
+    let y = c .before .formula3 in
+    connective-truth h _ _ (k .enum-told4 .given .1) (x .ensures) (y .ensures) (c .connect .ensures)
+
+-- ---- 2.2.6: the quantifiers
+formula-enum-told-5 : (t : ℕ) → formula-lts.Need-enum-told-5 (formula-calls t) (formula-at t) formula.Post
+formula-enum-told-5 t c = search needs
+
+formula-bodies-requires : (t : ℕ) → formula-lts.Need-bodies-requires (formula-calls t) (formula-at t) formula.Post
+formula-bodies-requires t c κs =
+    let n = c .before .before in
+    let b = at-quantifier (formula-node t n) (c .enum-told5 .given .1) in
+    (omega (arith, b .lower-b, formula-start t n .pre .0), (formula-start t n .pre .1 .0, (b .body, b .names)))
+
+formula-quantify-requires : (t : ℕ) → formula-lts.Need-quantify-requires (formula-calls t) (formula-at t) formula.Post
+formula-quantify-requires t c κs = c .bodies .ensures .fine
+
+formula-returns-5 : (t : ℕ) → formula-lts.Need-returns-5 (formula-calls t) (formula-at t) formula.Post
+formula-returns-5 t c =
+    let k = c .before .before in
+    let h = formula-node t (k .before .before) in
+    quantifier-truth h _ _ (k .enum-told5 .given .1) (c .before .bodies .ensures) (c .quantify .ensures)
+
+-- ---- the bodies of a binder
 abbrev bodies-Inv-loop : bodies-lts.InvT-loop
 bodies-Inv-loop sheet layout instance starts env at x n cells₀ k₀ cells k =
     (k ≤ n) × Filled cells (λ (j : ℕ). truthInTree (sheetOf sheet) instance (bind (environment env) x j) (treeAt (sheetOf sheet) at)) k
@@ -175,216 +394,6 @@ bodies-returns t c =
     let l = c .before .loop in
     gives-as _ _ _ (ap (λ (m : ℕ). setOf m (map f (upto m))) (n .ensures .0))
     (upto-law (n .result) f (l .cells) (l .k) (omega arith) (n .ensures .1) (l .inv .1))
-
--- where the walk started, and the node that it has read
-abbrev expression-start : (t : ℕ) → expression-lts.After-read-node (expression-calls t) (expression-at t) expression.Post
-    → expression-lts.Start (expression-calls t) (expression-at t) expression.Post
-expression-start t n = n .before .before .before .before
-
-expression-node : (t : ℕ) (n : expression-lts.After-read-node (expression-calls t) (expression-at t) expression.Post)
-    → Reached (sheetOf (expression-start t n .args .sheet .now)) (expression-start t n .args .at) (n .read-node .result) IsExpression
-expression-node t n =
-    let h = expression-start t n .pre .1 in
-    record { facts = facts-of (h .0); read = n .read-node .ensures .0; tree = h .1 }
-
-expression-read-node-requires : (t : ℕ) → expression-lts.Need-read-node-requires (expression-calls t) (expression-at t) expression.Post
-expression-read-node-requires t c κs =
-    let h = c .before .before .before .pre .1 in
-    (h .0 .taken, expression-low (facts-of (h .0)) (h .1))
-
-expression-enum-told : (t : ℕ) → expression-lts.Need-enum-told (expression-calls t) (expression-at t) expression.Post
-expression-enum-told t c = search needs
-
-expression-leaf-requires : (t : ℕ) → expression-lts.Need-leaf-requires (expression-calls t) (expression-at t) expression.Post
-expression-leaf-requires t c κs =
-    let n = c .before .before in
-    (expression-start t n .pre .1 .0, at-leaf (expression-node t n) (c .enum-told .given .1) .names)
-
-expression-enum-told-2 : (t : ℕ) → expression-lts.Need-enum-told-2 (expression-calls t) (expression-at t) expression.Post
-expression-enum-told-2 t c = search needs
-
-expression-expression-requires : (t : ℕ) → expression-lts.Need-expression-requires (expression-calls t) (expression-at t) expression.Post
-expression-expression-requires t c κs =
-    let n = c .before .before in
-    let b = at-binary (expression-node t n) (c .enum-told2 .given .1) in
-    (omega (arith, b .lower-a, expression-start t n .pre .0), (expression-start t n .pre .1 .0, b .left))
-
-expression-expression-requires-2 : (t : ℕ)
-    → expression-lts.Need-expression-requires-2 (expression-calls t) (expression-at t) expression.Post
-expression-expression-requires-2 t c κs =
-    let n = c .before .before .before in
-    let b = at-binary (expression-node t n) (c .before .enum-told2 .given .1) in
-    (omega (arith, b .lower-b, expression-start t n .pre .0), (expression-start t n .pre .1 .0, b .right))
-
-expression-binary-requires : (t : ℕ) → expression-lts.Need-binary-requires (expression-calls t) (expression-at t) expression.Post
-expression-binary-requires t c κs = (c .before .expression .ensures .fine, c .expression2 .ensures .fine)
-
-expression-enum-told-3 : (t : ℕ) → expression-lts.Need-enum-told-3 (expression-calls t) (expression-at t) expression.Post
-expression-enum-told-3 t c = search needs
-
-expression-expression-requires-3 : (t : ℕ)
-    → expression-lts.Need-expression-requires-3 (expression-calls t) (expression-at t) expression.Post
-expression-expression-requires-3 t c κs =
-    let n = c .before .before in
-    let b = at-unary (expression-node t n) (c .enum-told3 .given .1) in
-    (omega (arith, b .lower-a, expression-start t n .pre .0), (expression-start t n .pre .1 .0, b .left))
-
-expression-unary-requires : (t : ℕ) → expression-lts.Need-unary-requires (expression-calls t) (expression-at t) expression.Post
-expression-unary-requires t c κs = c .expression3 .ensures .fine
-
-expression-enum-told-4 : (t : ℕ) → expression-lts.Need-enum-told-4 (expression-calls t) (expression-at t) expression.Post
-expression-enum-told-4 t c = search needs
-
-expression-bodies-requires : (t : ℕ) → expression-lts.Need-bodies-requires (expression-calls t) (expression-at t) expression.Post
-expression-bodies-requires t c κs =
-    let n = c .before .before in
-    let b = at-comprehension (expression-node t n) (c .enum-told4 .given .1) in
-    (omega (arith, b .lower-b, expression-start t n .pre .0), (expression-start t n .pre .1 .0, (b .body, b .names)))
-
-expression-returns : (t : ℕ) → expression-lts.Need-returns (expression-calls t) (expression-at t) expression.Post
-expression-returns t c =
-    let k = c .before in
-    let h = expression-node t (k .before .before) in
-    leaf-value h _ _ (k .enum-told .given .1) (c .leaf .ensures)
-
-expression-returns-2 : (t : ℕ) → expression-lts.Need-returns-2 (expression-calls t) (expression-at t) expression.Post
-expression-returns-2 t c =
-    let k = c .before .before .before in
-    let h = expression-node t (k .before .before) in
-    let x = c .before .before .expression in
-    let y = c .before .expression2 in
-    binary-value h _ _ (k .enum-told2 .given .1) (x .ensures) (y .ensures) (c .binary .ensures)
-
-expression-returns-3 : (t : ℕ) → expression-lts.Need-returns-3 (expression-calls t) (expression-at t) expression.Post
-expression-returns-3 t c =
-    let k = c .before .before in
-    let h = expression-node t (k .before .before) in
-    unary-value h _ _ (k .enum-told3 .given .1) (c .before .expression3 .ensures) (c .unary .ensures)
-
-expression-returns-4 : (t : ℕ) → expression-lts.Need-returns-4 (expression-calls t) (expression-at t) expression.Post
-expression-returns-4 t c =
-    let k = c .before in
-    let h = expression-node t (k .before .before) in
-    comprehension-value h _ _ (k .enum-told4 .given .1) (c .bodies .ensures)
-
--- where the walk started, and the node that it has read
-abbrev formula-start : (t : ℕ) → formula-lts.After-read-node (formula-calls t) (formula-at t) formula.Post
-    → formula-lts.Start (formula-calls t) (formula-at t) formula.Post
-formula-start t n = n .before .before .before .before
-
-formula-node : (t : ℕ) (n : formula-lts.After-read-node (formula-calls t) (formula-at t) formula.Post)
-    → Reached (sheetOf (formula-start t n .args .sheet .now)) (formula-start t n .args .at) (n .read-node .result) IsFormula
-formula-node t n =
-    let h = formula-start t n .pre .1 in
-    record { facts = facts-of (h .0); read = n .read-node .ensures .0; tree = h .1 }
-
-formula-read-node-requires : (t : ℕ) → formula-lts.Need-read-node-requires (formula-calls t) (formula-at t) formula.Post
-formula-read-node-requires t c κs =
-    let h = c .before .before .before .pre .1 in
-    (h .0 .taken, formula-low (facts-of (h .0)) (h .1))
-
-formula-enum-told : (t : ℕ) → formula-lts.Need-enum-told (formula-calls t) (formula-at t) formula.Post
-formula-enum-told t c = search needs
-
-formula-expression-requires : (t : ℕ) → formula-lts.Need-expression-requires (formula-calls t) (formula-at t) formula.Post
-formula-expression-requires t c κs =
-    let n = c .before .before in
-    let b = at-comparison (formula-node t n) (c .enum-told .given .1) in
-    (omega (arith, b .lower-a, formula-start t n .pre .0), (formula-start t n .pre .1 .0, b .left))
-
-formula-expression-requires-2 : (t : ℕ) → formula-lts.Need-expression-requires-2 (formula-calls t) (formula-at t) formula.Post
-formula-expression-requires-2 t c κs =
-    let n = c .before .before .before in
-    let b = at-comparison (formula-node t n) (c .before .enum-told .given .1) in
-    (omega (arith, b .lower-b, formula-start t n .pre .0), (formula-start t n .pre .1 .0, b .right))
-
-formula-compare-requires : (t : ℕ) → formula-lts.Need-compare-requires (formula-calls t) (formula-at t) formula.Post
-formula-compare-requires t c κs = (c .before .expression .ensures .fine, c .expression2 .ensures .fine)
-
-formula-enum-told-2 : (t : ℕ) → formula-lts.Need-enum-told-2 (formula-calls t) (formula-at t) formula.Post
-formula-enum-told-2 t c = search needs
-
-formula-expression-requires-3 : (t : ℕ) → formula-lts.Need-expression-requires-3 (formula-calls t) (formula-at t) formula.Post
-formula-expression-requires-3 t c κs =
-    let n = c .before .before in
-    let b = at-test (formula-node t n) (c .enum-told2 .given .1) in
-    (omega (arith, b .lower-a, formula-start t n .pre .0), (formula-start t n .pre .1 .0, b .left))
-
-formula-test-requires : (t : ℕ) → formula-lts.Need-test-requires (formula-calls t) (formula-at t) formula.Post
-formula-test-requires t c κs = c .expression3 .ensures .fine
-
-formula-enum-told-3 : (t : ℕ) → formula-lts.Need-enum-told-3 (formula-calls t) (formula-at t) formula.Post
-formula-enum-told-3 t c = search needs
-
-formula-formula-requires : (t : ℕ) → formula-lts.Need-formula-requires (formula-calls t) (formula-at t) formula.Post
-formula-formula-requires t c κs =
-    let n = c .before .before in
-    let b = at-negation (formula-node t n) (c .enum-told3 .given .1) in
-    (omega (arith, b .lower-a, formula-start t n .pre .0), (formula-start t n .pre .1 .0, b .left))
-
-formula-enum-told-4 : (t : ℕ) → formula-lts.Need-enum-told-4 (formula-calls t) (formula-at t) formula.Post
-formula-enum-told-4 t c = search needs
-
-formula-formula-requires-2 : (t : ℕ) → formula-lts.Need-formula-requires-2 (formula-calls t) (formula-at t) formula.Post
-formula-formula-requires-2 t c κs =
-    let n = c .before .before in
-    let b = at-connective (formula-node t n) (c .enum-told4 .given .1) in
-    (omega (arith, b .lower-a, formula-start t n .pre .0), (formula-start t n .pre .1 .0, b .left))
-
-formula-formula-requires-3 : (t : ℕ) → formula-lts.Need-formula-requires-3 (formula-calls t) (formula-at t) formula.Post
-formula-formula-requires-3 t c κs =
-    let n = c .before .before .before in
-    let b = at-connective (formula-node t n) (c .before .enum-told4 .given .1) in
-    (omega (arith, b .lower-b, formula-start t n .pre .0), (formula-start t n .pre .1 .0, b .right))
-
-formula-connect-requires : (t : ℕ) → formula-lts.Need-connect-requires (formula-calls t) (formula-at t) formula.Post
-formula-connect-requires t c κs = search needs
-
-formula-enum-told-5 : (t : ℕ) → formula-lts.Need-enum-told-5 (formula-calls t) (formula-at t) formula.Post
-formula-enum-told-5 t c = search needs
-
-formula-bodies-requires : (t : ℕ) → formula-lts.Need-bodies-requires (formula-calls t) (formula-at t) formula.Post
-formula-bodies-requires t c κs =
-    let n = c .before .before in
-    let b = at-quantifier (formula-node t n) (c .enum-told5 .given .1) in
-    (omega (arith, b .lower-b, formula-start t n .pre .0), (formula-start t n .pre .1 .0, (b .body, b .names)))
-
-formula-quantify-requires : (t : ℕ) → formula-lts.Need-quantify-requires (formula-calls t) (formula-at t) formula.Post
-formula-quantify-requires t c κs = c .bodies .ensures .fine
-
-formula-returns : (t : ℕ) → formula-lts.Need-returns (formula-calls t) (formula-at t) formula.Post
-formula-returns t c =
-    let k = c .before .before .before in
-    let h = formula-node t (k .before .before) in
-    let x = c .before .before .expression in
-    let y = c .before .expression2 in
-    comparison-truth h _ _ (k .enum-told .given .1) (x .ensures) (y .ensures) (c .compare .ensures)
-
-formula-returns-2 : (t : ℕ) → formula-lts.Need-returns-2 (formula-calls t) (formula-at t) formula.Post
-formula-returns-2 t c =
-    let k = c .before .before in
-    let h = formula-node t (k .before .before) in
-    test-truth h _ _ (k .enum-told2 .given .1) (c .before .expression3 .ensures) (c .test .ensures)
-
-formula-returns-3 : (t : ℕ) → formula-lts.Need-returns-3 (formula-calls t) (formula-at t) formula.Post
-formula-returns-3 t c =
-    let k = c .before in
-    let h = formula-node t (k .before .before) in
-    negation-truth h _ _ (k .enum-told3 .given .1) (c .formula .ensures)
-
-formula-returns-4 : (t : ℕ) → formula-lts.Need-returns-4 (formula-calls t) (formula-at t) formula.Post
-formula-returns-4 t c =
-    let k = c .before .before .before in
-    let h = formula-node t (k .before .before) in
-    let x = c .before .before .formula2 in
-    let y = c .before .formula3 in
-    connective-truth h _ _ (k .enum-told4 .given .1) (x .ensures) (y .ensures) (c .connect .ensures)
-
-formula-returns-5 : (t : ℕ) → formula-lts.Need-returns-5 (formula-calls t) (formula-at t) formula.Post
-formula-returns-5 t c =
-    let k = c .before .before in
-    let h = formula-node t (k .before .before) in
-    quantifier-truth h _ _ (k .enum-told5 .given .1) (c .before .bodies .ensures) (c .quantify .ensures)
 
 pub +bodies+expression+formula-spec : {M : Type 1} → statement M
 +bodies+expression+formula-spec = close μ-bodies μ-expression μ-formula (λ t. bodies-lts.spec (bodies-calls t)
