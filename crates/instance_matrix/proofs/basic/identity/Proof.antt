@@ -1,6 +1,5 @@
 -- The invariant: the cells before k are filled.
 use borrow.Author.Needs.{needs}
-use Rattle.instance_matrix.proofs.Filling.{Filled, filled-none, filled-more}
 use Rattle.relational.proofs.Places.{some-column}
 use mathlib.Core.Path.{refl}
 use Prim.Native.Nat.{_≤_, _-_, _/_, _%_}
