@@ -125,12 +125,13 @@ same-size : (z : Size) (p bs : List Bool) → sameSize (matrixOf z p) bs ≡ mat
 same-size (line n) p bs = refl
 same-size (table r c) p bs = refl
 
-module _ {z : Size} {m k : Matrix Bool} {P Q : Tuples} (a : Stands z m P) (b : Stands z k Q) where
-  -- what a pair of cells says of a tuple
-  abbrev pub Decides : Tuples → (Bool × Bool → Bool) → Type 0
-  Decides R o = (t : Tuple) → (x y : Bool) → Is x (P t) → Is y (Q t) → Is (o (x, y)) (R t)
+-- what a pair of cells, for P and for Q, says of a tuple
+abbrev pub Decides : Tuples → Tuples → Tuples → (Bool × Bool → Bool) → Type 0
+Decides P Q R o = (t : Tuple) → (x y : Bool) → Is x (P t) → Is y (Q t) → Is (o (x, y)) (R t)
 
-  stands-matched : (R : Tuples) (o : Bool × Bool → Bool) → Decides R o → ((t : Tuple) → R t → Fits z t) → Stands z (sameSize m (map o (matched false m k))) R
+module _ {z : Size} {m k : Matrix Bool} {P Q : Tuples} (a : Stands z m P) (b : Stands z k Q) where
+  stands-matched : (R : Tuples) (o : Bool × Bool → Bool) → Decides P Q R o → ((t : Tuple) → R t → Fits z t)
+      → Stands z (sameSize m (map o (matched false m k))) R
   stands-matched R o d fits =
       let p : List Bool = a .0 in
       let q : List Bool = b .0 in

@@ -20,8 +20,10 @@ use Rattle.relational.proofs.Basic.{cellPair, matched-is, Decides}
 
 -- ---- comparisons: all pairs of cells together
 module _ {z : Size} {m k : Matrix Bool} {P Q : Tuples} (a : Stands z m P) (b : Stands z k Q) where
-  truth-matched : (R : Tuples) (o : Bool × Bool → Bool) → Decides a b R o → Is (all o (matched false m k)) ((t : Tuple) → Fits z t → R t)
-  truth-matched R o d = rw (a .1, b .1, matched-is z p q) (recast (is-all o (cellPair p q) (total z) Place-at at) (forth, λ f i l t g e. f t g))
+  truth-matched : (R : Tuples) (o : Bool × Bool → Bool) → Decides P Q R o
+      → Is (all o (matched false m k)) ((t : Tuple) → Fits z t → R t)
+  truth-matched R o d =
+      rw (a .1, b .1, matched-is z p q) (recast (is-all o (cellPair p q) (total z) Place-at at) (forth, λ f i l t g e. f t g))
     where
       p : List Bool
       p = a .0
