@@ -1,4 +1,4 @@
-// The walk: expressions contain formulas and formulas expressions, and the node number falls.
+// 2.2.1 to 2.2.6 The walk: expressions contain formulas and formulas expressions, and the node number falls.
 ghost use mathlib.Core.Path.{_≡_};
 ghost use Prim.Native.Nat.{_<_};
 ghost use Rattle.sheet_rules.specs.Blocks.{sheetOf};
@@ -21,7 +21,7 @@ use nodes::forms::FormulaForm;
 use nodes::forms::read_node;
 use sheet_rules::Layout;
 
-// 2.2.1 to 2.2.5: the value of the expression at a node.
+// 2.2.1 to 2.2.5, and comprehension: the value of the expression at a node.
 fn expression(
     sheet: &[u8],
     layout: Layout,
@@ -53,7 +53,7 @@ fn expression(
             let p = expression(sheet, layout, instance, starts, env, a);
             unary(kind, p)
         }
-        // a binder, as those of 2.2.6
+        // 2.2.6 comprehension: a binder, as the quantifiers
         ExpressionForm::Comprehension => bodies(sheet, layout, instance, starts, env, b, a),
     }
 }

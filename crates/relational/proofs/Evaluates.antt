@@ -1,4 +1,5 @@
--- The evaluation agrees with the meaning: for every well-shaped tree, and every environment that gives each variable an atom of its sort.
+-- 2.2.1 to 2.2.6 The evaluation agrees with the meaning: for every well-shaped tree,
+-- and every environment that gives each variable an atom of its sort.
 use mathlib.Core.Path.{_≡_, refl}
 use mathlib.Core.List.{List, map}
 use Prim.Native.Nat.{ℕ, _<_}
@@ -37,7 +38,7 @@ module _ (sheet : Sheet) where
       go (no d) = rw (ne-eqb y x d) (r y l)
 
 module _ (sheet : Sheet) (instance : List ℕ) where
-  -- ---- comprehension
+  -- ---- comprehension: a binder, as the quantifiers of 2.2.6
   stands-comprehension : (x : ℕ) (f : Formula) (env : Environment)
       → ((v : ℕ) → IsAtom sheet (sortOf sheet x) v → Is (truthOf sheet instance f (bind env x v)) (Holds sheet instance f (bind env x v)))
       → Stands (line (scope sheet (sortOf sheet x))) (valueOf sheet instance (comprehension x f) env)

@@ -199,7 +199,7 @@ expression-returns-3 t c =
     let h = expression-node t (k .before .before) in
     unary-value h _ _ (k .enum-told3 .given .1) (c .before .expression3 .ensures) (c .unary .ensures)
 
--- ---- comprehension: a binder, as those of 2.2.6
+-- ---- 2.2.6 comprehension: a binder, as the quantifiers
 expression-enum-told-4 : (t : ℕ) → expression-lts.Need-enum-told-4 (expression-calls t) (expression-at t) expression.Post
 expression-enum-told-4 t c = search needs
 
@@ -338,7 +338,7 @@ formula-returns-5 t c =
     let h = formula-node t (k .before .before) in
     quantifier-truth h _ _ (k .enum-told5 .given .1) (c .before .bodies .ensures) (c .quantify .ensures)
 
--- ---- the bodies of a binder
+-- ---- 2.2.6: the bodies of a binder
 abbrev bodies-Inv-loop : bodies-lts.InvT-loop
 bodies-Inv-loop sheet layout instance starts env at x n cells₀ k₀ cells k =
     (k ≤ n) × Filled cells (λ (j : ℕ). truthInTree (sheetOf sheet) instance (bind (environment env) x j) (treeAt (sheetOf sheet) at)) k
