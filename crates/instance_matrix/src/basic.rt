@@ -12,7 +12,7 @@ use super::flags::pair;
 use super::size;
 use sheet::bytes::byte;
 
-// Kind 1, a relation, or a row of one: the cells from the first on, and of them the bytes that are 1.
+// Kind 1, a relation, or a row of one: its cells from the first on, true where the byte is 1.
 pub fn given(instance: &[u8], first: usize, arity: usize, rows: usize, columns: usize) -> Value
     requires { ⌜ (first ≤ 1024) × ((rows ≤ 8) × (columns ≤ 8)) ⌝ }
     requires { ⌜ SetOrRelation arity rows ⌝ }
