@@ -12,12 +12,18 @@ ghost use Rattle.search_rules.specs.Run.{total, count, run};
 ghost use Rattle.search_rules.specs.Following.{followingRun};
 ghost use Rattle.search_rules.specs.Held.{stepsOf, positionOf, WasOpen, Stored};
 ghost use Rattle.search_rules.specs.Inner.{Fine};
+ghost use Rattle.search_index.specs.Index.{limit, Watched};
 ghost use Rattle.search_core.specs.Inner.{SomeStored, kindOf, endAfter, Ended};
 use crate::steps::Moved;
 use crate::steps::StepKind;
 use crate::steps::back;
+use crate::steps::back_scanned;
 use crate::steps::lowest_open;
 use crate::steps::step;
+use search_index::chains::LIMIT;
+use search_index::chains::blank_chains;
+use search_index::watch::build;
+use search_index::weights::blank_weights;
 use search_rules::Position;
 use search_scan::Seen;
 use search_scan::scan;
@@ -102,12 +108,21 @@ fn ends(list: &[i32], values: &[u8]) -> End
     }
 }
 
-// The run from the state that the slices and the position hold.
-pub fn run(list: &[i32], values: &mut [u8], trail: &mut [i32], start: Position, budget: u64) -> Ran
+// The run from the state that the slices and the position hold, with the index that is lent.
+fn go(
+    list: &[i32],
+    values: &mut [u8],
+    trail: &mut [i32],
+    start: Position,
+    budget: u64,
+    chains: &[u16],
+    weights: &mut [u16],
+) -> Ran
     requires { ⌜ Fine (length (now values)) (now list) ⌝ }
     requires { ⌜ length (now values) ≤ lastVariable ⌝ }
     requires { ⌜ SomeStored (length (now values)) (now values) (now trail) (start .length) ⌝ }
     requires { ⌜ total (stepsOf start) + budget < 2 ^ 64 ⌝ }
+    requires { ⌜ Watched (clausesOf (now list)) (now values) (now chains) (now weights) ⌝ }
     ensures { λ r. ⌜ ((state : State) → Stored (length (now (values .entry))) state (now (values .entry)) (now (trail .entry)) (start .length)
         → Ended (length (now (values .entry)))
         (run (clausesOf (now (list .entry))) (length (now (values .entry))) budget (stepsOf start) state)
@@ -117,7 +132,7 @@ pub fn run(list: &[i32], values: &mut [u8], trail: &mut [i32], start: Position, 
     let mut left = budget;
     while left > 0 {
         let used = position.length;
-        let moved = step(list, values, trail, used);
+        let moved = step(list, values, trail, used, chains, weights);
         match moved {
             Moved::NoneLeft => {
                 let end = End::None;
@@ -138,12 +153,103 @@ pub fn run(list: &[i32], values: &mut [u8], trail: &mut [i32], start: Position, 
     match end {
         End::None => {
             let used = position.length;
-            back(values, trail, used);
+            back(list, values, trail, used, chains, weights);
             let position = emptied(position);
             Ran { end, position }
         }
         End::Found => Ran { end, position },
         End::Spent => Ran { end, position },
+    }
+}
+
+// The run where each step scans the list.
+fn run_scanned(
+    list: &[i32],
+    values: &mut [u8],
+    trail: &mut [i32],
+    start: Position,
+    budget: u64,
+) -> Ran
+    requires { ⌜ Fine (length (now values)) (now list) ⌝ }
+    requires { ⌜ length (now values) ≤ lastVariable ⌝ }
+    requires { ⌜ SomeStored (length (now values)) (now values) (now trail) (start .length) ⌝ }
+    requires { ⌜ total (stepsOf start) + budget < 2 ^ 64 ⌝ }
+    ensures { λ r. ⌜ ((state : State) → Stored (length (now (values .entry))) state (now (values .entry)) (now (trail .entry)) (start .length)
+        → Ended (length (now (values .entry)))
+        (run (clausesOf (now (list .entry))) (length (now (values .entry))) budget (stepsOf start) state)
+        r (now (values .exit)) (now (trail .exit))) ⌝ }
+{
+    let chains = [0u16; 0];
+    let mut weights = [0u16; 0];
+    go(list, values, trail, start, budget, &chains, &mut weights)
+}
+
+// The run over an index of the list, which is built first.
+fn run_indexed(
+    list: &[i32],
+    values: &mut [u8],
+    trail: &mut [i32],
+    start: Position,
+    budget: u64,
+) -> Ran
+    requires { ⌜ Fine (length (now values)) (now list) ⌝ }
+    requires { ⌜ length (now values) ≤ lastVariable ⌝ }
+    requires { ⌜ SomeStored (length (now values)) (now values) (now trail) (start .length) ⌝ }
+    requires { ⌜ total (stepsOf start) + budget < 2 ^ 64 ⌝ }
+    requires { ⌜ (length (now values) ≤ limit) × (length (now list) ≤ limit) ⌝ }
+    ensures { λ r. ⌜ ((state : State) → Stored (length (now (values .entry))) state (now (values .entry)) (now (trail .entry)) (start .length)
+        → Ended (length (now (values .entry)))
+        (run (clausesOf (now (list .entry))) (length (now (values .entry))) budget (stepsOf start) state)
+        r (now (values .exit)) (now (trail .exit))) ⌝ }
+{
+    let mut chains = blank_chains();
+    let mut weights = blank_weights();
+    build(list, values, &mut chains, &mut weights);
+    go(list, values, trail, start, budget, &chains, &mut weights)
+}
+
+// So many words are read by the scan, or 8 steps done by it, before an index pays.
+const SCANNED: u64 = 32768;
+
+// How many of a budget's steps scan the list: all where it is too long for an index or has too many variables, else the first few.
+fn scanned_steps(words: usize, v: usize, budget: u64) -> u64
+    ensures { λ r. ⌜ (r ≤ budget) × (r < budget → (v ≤ limit) × (words ≤ limit)) ⌝ }
+{
+    if words > LIMIT {
+        return budget;
+    }
+    if v > LIMIT {
+        return budget;
+    }
+    let few = 8 + SCANNED / (words as u64 + 1);
+    if budget < few {
+        return budget;
+    }
+    few
+}
+
+// The run from the state that the slices and the position hold: the first steps by the scan, those after them over an index.
+pub fn run(list: &[i32], values: &mut [u8], trail: &mut [i32], start: Position, budget: u64) -> Ran
+    requires { ⌜ Fine (length (now values)) (now list) ⌝ }
+    requires { ⌜ length (now values) ≤ lastVariable ⌝ }
+    requires { ⌜ SomeStored (length (now values)) (now values) (now trail) (start .length) ⌝ }
+    requires { ⌜ total (stepsOf start) + budget < 2 ^ 64 ⌝ }
+    ensures { λ r. ⌜ ((state : State) → Stored (length (now (values .entry))) state (now (values .entry)) (now (trail .entry)) (start .length)
+        → Ended (length (now (values .entry)))
+        (run (clausesOf (now (list .entry))) (length (now (values .entry))) budget (stepsOf start) state)
+        r (now (values .exit)) (now (trail .exit))) ⌝ }
+{
+    let few = scanned_steps(list.len(), values.len(), budget);
+    let ran = run_scanned(list, values, trail, start, few);
+    if few == budget {
+        return ran;
+    }
+    let end = ran.end;
+    let position = ran.position;
+    match end {
+        End::None => ran,
+        End::Found => ran,
+        End::Spent => run_indexed(list, values, trail, position, budget - few),
     }
 }
 
@@ -167,7 +273,7 @@ fn turn_full(
 {
     let used = start.length;
     if !any_decision(values) {
-        back(values, trail, used);
+        back_scanned(list, values, trail, used);
         let end = End::None;
         let position = emptied(start);
         return Ran { end, position };
@@ -177,7 +283,7 @@ fn turn_full(
         let position = start;
         return Ran { end, position };
     }
-    let n = back(values, trail, used);
+    let n = back_scanned(list, values, trail, used);
     let position = advance(start, StepKind::Backtrack, n);
     run(list, values, trail, position, budget - 1)
 }

@@ -1,4 +1,5 @@
-// The step rules over values and trail, whose first `used` words are in use.
+// The step rules over values and trail, whose first `used` words are in use. Each step looks at the clauses by their index, and keeps it; where there are
+// no weights there is no index, and the list is scanned.
 ghost use mathlib.Core.Path.{_≡_};
 ghost use mathlib.Core.Option.{Option·getD};
 ghost use Prim.Native.Nat.{_<_, _≤_};
@@ -9,9 +10,11 @@ ghost use Rattle.literal.specs.Literals.{lastVariable};
 ghost use Rattle.search_rules.specs.Rules.{State, lowestOpen, propagated, byteOf, placeOf, turn, next};
 ghost use Rattle.search_rules.specs.Held.{InRange, Stored};
 ghost use Rattle.search_rules.specs.Inner.{Fine};
+ghost use Rattle.search_index.specs.Index.{Watched};
 ghost use Rattle.search_core.specs.Inner.{SomeStored, Turned, Stepped};
+use search_index::watch::look;
+use search_index::watch::touch;
 use search_scan::Seen;
-use search_scan::scan;
 
 pub enum StepKind {
     Propagation,
@@ -41,27 +44,53 @@ pub fn lowest_open(values: &[u8]) -> usize
 }
 
 // Opens all back to the latest decision, which becomes true. The words of the trail then in use, 0 where there is no decision.
-pub fn back(values: &mut [u8], trail: &mut [i32], used: usize) -> usize
+pub fn back(
+    list: &[i32],
+    values: &mut [u8],
+    trail: &mut [i32],
+    used: usize,
+    chains: &[u16],
+    weights: &mut [u16],
+) -> usize
+    requires { ⌜ Fine (length (now values)) (now list) ⌝ }
     requires { ⌜ length (now values) ≤ lastVariable ⌝ }
     requires { ⌜ SomeStored (length (now values)) (now values) (now trail) used ⌝ }
+    requires { ⌜ Watched (clausesOf (now list)) (now values) (now chains) (now weights) ⌝ }
     ensures { λ r. ⌜ ((state : State) → Stored (length (now (values .entry))) state (now (values .entry)) (now (trail .entry)) used
         → Turned (length (now (values .entry))) (turn state) r (now (values .exit)) (now (trail .exit))) ⌝ }
+    ensures { λ r. ⌜ Watched (clausesOf (now (list .entry))) (now (values .exit)) (now (chains .entry)) (now (weights .exit)) ⌝ }
 {
     let mut n = used;
     while n > 0 {
         let top = n - 1;
         let l = trail[top];
         let at = literal::place(l);
-        if values[at] == 3 {
+        let was = values[at];
+        if was == 3 {
             values[at] = 1;
             trail[top] = literal::opposite(l);
+            touch(list, values, chains, weights, at, was);
             return n;
         }
         values[at] = 2;
         trail[top] = 0;
+        touch(list, values, chains, weights, at, was);
         n = top;
     }
     0
+}
+
+// The same without an index.
+pub fn back_scanned(list: &[i32], values: &mut [u8], trail: &mut [i32], used: usize) -> usize
+    requires { ⌜ Fine (length (now values)) (now list) ⌝ }
+    requires { ⌜ length (now values) ≤ lastVariable ⌝ }
+    requires { ⌜ SomeStored (length (now values)) (now values) (now trail) used ⌝ }
+    ensures { λ r. ⌜ ((state : State) → Stored (length (now (values .entry))) state (now (values .entry)) (now (trail .entry)) used
+        → Turned (length (now (values .entry))) (turn state) r (now (values .exit)) (now (trail .exit))) ⌝ }
+{
+    let chains = [0u16; 0];
+    let mut weights = [0u16; 0];
+    back(list, values, trail, used, &chains, &mut weights)
 }
 
 // A literal is set true, and goes on top of the trail.
@@ -94,19 +123,28 @@ fn decide(values: &mut [u8], trail: &mut [i32], used: usize, i: usize)
 }
 
 // One step of the rules, or their end.
-pub fn step(list: &[i32], values: &mut [u8], trail: &mut [i32], used: usize) -> Moved
+pub fn step(
+    list: &[i32],
+    values: &mut [u8],
+    trail: &mut [i32],
+    used: usize,
+    chains: &[u16],
+    weights: &mut [u16],
+) -> Moved
     requires { ⌜ Fine (length (now values)) (now list) ⌝ }
     requires { ⌜ length (now values) ≤ lastVariable ⌝ }
     requires { ⌜ SomeStored (length (now values)) (now values) (now trail) used ⌝ }
+    requires { ⌜ Watched (clausesOf (now list)) (now values) (now chains) (now weights) ⌝ }
     ensures { λ r. ⌜ ((state : State) → Stored (length (now (values .entry))) state (now (values .entry)) (now (trail .entry)) used
         → Stepped (length (now (values .entry))) state
         (next (clausesOf (now (list .entry))) (length (now (values .entry))) state)
         r (now (values .exit)) (now (trail .exit))) ⌝ }
+    ensures { λ r. ⌜ Watched (clausesOf (now (list .entry))) (now (values .exit)) (now (chains .entry)) (now (weights .exit)) ⌝ }
 {
-    let seen = scan(list, values);
+    let seen = look(list, values, chains, weights);
     match seen {
         Seen::Conflict => {
-            let n = back(values, trail, used);
+            let n = back(list, values, trail, used, chains, weights);
             if n == 0 {
                 return Moved::NoneLeft;
             }
@@ -114,6 +152,7 @@ pub fn step(list: &[i32], values: &mut [u8], trail: &mut [i32], used: usize) -> 
         }
         Seen::UnitClause(l) => {
             propagate(values, trail, used, l);
+            touch(list, values, chains, weights, literal::place(l), 2);
             Moved::To(StepKind::Propagation, used + 1)
         }
         Seen::Neither => {
@@ -122,6 +161,7 @@ pub fn step(list: &[i32], values: &mut [u8], trail: &mut [i32], used: usize) -> 
                 return Moved::AllSet;
             }
             decide(values, trail, used, i);
+            touch(list, values, chains, weights, i, 2);
             Moved::To(StepKind::Decision, used + 1)
         }
     }

@@ -38,7 +38,7 @@ module _ (v : ℕ) (z l : ℤ) (e : z ≡ l) (r : InRange v l) where
       by (pos n) t r = absurd (let h = r .0 in omega (arith, ltb-false 0 n t))
       by (negsuc n) t r = (n, refl)
 
-default : (vs : List ℕ) (i d e : ℕ) → i < length vs → getD vs i d ≡ getD vs i e
+pub default : (vs : List ℕ) (i d e : ℕ) → i < length vs → getD vs i d ≡ getD vs i e
 default [] i d e h = absurd (omega arith)
 default (x ∷ vs) zero d e h = refl
 default (x ∷ vs) (suc i) d e h = default vs i d e (omega arith)

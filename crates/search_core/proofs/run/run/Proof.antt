@@ -1,180 +1,118 @@
 -- `search_core::run::run` meets its contract. Assumes nothing.
-use mathlib.Core.Path.{refl, sym, _∙_}
-use Prim.Native.Nat.{_<_}
+use mathlib.Core.Path.{_≡_, sym, _∙_}
+use Prim.Native.Nat.{ℕ}
 use native.Mathlib.Omega.{arith}
+use lib.ListN.{length}
 use borrow.Author.Needs.{needs}
 use Rattle.clause_list.specs.ClauseList.{clausesOf}
-use Rattle.search_core.proofs.RunCode.{Loop, figure-on, far-none, far-found, far-on, far-emptied, far-full, far-spent}
+use Rattle.search_rules.specs.Rules.{State}
+use Rattle.search_rules.specs.Held.{stepsOf, Stored}
+use Rattle.search_core.specs.declared.run.End.the-variants.{Spent}
+use Rattle.search_core.proofs.TwoRuns.{Onward, apart-none, apart-found, all-done, ended-early, onward}
 use Rattle.search_core.proofs.run.run.Statement.{statement}
 use Rattle.search_core.proofs.run.run.Tie as tie
 
-abbrev Inv-loop : tie.InvT-loop
-Inv-loop list values₀ trail₀ budget p₀ left₀ values trail p left = Loop (clausesOf list) budget values₀ trail₀ p₀ values trail p left
+scanned-steps-requires : tie.Need-scanned-steps-requires
+scanned-steps-requires c κs = search needs
 
-abbrev μ-loop : tie.MeasureT-loop
-μ-loop list values₀ trail₀ budget p₀ left₀ values trail p left = left
+run-scanned-requires : tie.Need-run-scanned-requires
+run-scanned-requires c κs =
+    let p = c .before .before .before .before .pre in
+    (p .0, (p .1 .0, (p .1 .1 .0, omega (arith, p .1 .1 .1, c .before .before .scanned-steps .ensures .0))))
 
-loop-holds : tie.Need-loop-holds Inv-loop μ-loop
-loop-holds c = record { figure = refl; wide = refl; deep = refl; far = λ state i. record { at = state; stored = i; alike = refl } }
+same-length : tie.Need-same-length
+same-length c = search needs
 
--- a step is left in a turn of the loop
-some-left : (c : tie.In-loop Inv-loop μ-loop) → 0 < c .before .loop .left
-some-left c = omega (arith, c .loop-test .taken)
+same-length-2 : tie.Need-same-length-2
+same-length-2 c = search needs
 
-step-requires : tie.Need-step-requires Inv-loop μ-loop
-step-requires c κs =
-    let p = c .before .before .before .before .before .pre in
-    let l = c .before .before .before .loop .inv in
-    let f = l .far (p .1 .1 .0 .state) (p .1 .1 .0 .stored) in
-    (rw (l .wide) (p .0), (rw (l .wide) (p .1 .0), record { state = f .at; stored = rw (l .wide) (f .stored) }))
+returns : tie.Need-returns
+returns c state i =
+    all-done _ _ _ _ (c .before .before .before .before .before .before .before .scanned-steps .ensures .0) _ state _ _ _ (c .if1 .taken) (c .before .before .before .before .run-scanned .ensures state i)
 
-enum-told : tie.Need-enum-told Inv-loop μ-loop
+enum-told : tie.Need-enum-told
 enum-told c = search needs
 
-emptied-requires : tie.Need-emptied-requires Inv-loop μ-loop
-emptied-requires c κs = search needs
-
-same-length : tie.Need-same-length Inv-loop μ-loop
-same-length c = c .before .before .before .before .before .before .step .kept .1 .0
-    ∙ c .before .before .before .before .before .before .before .before .before .before .loop .inv .wide
-
-same-length-2 : tie.Need-same-length-2 Inv-loop μ-loop
-same-length-2 c = c .before .before .before .before .before .before .step .kept .1 .1 .0
-    ∙ c .before .before .before .before .before .before .before .before .before .before .loop .inv .deep
-
-returns : tie.Need-returns Inv-loop μ-loop
-returns c state i =
-    let l = c .before .before .before .before .before .before .before .before .before .before .loop .inv in
-    let f = l .far state i in
-    let s = (rw (l .wide) at (c .before .before .before .before .before .before .step .ensures)) (f .at) (f .stored) in
-    far-none _ _ _ _ _ _ _ _ _ f _ _ _ _ refl (c .emptied .ensures) (rw (c .before .enum-told .given .1) at s)
-
-enum-told-2 : tie.Need-enum-told-2 Inv-loop μ-loop
+enum-told-2 : tie.Need-enum-told-2
 enum-told-2 c = search needs
 
-same-length-3 : tie.Need-same-length-3 Inv-loop μ-loop
-same-length-3 c = c .before .before .before .before .before .step .kept .1 .0
-    ∙ c .before .before .before .before .before .before .before .before .before .loop .inv .wide
-
-same-length-4 : tie.Need-same-length-4 Inv-loop μ-loop
-same-length-4 c = c .before .before .before .before .before .step .kept .1 .1 .0
-    ∙ c .before .before .before .before .before .before .before .before .before .loop .inv .deep
-
-returns-2 : tie.Need-returns-2 Inv-loop μ-loop
-returns-2 c state i =
-    let l = c .before .before .before .before .before .before .before .before .before .loop .inv in
-    let f = l .far state i in
-    let s = (rw (l .wide) at (c .before .before .before .before .before .step .ensures)) (f .at) (f .stored) in
-    far-found _ _ _ _ _ _ _ _ _ f _ _ _ refl (rw (c .enum-told2 .given .1) at s)
-
-enum-known-moved : tie.Need-enum-known-moved Inv-loop μ-loop
-enum-known-moved c = search needs
-
-advance-requires : tie.Need-advance-requires Inv-loop μ-loop
-advance-requires c κs =
-    let l = c .before .before .before .before .before .before .before .before .before .before .loop .inv in
-    let t = c .before .before .before .before .before .before .before .before .before .loop-test .taken in
-    let s = c .before .before .before .before .before .before .before .before .before .before .before .before in
-    omega (arith, l .figure, t, s .pre .1 .1 .1)
-
-sub-left : tie.Need-sub-left Inv-loop μ-loop
-sub-left c = some-left (c .before .before .before .before .before .before .before .before .before .before)
-
-loop-less : tie.Need-loop-less Inv-loop μ-loop
-loop-less c = omega (arith, c .before .before .before .before .before .before .before .before .before .before .loop-test .taken)
-
-loop-again : tie.Need-loop-again Inv-loop μ-loop
-loop-again c =
-    let loop = c .before .before .before .before .before .before .before .before .before .before .before .loop in
-    let l = loop .inv in
-    let t = some-left (c .before .before .before .before .before .before .before .before .before .before) in
-    let a = c .advance .ensures in
-    record {
-      figure = figure-on (loop .position) _ (c .before .before .moved .given .0 .0) _ _ _ a t (l .figure);
-      wide = c .before .before .before .before .before .before .before .step .kept .1 .0 ∙ l .wide;
-      deep = c .before .before .before .before .before .before .before .step .kept .1 .1 .0 ∙ l .deep;
-      far = λ state i.
-          let f = l .far state i in
-          let s = (rw (l .wide) at (c .before .before .before .before .before .before .before .step .ensures)) (f .at) (f .stored) in
-          far-on _ _ _ _ _ _ _ _ _ f _ _ _ _ _ t a _ refl (rw (c .before .before .moved .given .1) at s);
-    }
-
-ends-requires : tie.Need-ends-requires Inv-loop μ-loop
-ends-requires c κs =
-    let p = c .before .before .before .before .pre in
-    let l = c .before .before .loop .inv in
-    (rw (l .wide) (p .0), rw (l .wide) (p .1 .0))
-
-enum-told-3 : tie.Need-enum-told-3 Inv-loop μ-loop
+enum-told-3 : tie.Need-enum-told-3
 enum-told-3 c = search needs
 
-back-requires : tie.Need-back-requires Inv-loop μ-loop
-back-requires c κs =
-    let p = c .before .before .before .before .before .before .before .before .before .pre in
-    let l = c .before .before .before .before .before .before .before .loop .inv in
-    let f = l .far (p .1 .1 .0 .state) (p .1 .1 .0 .stored) in
-    (rw (l .wide) (p .1 .0), record { state = f .at; stored = rw (l .wide) (f .stored) })
+-- after the first steps
+module _ (c : tie.After-run-scanned) where
+  abbrev s : tie.Start
+  s = c .before .before .before .before .before
 
-emptied-requires-2 : tie.Need-emptied-requires-2 Inv-loop μ-loop
-emptied-requires-2 c κs = search needs
+  abbrev few : ℕ
+  few = c .before .before .before .scanned-steps .result
 
-enum-told-4 : tie.Need-enum-told-4 Inv-loop μ-loop
-enum-told-4 c = search needs
+  wide : length (c .run-scanned .last .1 .0) ≡ length (s .args .values .now)
+  wide = c .run-scanned .kept .1 .0
 
-enum-told-5 : tie.Need-enum-told-5 Inv-loop μ-loop
-enum-told-5 c = search needs
+  -- where they are spent
+  spent : c .run-scanned .result .end ≡ Spent → (state : State)
+      → Stored (length (s .args .values .now)) state (s .args .values .now) (s .args .trail .now) (s .args .start .length)
+      → Onward (clausesOf (s .args .list .now)) (length (s .args .values .now)) few (s .args .budget) (stepsOf (s .args .start)) state
+      (c .run-scanned .result) (c .run-scanned .last .1 .0) (c .run-scanned .last .1 .1 .0)
+  spent e state i = onward _ _ few _ (c .before .before .before .scanned-steps .ensures .0) _ state _ _ _ e (c .run-scanned .ensures state i)
 
-same-length-5 : tie.Need-same-length-5 Inv-loop μ-loop
-same-length-5 c =
-    c .before .before .before .before .back .kept .0
-    ∙ c .before .before .before .before .before .before .before .before .before .before .before .before .loop .inv .wide
+sub-run-indexed : tie.Need-sub-run-indexed
+sub-run-indexed c = c .before .before .before .before .before .before .before .before .before .before .before .before .scanned-steps .ensures .0
 
-same-length-6 : tie.Need-same-length-6 Inv-loop μ-loop
-same-length-6 c =
-    c .before .before .before .before .back .kept .1 .0
-    ∙ c .before .before .before .before .before .before .before .before .before .before .before .before .loop .inv .deep
+run-indexed-requires : tie.Need-run-indexed-requires
+run-indexed-requires c κs =
+    let k = c .before .before .before .before .before .before .before .before .before in
+    let p = s k .pre in
+    let o = spent k (c .before .before .enum-told3 .given .1) (p .1 .1 .0 .state) (p .1 .1 .0 .stored) in
+    let r = c .before .before .before .before .before .before .before .before .before .before .before .before .scanned-steps .ensures in
+    let f = r .1 (omega (arith, r .0, c .before .before .before .before .before .if1 .left)) in (
+      rw (wide k) (p .0),
+      (
+        rw (wide k) (p .1 .0),
+        (
+          record { state = o .to; stored = rw (wide k) (o .stored) },
+          (omega (arith, o .figure, p .1 .1 .1, r .0), (omega (arith, wide k, f .0), f .1)),
+        ),
+      ),
+    )
 
-returns-3 : tie.Need-returns-3 Inv-loop μ-loop
+same-length-3 : tie.Need-same-length-3
+same-length-3 c = search needs
+
+same-length-4 : tie.Need-same-length-4
+same-length-4 c = search needs
+
+returns-2 : tie.Need-returns-2
+returns-2 c state i =
+    ended-early _ _ (few (c .before .before .before .before .before .before .before)) _ (c .before .before .before .before .before .before .before .before .before .before .scanned-steps .ensures .0) _ state _ _ _ (λ z. apart-none (sym (c .enum-told .given .1) ∙ z))
+    (c .before .before .before .before .before .before .before .run-scanned .ensures state i)
+
+same-length-5 : tie.Need-same-length-5
+same-length-5 c = search needs
+
+same-length-6 : tie.Need-same-length-6
+same-length-6 c = search needs
+
+returns-3 : tie.Need-returns-3
 returns-3 c state i =
-    let l = c .before .before .before .before .before .before .before .before .before .before .before .before .loop .inv in
-    let f = l .far state i in
-    let e = (rw (l .wide) at (c .before .before .before .before .before .before .before .before .before .ends .ensures)) (f .at)
-    (f .stored .was-open) (f .stored .values-are) in
-    let b = (rw (l .wide) at (c .before .before .before .before .back .ensures)) (f .at) (f .stored) in
-    let told = c .before .before .before .before .before .before .before .enum-told3 .given .1 in
-    rw told (far-emptied _ _ _ _ _ _ _ _ _ f _ _ _ _ _ refl (sym told ∙ e) (c .emptied2 .ensures) b)
+    ended-early _ _ (few (c .before .before .before .before .before .before .before)) _ (c .before .before .before .before .before .before .before .before .before .before .scanned-steps .ensures .0) _ state _ _ _ (λ z. apart-found (sym (c .enum-told2 .given .1) ∙ z))
+    (c .before .before .before .before .before .before .before .run-scanned .ensures state i)
 
-same-length-7 : tie.Need-same-length-7 Inv-loop μ-loop
-same-length-7 c = c .before .before .before .before .before .loop .inv .wide
+same-length-7 : tie.Need-same-length-7
+same-length-7 c = search needs
 
-same-length-8 : tie.Need-same-length-8 Inv-loop μ-loop
-same-length-8 c = c .before .before .before .before .before .loop .inv .deep
+same-length-8 : tie.Need-same-length-8
+same-length-8 c = search needs
 
-returns-4 : tie.Need-returns-4 Inv-loop μ-loop
+returns-4 : tie.Need-returns-4
 returns-4 c state i =
-    let l = c .before .before .before .before .before .loop .inv in
-    let f = l .far state i in
-    let e = (rw (l .wide) at (c .before .before .ends .ensures)) (f .at) (f .stored .was-open) (f .stored .values-are) in
-    rw (c .enum-told4 .given .1) (far-full _ _ _ _ _ _ _ _ _ f _ refl (sym (c .enum-told4 .given .1) ∙ e))
-
-same-length-9 : tie.Need-same-length-9 Inv-loop μ-loop
-same-length-9 c = c .before .before .before .before .before .loop .inv .wide
-
-same-length-10 : tie.Need-same-length-10 Inv-loop μ-loop
-same-length-10 c = c .before .before .before .before .before .loop .inv .deep
-
-returns-5 : tie.Need-returns-5 Inv-loop μ-loop
-returns-5 c state i =
-    let l = c .before .before .before .before .before .loop .inv in
-    let f = l .far state i in
-    let e = (rw (l .wide) at (c .before .before .ends .ensures)) (f .at) (f .stored .was-open) (f .stored .values-are) in
-    let told = c .enum-told5 .given .1 in
-    rw told (far-spent _ _ _ _ _ _ _ _ _ f _ (c .before .before .before .before .loop-test .left) refl (sym told ∙ e))
+    let k = c .before .before .before .before .before .before .before .before .before .before .before .before .before in
+    let o = spent k (c .before .before .before .before .before .before .enum-told3 .given .1) state i in
+    let e = (rw (wide k) at (c .before .before .before .run-indexed .ensures)) (o .to) (o .stored) in
+    rw (o .alike) at e
 
 pub run-spec : {M : Type 1} → statement M
 run-spec =
     tie.close
-    (tie.spec Inv-loop μ-loop loop-holds step-requires enum-told emptied-requires same-length same-length-2 returns enum-told-2
-    same-length-3 same-length-4 returns-2 enum-known-moved advance-requires sub-left loop-less loop-again ends-requires
-    enum-told-3 back-requires emptied-requires-2 enum-told-4 enum-told-5 same-length-5 same-length-6 returns-3
-    same-length-7 same-length-8 returns-4 same-length-9 same-length-10 returns-5)
+    (tie.spec scanned-steps-requires run-scanned-requires same-length same-length-2 returns enum-told enum-told-2 enum-told-3 sub-run-indexed run-indexed-requires same-length-3 same-length-4 returns-2 same-length-5 same-length-6 returns-3 same-length-7 same-length-8 returns-4)

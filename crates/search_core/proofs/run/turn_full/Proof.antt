@@ -19,8 +19,8 @@ use Rattle.search_core.proofs.run.turn_full.Tie as tie
 any-decision-requires : tie.Need-any-decision-requires
 any-decision-requires c κs = search needs
 
-back-requires : tie.Need-back-requires
-back-requires c κs = search needs
+back-scanned-requires : tie.Need-back-scanned-requires
+back-scanned-requires c κs = search needs
 
 emptied-requires : tie.Need-emptied-requires
 emptied-requires c κs = search needs
@@ -37,7 +37,7 @@ returns c state i full =
     let d = c .before .before .before .before .before .before .before .before .any-decision .ensures in
     let s : tie.Start = c .before .before .before .before .before .before .before .before .before .before .before in
     full-none _ _ state full (s .args .start) _ _ _ _ _ (no-turn _ state _ _ _ i (sym d ∙ not-true _ t)) (c .emptied .ensures)
-    (c .before .before .before .before .back .ensures state i)
+    (c .before .before .before .before .back-scanned .ensures state i)
 
 same-length-3 : tie.Need-same-length-3
 same-length-3 c = search needs
@@ -48,8 +48,8 @@ returns-2 c state i full =
     let s : tie.Start = c .before .before .before .before .before in
     full-waits _ _ state full (s .args .start) _ (t .0) _ _ (t .1) (c .if2 .taken) i
 
-back-requires-2 : tie.Need-back-requires-2
-back-requires-2 c κs = search needs
+back-scanned-requires-2 : tie.Need-back-scanned-requires-2
+back-scanned-requires-2 c κs = search needs
 
 advance-requires : tie.Need-advance-requires
 advance-requires c κs =
@@ -71,13 +71,13 @@ module _ (c : tie.After-run-arg2) where
 
   goes-to : (state : State) → Stored (length (s .args .values .now)) state (s .args .values .now) (s .args .trail .now) (s .args .start .length)
       → Turns (length (s .args .values .now)) state (c .before .before .advance .result .length)
-      (c .before .before .before .before .before .before .back2 .last .0) (c .before .before .before .before .before .before .back2 .last .1 .0)
+      (c .before .before .before .before .before .before .back-scanned2 .last .1 .0) (c .before .before .before .before .before .before .back-scanned2 .last .1 .1 .0)
   goes-to state i =
       turned _ state _ _ _ i _ _ _ _ _ some-decision (c .before .before .advance .ensures)
-      (c .before .before .before .before .before .before .back2 .ensures state i)
+      (c .before .before .before .before .before .before .back-scanned2 .ensures state i)
 
-  wide : length (c .before .before .before .before .before .before .back2 .last .0) ≡ length (s .args .values .now)
-  wide = c .before .before .before .before .before .before .back2 .kept .0
+  wide : length (c .before .before .before .before .before .before .back-scanned2 .last .1 .0) ≡ length (s .args .values .now)
+  wide = c .before .before .before .before .before .before .back-scanned2 .kept .1 .0
 
   -- the turn is counted
   figure : total (stepsOf (c .before .before .advance .result)) ≡ suc (total (stepsOf (s .args .start)))
@@ -115,5 +115,5 @@ returns-3 c state i full =
 pub turn-full-spec : {M : Type 1} → statement M
 turn-full-spec =
     tie.close
-    (tie.spec any-decision-requires back-requires emptied-requires same-length same-length-2 returns same-length-3 returns-2 back-requires-2
+    (tie.spec any-decision-requires back-scanned-requires emptied-requires same-length same-length-2 returns same-length-3 returns-2 back-scanned-requires-2
     advance-requires sub-run run-requires same-length-4 same-length-5 returns-3)

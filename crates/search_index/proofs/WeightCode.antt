@@ -1,0 +1,161 @@
+-- What the code of the weights comes to, step by step.
+use mathlib.Core.Path.{_≡_, refl, sym, _∙_, ap}
+use mathlib.Core.Bool.{true, false, cond}
+use mathlib.Core.Logic.{⊎-elim}
+use mathlib.Core.List.{List}
+use Prim.Native.Nat.{ℕ, zero, suc, _+_, _-_, _/_, _<_, _≤_}
+use native.Mathlib.Omega.{arith}
+use lib.Dec.{eqb}
+use lib.IntN.{ℤ, pos, negsuc, natAbs}
+use lib.ListN.{length, getD, set, length-set}
+use lib.Seq.{getD-set-same, getD-set-other}
+use borrow.Author.Tests.{le-leb, eq-eqb, ne-eqb}
+use Rattle.literal.specs.Literals.{isPositive}
+use Rattle.search_rules.specs.Held.{InRange}
+use Rattle.search_rules.specs.Rules.{falsified, truthOf, negated}
+use Rattle.search_scan.proofs.Words.{is-above, is-below}
+use Rattle.search_index.specs.Index.{limit, literalWeight, byteSays, mixed, told, flagAt, falsesAt, one, Noted, Put}
+use Rattle.search_index.proofs.Spots.{same-or-not}
+
+-- the status of what stands for a clause that names a variable twice
+pub told-above : (w : ℕ) → mixed ≤ w → w - mixed ≡ told w
+unfolding told
+told-above w h = rw (le-leb mixed w h) refl
+
+-- The weight of a literal: z is the literal as the machine has it, x its variable's byte.
+other-byte : (x : ℕ) → (x ≡ 1 → ⊥) → (x ≡ 2 → ⊥) → truthOf x ≡ falsified
+unfolding truthOf
+other-byte zero p q = refl
+other-byte (suc zero) p q = absurd (p refl)
+other-byte (suc (suc zero)) p q = absurd (q refl)
+other-byte (suc (suc (suc n))) p q = refl
+
+pub weighs-open : (x : ℕ) (l : ℤ) → x ≡ 2 → 1 ≡ literalWeight (byteSays x l)
+unfolding byteSays truthOf negated literalWeight
+weighs-open x (pos n) e = rw e refl
+weighs-open x (negsuc n) e = rw e refl
+
+module _ (x : ℕ) (z l : ℤ) (e : z ≡ l) (r : 1 ≤ natAbs l) where
+  within : InRange (natAbs l) l
+  within = (r, omega arith)
+
+  says-above : isPositive z ≡ true → byteSays x l ≡ truthOf x
+  unfolding byteSays
+  says-above t = rw (is-above (natAbs l) z l e within t .1) refl
+
+  says-below : isPositive z ≡ false → byteSays x l ≡ negated (truthOf x)
+  unfolding byteSays
+  says-below t = rw (is-below (natAbs l) z l e within t .1) refl
+
+  pub weighs-true-above : isPositive z ≡ true → x ≡ 1 → 2 ≡ literalWeight (byteSays x l)
+  unfolding truthOf literalWeight
+  weighs-true-above t q = sym (ap literalWeight (says-above t ∙ ap truthOf q))
+
+  pub weighs-false-above : isPositive z ≡ true → (x ≡ 1 → ⊥) → (x ≡ 2 → ⊥) → 0 ≡ literalWeight (byteSays x l)
+  unfolding literalWeight
+  weighs-false-above t q s = sym (ap literalWeight (says-above t ∙ other-byte x q s))
+
+  pub weighs-false-below : isPositive z ≡ false → x ≡ 1 → 0 ≡ literalWeight (byteSays x l)
+  unfolding truthOf negated literalWeight
+  weighs-false-below t q = sym (ap literalWeight (says-below t ∙ ap (λ y. negated (truthOf y)) q))
+
+  pub weighs-true-below : isPositive z ≡ false → (x ≡ 1 → ⊥) → (x ≡ 2 → ⊥) → 2 ≡ literalWeight (byteSays x l)
+  unfolding negated literalWeight
+  weighs-true-below t q s = sym (ap literalWeight (says-below t ∙ ap negated (other-byte x q s)))
+
+-- the number of false clauses
+abbrev pub bit : ℕ → ℕ
+bit s = cond (eqb s 1) 1 0
+
+pub bit-one : (s : ℕ) → s ≡ 1 → bit s ≡ 1
+bit-one s e = rw (eq-eqb s 1 e) refl
+
+pub bit-zero : (s : ℕ) → (s ≡ 1 → ⊥) → bit s ≡ 0
+bit-zero s n = rw (ne-eqb s 1 n) refl
+
+pub recount-same : (falses old new : ℕ) → old ≡ new → falses + bit old ≡ falses + bit new
+recount-same falses old new e = ap (λ (s : ℕ). falses + bit s) e
+
+pub recount-more : (falses old new : ℕ) → (old ≡ new → ⊥) → new ≡ 1 → (falses + 1) + bit old ≡ falses + bit new
+recount-more falses old new n e = omega (arith, bit-zero old (λ q. n (q ∙ sym e)), bit-one new e)
+
+pub recount-less : (falses old new : ℕ) → (new ≡ 1 → ⊥) → old ≡ 1 → 1 ≤ falses → (falses - 1) + bit old ≡ falses + bit new
+recount-less falses old new n e l = omega (arith, bit-zero new n, bit-one old e, l)
+
+pub recount-none : (falses old new : ℕ) → (new ≡ 1 → ⊥) → (old ≡ 1 → ⊥) → falses + bit old ≡ falses + bit new
+recount-none falses old new n m = omega (arith, bit-zero new n, bit-zero old m)
+
+-- The flag of a block is up, where it is to be.
+pub record Raised (weights : List ℕ) (c new : ℕ) (mid : List ℕ) : Type 0 where
+  pub long : length mid ≡ length weights
+  pub weights-are : (d : ℕ) → d < limit → getD mid d 0 ≡ getD weights d 0
+  pub raised : new ≡ 2 → flagAt mid (c / 64) ≡ 1
+  pub kept : (b : ℕ) → b < 256 → flagAt weights b ≡ 1 → flagAt mid b ≡ 1
+  pub falses-are : falsesAt mid ≡ falsesAt weights
+
+pub raise : (weights mid : List ℕ) (c new : ℕ) → length weights ≡ 16641 → c < limit → mid ≡ set weights (16384 + c / 64) 1 → Raised weights c new mid
+raise weights mid c new l h e = rw e (record {
+  long = length-set weights (16384 + c / 64) 1;
+  weights-are = λ d b. getD-set-other weights (16384 + c / 64) d 1 0 (λ q. absurd (omega (arith, q, b)));
+  raised = λ _. getD-set-same weights (16384 + c / 64) 1 0 (omega (arith, l, h));
+  kept = λ b k u. ⊎-elim
+      (λ q. ap (λ (j : ℕ). getD (set weights (16384 + c / 64) 1) (16384 + j) 0) q ∙ getD-set-same weights (16384 + c / 64) 1 0 (omega (arith, l, h)))
+      (λ n. getD-set-other weights (16384 + c / 64) (16384 + b) 1 0 (λ q. n (omega (arith, q))) ∙ u) (same-or-not b (c / 64));
+  falses-are = getD-set-other weights (16384 + c / 64) 16640 1 0 (λ q. absurd (omega (arith, q, h)));
+})
+
+pub leave : (weights mid : List ℕ) (c new : ℕ) → (new ≡ 2 → ⊥) → mid ≡ weights → Raised weights c new mid
+leave weights mid c new n e = rw e (record {
+  long = refl;
+  weights-are = λ d b. refl;
+  raised = λ q. absurd (n q);
+  kept = λ b k u. u;
+  falses-are = refl;
+})
+
+pub noted : (weights mid : List ℕ) (c old new r : ℕ) → length weights ≡ 16641 → c < limit → Raised weights c new mid
+    → r + bit old ≡ falsesAt mid + bit new → Noted weights c old new (set mid 16640 r)
+noted weights mid c old new r l h m e = record {
+  long = length-set mid 16640 r ∙ m .long;
+  weights-are = λ d b. getD-set-other mid 16640 d r 0 (λ q. absurd (omega (arith, q, b))) ∙ m .weights-are d b;
+  raised = λ q. getD-set-other mid 16640 (16384 + c / 64) r 0 (λ k. absurd (omega (arith, k, h))) ∙ m .raised q;
+  kept = λ b k u. getD-set-other mid 16640 (16384 + b) r 0 (λ q. absurd (omega (arith, q, k))) ∙ m .kept b k u;
+  counted = omega (arith, e, m .falses-are, getD-set-same mid 16640 r 0 (omega (arith, l, m .long)));
+}
+
+-- Something else stands for clause c: the statuses are those that the weights tell.
+module _ (weights : List ℕ) (c w : ℕ) (l : length weights ≡ 16641) (h : c < limit) where
+  at-other : (i : ℕ) → (i ≡ c → ⊥) → getD (set weights c w) i 0 ≡ getD weights i 0
+  at-other i n = getD-set-other weights c i w 0 n
+
+  falses-kept : falsesAt (set weights c w) ≡ falsesAt weights
+  falses-kept = at-other 16640 (λ q. absurd (omega (arith, q, h)))
+
+  pub note-asks : (old : ℕ) → old ≡ told (getD weights c 0) → one (getD weights c 0) ≤ falsesAt weights → falsesAt weights ≤ limit
+      → (falsesAt (set weights c w) ≤ limit) × (old ≡ 1 → 1 ≤ falsesAt (set weights c w))
+  unfolding one
+  note-asks old e a b =
+      (omega (arith, falses-kept, b), λ q. omega (arith, falses-kept, a, bit-one (told (getD weights c 0)) (sym e ∙ q)))
+
+  pub put-noted : (weights' : List ℕ) (old new : ℕ) → old ≡ told (getD weights c 0) → new ≡ told w → Noted (set weights c w) c old new weights'
+      → Put weights c w weights'
+  unfolding one
+  put-noted weights' old new o n m = record {
+    long = m .long ∙ length-set weights c w;
+    here = m .weights-are c h ∙ getD-set-same weights c w 0 (omega (arith, l, h));
+    others = λ d b q. m .weights-are d b ∙ at-other d q;
+    raised = λ t _. m .raised (n ∙ t);
+    kept = λ b k u. m .kept b k (at-other (16384 + b) (λ q. absurd (omega (arith, q, h))) ∙ u);
+    counted = omega (arith, m .counted, falses-kept, ap bit o, ap bit n);
+  }
+
+  pub put-same : told w ≡ told (getD weights c 0) → Put weights c w (set weights c w)
+  unfolding one
+  put-same e = record {
+    long = length-set weights c w;
+    here = getD-set-same weights c w 0 (omega (arith, l, h));
+    others = λ d b q. at-other d q;
+    raised = λ t q. absurd (q (sym e ∙ t));
+    kept = λ b k u. at-other (16384 + b) (λ q. absurd (omega (arith, q, h))) ∙ u;
+    counted = omega (arith, falses-kept, ap bit e);
+  }

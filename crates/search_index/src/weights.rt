@@ -1,0 +1,213 @@
+// What stands for each clause: its weight or, where it names a variable twice, its status. Behind them a flag for each block of 64 clauses, which
+// is up where one of them is a unit clause, and the number of false clauses.
+ghost use mathlib.Core.Path.{_≡_};
+ghost use mathlib.Core.Bool.{cond};
+ghost use mathlib.Core.List.{[], _∷_};
+ghost use mathlib.Core.Logic.{_⊎_};
+ghost use Prim.Native.Nat.{ℕ, _+_, _*_, _<_, _≤_, _^_};
+ghost use lib.Dec.{eqb};
+ghost use lib.IntN.{natAbs};
+ghost use lib.ListN.{length, getD};
+ghost use Rattle.clause_list.specs.ClauseList.{clausesOf};
+ghost use Rattle.literal.specs.Literals.{lastVariable};
+ghost use Rattle.search_rules.specs.Inner.{Fine};
+ghost use Rattle.search_scan.specs.Seen.{seenAs, seen};
+ghost use Rattle.search_index.specs.Index.{limit, clauseAt, IsHead, literalWeight, byteSays, weightOf, statusOf, mixed, told, falsesAt, one, Tallied, Noted, Put, Stopped, Same};
+use crate::chains::LIMIT;
+use search_scan::Seen;
+use search_scan::scan;
+
+const BLOCK: usize = 64;
+
+const FLAGS: usize = LIMIT;
+
+const FALSES: usize = LIMIT + LIMIT / BLOCK;
+
+const MIXED: u16 = 32768;
+
+// Weights of no clause.
+pub fn blank_weights() -> [u16; FALSES + 1]
+    ensures { λ r. ⌜ (length r ≡ 16641) × ((k : ℕ) → getD r k 0 ≡ 0) ⌝ }
+{
+    [0u16; FALSES + 1]
+}
+
+// The weight of a literal whose variable has this byte: false 0, open 1, true 2.
+pub fn literal_weight(x: u8, l: i32) -> u16
+    requires { ⌜ 1 ≤ natAbs l ⌝ }
+    ensures { λ r. ⌜ r ≡ literalWeight (byteSays x l) ⌝ }
+{
+    if x == 2 {
+        return 1;
+    }
+    if literal::is_positive(l) {
+        if x == 1 { 2 } else { 0 }
+    } else {
+        if x == 1 { 0 } else { 2 }
+    }
+}
+
+// The weight of the clause at a head.
+pub fn weigh(list: &[i32], values: &[u8], head: usize) -> u16
+    requires { ⌜ Fine (length (now values)) (now list) ⌝ }
+    requires { ⌜ length (now values) ≤ lastVariable ⌝ }
+    requires { ⌜ length (now list) ≤ limit ⌝ }
+    requires { ⌜ IsHead (clausesOf (now list)) head ⌝ }
+    ensures { λ r. ⌜ ((h : IsHead (clausesOf (now (list .entry))) head)
+        → r ≡ weightOf (now (values .entry)) (clauseAt (clausesOf (now (list .entry))) (h .c))) ⌝ }
+{
+    let end = head + 1 + literal::known_count(list[head]);
+    let mut w: u16 = 1;
+    let mut i = head + 1;
+    while i < end {
+        let l = list[i];
+        let x = values[literal::place(l)];
+        w += literal_weight(x, l);
+        i += 1;
+    }
+    w
+}
+
+// What the values say of the clause at a head.
+pub fn sight(list: &[i32], values: &[u8], head: usize) -> Seen
+    requires { ⌜ Fine (length (now values)) (now list) ⌝ }
+    requires { ⌜ length (now values) ≤ lastVariable ⌝ }
+    requires { ⌜ IsHead (clausesOf (now list)) head ⌝ }
+    ensures { λ r. ⌜ ((h : IsHead (clausesOf (now (list .entry))) head)
+        → seenAs r ≡ seen (now (values .entry)) (clauseAt (clausesOf (now (list .entry))) (h .c) ∷ [])) ⌝ }
+{
+    let end = head + 1 + literal::known_count(list[head]);
+    scan(&list[head..end], values)
+}
+
+// What stands for the clause at a head where it names a variable twice.
+pub fn look_up(list: &[i32], values: &[u8], head: usize) -> u16
+    requires { ⌜ Fine (length (now values)) (now list) ⌝ }
+    requires { ⌜ length (now values) ≤ lastVariable ⌝ }
+    requires { ⌜ IsHead (clausesOf (now list)) head ⌝ }
+    ensures { λ r. ⌜ ((h : IsHead (clausesOf (now (list .entry))) head)
+        → r ≡ mixed + statusOf (now (values .entry)) (clauseAt (clausesOf (now (list .entry))) (h .c))) ⌝ }
+{
+    let seen = sight(list, values, head);
+    match seen {
+        Seen::Conflict => MIXED + 1,
+        Seen::UnitClause(_) => MIXED + 2,
+        Seen::Neither => MIXED + 3,
+    }
+}
+
+// The status that a weight tells: 1 false, 2 unit, 3 neither; 0 stands for no clause.
+pub fn status(w: u16) -> u16
+    ensures { λ r. ⌜ r ≡ told w ⌝ }
+{
+    if w >= MIXED {
+        return w - MIXED;
+    }
+    if w >= 3 {
+        return 3;
+    }
+    w
+}
+
+// The number of false clauses where a clause of one status gets another.
+fn recount(falses: u16, old: u16, new: u16) -> u16
+    requires { ⌜ (falses ≤ limit) × (old ≡ 1 → 1 ≤ falses) ⌝ }
+    ensures { λ r. ⌜ r + cond (eqb old 1) 1 0 ≡ falses + cond (eqb new 1) 1 0 ⌝ }
+{
+    if old == new {
+        return falses;
+    }
+    if new == 1 {
+        return falses + 1;
+    }
+    if old == 1 {
+        return falses - 1;
+    }
+    falses
+}
+
+// The flag of the block of clause c and the number of false clauses follow its status.
+fn note_status(weights: &mut [u16], c: usize, old: u16, new: u16)
+    requires { ⌜ (length (now weights) ≡ 16641) × (c < limit) ⌝ }
+    requires { ⌜ (falsesAt (now weights) ≤ limit) × (old ≡ 1 → 1 ≤ falsesAt (now weights)) ⌝ }
+    ensures { λ r. ⌜ Noted (now (weights .entry)) c old new (now (weights .exit)) ⌝ }
+{
+    if new == 2 {
+        weights[FLAGS + c / BLOCK] = 1;
+    }
+    let falses = weights[FALSES];
+    weights[FALSES] = recount(falses, old, new);
+}
+
+// Something else stands for clause c.
+pub fn put(weights: &mut [u16], c: usize, w: u16)
+    requires { ⌜ (length (now weights) ≡ 16641) × (c < limit) ⌝ }
+    requires { ⌜ (one (getD (now weights) c 0) ≤ falsesAt (now weights)) × (falsesAt (now weights) ≤ limit) ⌝ }
+    ensures { λ r. ⌜ Put (now (weights .entry)) c w (now (weights .exit)) ⌝ }
+{
+    let old = status(weights[c]);
+    let new = status(w);
+    weights[c] = w;
+    if new != old {
+        note_status(weights, c, old, new);
+    }
+}
+
+// The first unit clause from one on and below another, or the latter.
+fn unit_within(weights: &[u16], from: usize, end: usize) -> usize
+    requires { ⌜ (length (now weights) ≡ 16641) × (from ≤ end) × (end ≤ limit) ⌝ }
+    ensures { λ r. ⌜ Stopped (now (weights .entry)) from end r ⌝ }
+{
+    let mut c = from;
+    while c < end {
+        if status(weights[c]) == 2 {
+            return c;
+        }
+        c += 1;
+    }
+    c
+}
+
+// The first unit clause of m clauses, or m. A flag that is up for no unit clause is lowered.
+pub fn first_unit(weights: &mut [u16], m: usize) -> usize
+    requires { ⌜ Tallied (now weights) m ⌝ }
+    requires { ⌜ m ≤ limit ⌝ }
+    ensures { λ r. ⌜ Stopped (now (weights .entry)) 0 m r ⌝ }
+    ensures { λ r. ⌜ Same (now (weights .entry)) (now (weights .exit)) × Tallied (now (weights .exit)) m ⌝ }
+{
+    let mut b: usize = 0;
+    let mut at: usize = 0;
+    while at < m {
+        if weights[FLAGS + b] == 1 {
+            let end = lesser(at + BLOCK, m);
+            let c = unit_within(weights, at, end);
+            if c < end {
+                return c;
+            }
+            weights[FLAGS + b] = 0;
+        }
+        b += 1;
+        at += BLOCK;
+    }
+    m
+}
+
+fn lesser(a: usize, b: usize) -> usize
+    ensures { λ r. ⌜ (r ≤ a) × (r ≤ b) × ((r ≡ a) ⊎ (r ≡ b)) ⌝ }
+{
+    if a < b { a } else { b }
+}
+
+// The number of false clauses.
+pub fn falses(weights: &[u16]) -> usize
+    requires { ⌜ length (now weights) ≡ 16641 ⌝ }
+    ensures { λ r. ⌜ r ≡ falsesAt (now (weights .entry)) ⌝ }
+{
+    wide(weights[FALSES])
+}
+
+fn wide(x: u16) -> usize
+    ensures { λ r. ⌜ r ≡ x ⌝ }
+{
+    x as usize
+}
