@@ -208,10 +208,8 @@ fn run_indexed(
     go(list, values, trail, start, budget, &chains, &mut weights)
 }
 
-// So many words are read by the scan, or 8 steps done by it, before an index pays.
-const SCANNED: u64 = 32768;
-
-// How many of a budget's steps scan the list: all where it is too long for an index or has too many variables, else the first few.
+// How many of a budget's steps scan the list: all where it is too long for an index or has too many variables, else the first few. Before an
+// index pays, the scan has done some steps, and read as many words as the longest list has that is indexed.
 fn scanned_steps(words: usize, v: usize, budget: u64) -> u64
     ensures { λ r. ⌜ (r ≤ budget) × (r < budget → (v ≤ limit) × (words ≤ limit)) ⌝ }
 {
@@ -221,7 +219,7 @@ fn scanned_steps(words: usize, v: usize, budget: u64) -> u64
     if v > LIMIT {
         return budget;
     }
-    let few = 8 + SCANNED / (words as u64 + 1);
+    let few = (8 + LIMIT / (words + 1)) as u64;
     if budget < few {
         return budget;
     }

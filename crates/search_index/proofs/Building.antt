@@ -28,7 +28,7 @@ pub record Built (clauses : List (List ℤ)) (values chains weights : List ℕ) 
 
 module _ (clauses : List (List ℤ)) (values : List ℕ) where
   pub built-first : (chains weights : List ℕ) → length chains ≡ 65537 → ((k : ℕ) → getD chains k 0 ≡ 0)
-      → length weights ≡ 16641 → ((k : ℕ) → getD weights k 0 ≡ 0) → Built clauses values chains weights 0 0
+      → length weights ≡ 17410 → ((k : ℕ) → getD weights k 0 ≡ 0) → Built clauses values chains weights 0 0
   built-first chains weights long blank room none = record {
     linked = record { long = long; chained = chained-none clauses _ _ _ blank };
     place = sym (head-zero clauses);

@@ -5,24 +5,24 @@ use mathlib.Core.List.{List}
 use Prim.Native.Nat.{ℕ, _+_, _*_, _/_, _<_, _≤_}
 use native.Mathlib.Omega.{arith}
 use lib.ListN.{length, getD, set, length-set}
-use lib.Seq.{getD-set-other}
-use Rattle.search_index.specs.Index.{limit, told, flagAt, falsesAt, Tallied, Stopped, Same}
+use lib.Seq.{getD-set-same, getD-set-other}
+use Rattle.search_index.specs.Index.{limit, told, flagAt, falsesAt, lowAt, Up, Tallied, Stopped, Same}
 use Rattle.search_index.proofs.Spots.{same-or-not, below-or}
 use Rattle.search_index.proofs.Tallies.{falses-same}
 
 -- up to block b, where clause `at` is the first, there is no unit clause
 pub record Searched (weights₀ : List ℕ) (m : ℕ) (weights : List ℕ) (b at : ℕ) : Type 0 where
-  pub first : at ≡ 64 * b
+  pub first : at ≡ 16 * b
   pub same : Same weights₀ weights
   pub tallied : Tallied weights m
   pub passed : (c : ℕ) → c < at → c < m → told (getD weights c 0) ≡ 2 → ⊥
 
-pub search-start : (weights : List ℕ) (m : ℕ) → Tallied weights m → Searched weights m weights 0 0
-search-start weights m t = record {
-  first = refl;
+pub search-start : (weights : List ℕ) (m b at : ℕ) → Tallied weights m → b ≡ lowAt weights → at ≡ 16 * b → Searched weights m weights b at
+search-start weights m b at t e f = record {
+  first = f;
   same = record { long = refl; weights-are = λ c l. refl; falses-are = refl };
   tallied = t;
-  passed = λ c l. absurd (omega (arith, l));
+  passed = λ c l k o. absurd (omega (arith, l, f, e, t .flagged c k o .1));
 }
 
 module _ (weights₀ : List ℕ) (m : ℕ) (weights : List ℕ) (b at : ℕ) (few : m ≤ limit) (s : Searched weights₀ m weights b at) where
@@ -44,18 +44,18 @@ module _ (weights₀ : List ℕ) (m : ℕ) (weights : List ℕ) (b at : ℕ) (fe
     long-enough = omega (arith, s .tallied .long, s .first, inside, few)
 
     -- the flag is down
-    pub search-down : (flagAt weights b ≡ 1 → ⊥) → Searched weights₀ m weights (b + 1) (at + 64)
+    pub search-down : (flagAt weights b ≡ 1 → ⊥) → Searched weights₀ m weights (b + 1) (at + 16)
     search-down n = record {
       first = omega (arith, s .first);
       same = s .same;
       tallied = s .tallied;
       passed = λ c l k e. ⊎-elim (λ u. s .passed c u k e)
-          (λ u. let d : c / 64 ≡ b = omega (arith, u, l, s .first) in
-          n (sym (ap (flagAt weights) d) ∙ s .tallied .flagged c k e)) (below-or c at);
+          (λ u. let d : c / 16 ≡ b = omega (arith, u, l, s .first) in
+          n (sym (ap (flagAt weights) d) ∙ s .tallied .flagged c k e .0)) (below-or c at);
     }
 
     -- the flag is up: the clauses of the block are looked at
-    module _ (end r : ℕ) (less : end ≤ at + 64) (most : end ≤ m) (is : (end ≡ at + 64) ⊎ (end ≡ m)) (stop : Stopped weights at end r) where
+    module _ (end r : ℕ) (less : end ≤ at + 16) (most : end ≤ m) (is : (end ≡ at + 16) ⊎ (end ≡ m)) (stop : Stopped weights at end r) where
       pub search-found : r < end → Stopped weights₀ 0 m r × (Same weights₀ weights × Tallied weights m)
       search-found l = (
         record {
@@ -75,19 +75,23 @@ module _ (weights₀ : List ℕ) (m : ℕ) (weights : List ℕ) (b at : ℕ) (fe
       low-at c l = getD-set-other weights (16384 + b) c 0 0 (λ q. absurd (omega (arith, q, l)))
 
       low-falses : falsesAt lowered ≡ falsesAt weights
-      low-falses = getD-set-other weights (16384 + b) 16640 0 0 (λ q. absurd (omega (arith, q, s .first, inside, few)))
+      low-falses = getD-set-other weights (16384 + b) 17408 0 0 (λ q. absurd (omega (arith, q, s .first, inside, few)))
 
-      none-here : end ≤ r → (c : ℕ) → at ≤ c → c < at + 64 → c < m → told (getD weights c 0) ≡ 2 → ⊥
+      none-here : end ≤ r → (c : ℕ) → at ≤ c → c < at + 16 → c < m → told (getD weights c 0) ≡ 2 → ⊥
       none-here l c a k n e = stop .passed c a (⊎-elim (λ q. omega (arith, q, k, l)) (λ q. omega (arith, q, n, l)) is) e
 
-      none-flagged : end ≤ r → (c : ℕ) → c < m → told (getD lowered c 0) ≡ 2 → flagAt lowered (c / 64) ≡ 1
+      low-low : lowAt lowered ≡ lowAt weights
+      low-low = getD-set-other weights (16384 + b) 17409 0 0 (λ q. absurd (omega (arith, q, s .first, inside, few)))
+
+      none-flagged : end ≤ r → (c : ℕ) → c < m → told (getD lowered c 0) ≡ 2 → Up lowered (c / 16)
       none-flagged l c k e =
           let t = sym (ap told (low-at c (omega (arith, k, few)))) ∙ e in
           ⊎-elim (λ d. absurd (none-here l c (omega (arith, d, s .first)) (omega (arith, d, s .first)) k t))
-          (λ d. getD-set-other weights (16384 + b) (16384 + c / 64) 0 0 (λ q. d (omega (arith, q))) ∙ s .tallied .flagged c k t)
-          (same-or-not (c / 64) b)
+          (λ d. let u = s .tallied .flagged c k t in
+          (getD-set-other weights (16384 + b) (16384 + c / 16) 0 0 (λ q. d (omega (arith, q))) ∙ u .0, omega (arith, low-low, u .1)))
+          (same-or-not (c / 16) b)
 
-      pub search-lowered : (weights' : List ℕ) → weights' ≡ lowered → end ≤ r → Searched weights₀ m weights' (b + 1) (at + 64)
+      pub search-lowered : (weights' : List ℕ) → weights' ≡ lowered → end ≤ r → Searched weights₀ m weights' (b + 1) (at + 16)
       search-lowered weights' q l = rw q (record {
         first = omega (arith, s .first);
         same = record {
@@ -104,3 +108,34 @@ module _ (weights₀ : List ℕ) (m : ℕ) (weights : List ℕ) (b at : ℕ) (fe
         passed = λ c k n e. let t = sym (ap told (low-at c (omega (arith, n, few)))) ∙ e in
             ⊎-elim (λ u. s .passed c u n t) (λ u. none-here l c u k n t) (below-or c at);
       })
+
+-- the next search begins at the block where this one stopped
+pub begins-there : (weights₀ weights : List ℕ) (m r : ℕ) → m ≤ limit → Stopped weights₀ 0 m r → Same weights₀ weights → Tallied weights m
+    → Same weights₀ (set weights 17409 (r / 16)) × Tallied (set weights 17409 (r / 16)) m
+begins-there weights₀ weights m r few stop same tallied = (
+  record {
+    long = length-set weights 17409 (r / 16) ∙ same .long;
+    weights-are = λ c l. other c (λ q. absurd (omega (arith, q, l))) ∙ same .weights-are c l;
+    falses-are = other 17408 (λ q. absurd (omega (arith, q))) ∙ same .falses-are;
+  },
+  record {
+    long = length-set weights 17409 (r / 16) ∙ tallied .long;
+    flagged = λ c k e.
+        let t = sym (ap told (at c k)) ∙ e in
+        (other (16384 + c / 16) (λ q. absurd (omega (arith, q, k, few))) ∙ tallied .flagged c k t .0, low c k t);
+    counted = other 17408 (λ q. absurd (omega (arith, q))) ∙ tallied .counted ∙ sym (falses-same m (λ c. getD weights c 0) _ (λ c k. at c k));
+  },
+)
+  where
+    other : (i : ℕ) → (i ≡ 17409 → ⊥) → getD (set weights 17409 (r / 16)) i 0 ≡ getD weights i 0
+    other i n = getD-set-other weights 17409 i (r / 16) 0 n
+
+    at : (c : ℕ) → c < m → getD (set weights 17409 (r / 16)) c 0 ≡ getD weights c 0
+    at c k = other c (λ q. absurd (omega (arith, q, k, few)))
+
+    -- a unit clause is not before the one where it stopped
+    low : (c : ℕ) → c < m → told (getD weights c 0) ≡ 2 → lowAt (set weights 17409 (r / 16)) ≤ c / 16
+    low c k t =
+        let is = getD-set-same weights 17409 (r / 16) 0 (omega (arith, tallied .long)) in
+        ⊎-elim (λ u. absurd (stop .passed c (omega arith) u (sym (ap told (same .weights-are c (omega (arith, k, few)))) ∙ t))) (λ u. omega (arith, is, u))
+        (below-or c r)

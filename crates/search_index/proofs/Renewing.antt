@@ -22,7 +22,7 @@ was-weight : (values : List ℕ) (clause : List ℤ) (w : ℕ) → w < mixed →
 was-weight values clause w h (was-weighed a e) = (a, e)
 was-weight values clause w h (was-looked b) = absurd (omega (arith, h, b))
 
-module _ (list : List ℤ) (values : List ℕ) (fine : Fine (length values) list) (was i w : ℕ) (d : Due (clausesOf list) values was i w) where
+module _ (list : List ℤ) (values : List ℕ) (fine : Fine (length values) list) (p was i w : ℕ) (d : Due (clausesOf list) values p was i w) where
   abbrev clauses : List (List ℤ)
   clauses = clausesOf list
 
@@ -36,7 +36,7 @@ module _ (list : List ℤ) (values : List ℕ) (fine : Fine (length values) list
   words = words-are (length values) list fine
 
   pub word-within : i < length list
-  word-within = omega (arith, ap length words, word-in clauses (d .p) i (d .spot))
+  word-within = omega (arith, ap length words, word-in clauses p i (d .spot))
 
   pub word-is : word ≡ getD clause (d .spot .k) (pos 0)
   word-is =
@@ -48,28 +48,26 @@ module _ (list : List ℤ) (values : List ℕ) (fine : Fine (length values) list
       subst (InRange (length values)) (sym word-is)
       (literal-ranged (length values) clause (d .spot .k) (clause-ranged (length values) clauses (d .spot .c) (ranged (length values) list fine) (d .spot .within)) (d .spot .inside))
 
-  pub place-is : placeOf word ≡ d .p
+  place-is : placeOf word ≡ p
   place-is = ap placeOf word-is ∙ d .spot .names
 
-  place-low : d .p < length values
+  pub place-low : p < length values
   place-low = omega (arith, sym place-is, place-below (length values) word word-range)
 
   -- the clause is weighed: the word's weight was a, and is b
   module _ (plain : w < mixed) (a : ℕ) (was-is : a ≡ literalWeight (byteSays was word)) where
-    stood : Apart clause × (w ≡ weightOf (set values (d .p) was) clause)
+    stood : Apart clause × (w ≡ weightOf (set values p was) clause)
     stood = was-weight _ clause w plain (d .stood)
 
     a-is : a ≡ literalWeight (byteSays was (getD clause (d .spot .k) (pos 0)))
     a-is = was-is ∙ ap (λ l. literalWeight (byteSays was l)) word-is
 
     pub weight-taken : a ≤ w
-    weight-taken = omega (arith, a-is, stood .1, weight-low values (d .p) was (d .spot .k) clause place-low (d .spot .inside) (d .spot .names))
+    weight-taken = omega (arith, a-is, stood .1, weight-low values p was (d .spot .k) clause place-low (d .spot .inside) (d .spot .names))
 
-    module _ (b x : ℕ) (value : x ≡ getD values (placeOf word) 0) (now-is : b ≡ literalWeight (byteSays x word)) where
-      b-is : b ≡ literalWeight (byteSays (getD values (d .p) 0) (getD clause (d .spot .k) (pos 0)))
-      b-is =
-          now-is ∙ ap (λ n. literalWeight (byteSays n word)) (value ∙ ap (λ n. getD values n 0) place-is)
-          ∙ ap (λ l. literalWeight (byteSays (getD values (d .p) 0) l)) word-is
+    module _ (b : ℕ) (now-is : b ≡ literalWeight (byteSays (getD values p 0) word)) where
+      b-is : b ≡ literalWeight (byteSays (getD values p 0) (getD clause (d .spot .k) (pos 0)))
+      b-is = now-is ∙ ap (λ l. literalWeight (byteSays (getD values p 0) l)) word-is
 
       weight-is : w - a + b ≡ weightOf values clause
       weight-is =
@@ -79,7 +77,7 @@ module _ (list : List ℤ) (values : List ℕ) (fine : Fine (length values) list
             a-is,
             b-is,
             stood .1,
-            weight-change values (d .p) was (d .spot .k) clause place-low (stood .0) (d .spot .inside) (d .spot .names),
+            weight-change values p was (d .spot .k) clause place-low (stood .0) (d .spot .inside) (d .spot .names),
           )
 
       pub weight-fits : length list ≤ limit → w - a + b < 65536
@@ -92,8 +90,8 @@ module _ (list : List ℤ) (values : List ℕ) (fine : Fine (length values) list
   -- the clause's head, as the code finds it
   pub head-found : (chains : List ℕ) → Chains clauses chains → (o h : ℕ) → o ≡ ownerAt chains i → h ≡ headAt chains o → (h ≡ headOf clauses (d .spot .c))
   head-found chains x o h e z =
-      z ∙ ap (headAt chains) (e ∙ x .linked .chained .owner-is (d .p) i (d .spot) (word-in clauses (d .p) i (d .spot))) ∙ x .heads (d .spot .c) (d .spot .within)
+      z ∙ ap (headAt chains) (e ∙ x .linked .chained .owner-is p i (d .spot) (word-in clauses p i (d .spot))) ∙ x .heads (d .spot .c) (d .spot .within)
 
   pub owner-within : (chains : List ℕ) → Chains clauses chains → (o : ℕ) → o ≡ ownerAt chains i → o < length clauses
   owner-within chains x o e =
-      omega (arith, e, x .linked .chained .owner-is (d .p) i (d .spot) (word-in clauses (d .p) i (d .spot)), d .spot .within)
+      omega (arith, e, x .linked .chained .owner-is p i (d .spot) (word-in clauses p i (d .spot)), d .spot .within)

@@ -1,5 +1,5 @@
--- The flags and the number of false clauses, kept when something else stands for a clause.
-use mathlib.Core.Path.{_≡_, refl, sym, _∙_, ap}
+-- The blocks and the number of false clauses, kept when something else stands for a clause.
+use mathlib.Core.Path.{_≡_, refl, sym, _∙_, ap, subst}
 use mathlib.Core.Bool.{Bool, true, false, cond}
 use mathlib.Core.Logic.{⊎-elim}
 use mathlib.Core.List.{List}
@@ -9,7 +9,7 @@ use native.Mathlib.Nat.{eq-or-lt-of-le}
 use lib.Dec.{eqb}
 use lib.ListN.{length, getD}
 use borrow.Author.Tests.{eq-eqb, ne-eqb}
-use Rattle.search_index.specs.Index.{limit, told, flagAt, falsesAt, one, falsesBelow, Tallied, Put}
+use Rattle.search_index.specs.Index.{limit, told, weightWords, falsesAt, Up, one, falsesBelow, Tallied, Put}
 use Rattle.search_index.proofs.Spots.{same-or-not}
 
 bit-low : (b : Bool) → cond b 1 0 ≤ 1
@@ -91,22 +91,22 @@ falses-where (suc n) f h = ⊎-elim
 pub falses-none : (n c : ℕ) (f : ℕ → ℕ) → falsesBelow n f ≤ 0 → c < n → told (f c) ≡ 1 → ⊥
 falses-none n c f h l e = absurd (omega (arith, h, falses-one n c f l, one-false (f c) e))
 
-pub tally-none : (weights : List ℕ) → length weights ≡ 16641 → ((k : ℕ) → getD weights k 0 ≡ 0) → Tallied weights 0
-tally-none weights l h = record { long = l; flagged = λ c b. absurd (omega (arith, b)); counted = unfold falsesBelow in h 16640 }
+pub tally-none : (weights : List ℕ) → length weights ≡ weightWords → ((k : ℕ) → getD weights k 0 ≡ 0) → Tallied weights 0
+tally-none weights l h = record { long = l; flagged = λ c b. absurd (omega (arith, b)); counted = unfold falsesBelow in h 17408 }
 
 module _ (weights weights' : List ℕ) (n c w : ℕ) (tallied : Tallied weights n) (put : Put weights c w weights') where
-  flag-here : (d : ℕ) → d ≡ c → (told (getD weights c 0) ≡ 2 → ⊥) → told (getD weights' d 0) ≡ 2 → flagAt weights' (d / 64) ≡ 1
+  flag-here : (d : ℕ) → d ≡ c → (told (getD weights c 0) ≡ 2 → ⊥) → told (getD weights' d 0) ≡ 2 → Up weights' (d / 16)
   flag-here d e o t =
-      ap (λ (k : ℕ). flagAt weights' (k / 64)) e ∙ put .raised (sym (ap told (ap (λ (k : ℕ). getD weights' k 0) e ∙ put .here)) ∙ t) o
+      subst (λ (k : ℕ). Up weights' (k / 16)) (sym e) (put .raised (sym (ap told (ap (λ (k : ℕ). getD weights' k 0) e ∙ put .here)) ∙ t) o)
 
-  flag-stays : (d : ℕ) → d < n → n ≤ limit → told (getD weights d 0) ≡ 2 → flagAt weights' (d / 64) ≡ 1
-  flag-stays d l m t = put .kept (d / 64) (omega (arith, l, m)) (tallied .flagged d l t)
+  flag-stays : (d : ℕ) → d < n → n ≤ limit → told (getD weights d 0) ≡ 2 → Up weights' (d / 16)
+  flag-stays d l m t = put .kept (d / 16) (omega (arith, l, m)) (tallied .flagged d l t)
 
-  flag-other : (d : ℕ) → d < n → n ≤ limit → (d ≡ c → ⊥) → told (getD weights' d 0) ≡ 2 → flagAt weights' (d / 64) ≡ 1
+  flag-other : (d : ℕ) → d < n → n ≤ limit → (d ≡ c → ⊥) → told (getD weights' d 0) ≡ 2 → Up weights' (d / 16)
   flag-other d l m e t = flag-stays d l m (sym (ap told (put .others d (omega (arith, l, m)) e)) ∙ t)
 
   -- a unit clause that was none before raises the flag, and of one that was there before it was up
-  flag-put : (d : ℕ) → d < n → n ≤ limit → d ≡ c → told (getD weights' d 0) ≡ 2 → flagAt weights' (d / 64) ≡ 1
+  flag-put : (d : ℕ) → d < n → n ≤ limit → d ≡ c → told (getD weights' d 0) ≡ 2 → Up weights' (d / 16)
   flag-put d l m e t = ⊎-elim
       (λ o. flag-stays d l m (ap (λ (k : ℕ). told (getD weights k 0)) e ∙ o)) (λ o. flag-here d e o t) (same-or-not (told (getD weights c 0)) 2)
 

@@ -118,9 +118,8 @@ module _ (clauses : List (List ℤ)) (chains values : List ℕ) (p was : ℕ) (s
       pub owner-low : o < limit
       owner-low = omega (arith, owner-is, here .within, few)
 
-      pub due-here : Due clauses values was i (getD weights o 0)
+      pub due-here : Due clauses values p was i (getD weights o 0)
       due-here = record {
-        p = p;
         spot = here;
         stood = subst (λ c. Stood (set values p was) (clauseAt clauses (here .c)) (getD weights c 0)) (sym owner-is) (walk .due i here (omega arith));
       }
@@ -129,7 +128,7 @@ module _ (clauses : List (List ℤ)) (chains values : List ℕ) (p was : ℕ) (s
       asks-here = put-asks weights (length clauses) o (walk .tallied) (omega (arith, owner-is, here .within)) few
 
       pub walk-on : (w : ℕ) (weights' : List ℕ) → Put weights o w weights'
-          → ((d : Due clauses values was i (getD weights o 0)) → Stands values (clauseAt clauses (d .spot .c)) w)
+          → ((d : Due clauses values p was i (getD weights o 0)) → Stands values (clauseAt clauses (d .spot .c)) w)
           → Walk clauses values p was weights' (linkAt chains i)
       unfolding due-here
       walk-on w weights' put stands = walk-next w weights' (subst (λ c. Put weights c w weights') owner-is put) (stands due-here)

@@ -14,7 +14,8 @@ use Rattle.literal.specs.Literals.{isPositive}
 use Rattle.search_rules.specs.Held.{InRange}
 use Rattle.search_rules.specs.Rules.{falsified, truthOf, negated}
 use Rattle.search_scan.proofs.Words.{is-above, is-below}
-use Rattle.search_index.specs.Index.{limit, literalWeight, byteSays, mixed, told, flagAt, falsesAt, one, Noted, Put}
+use Rattle.search_index.specs.Index.{limit, literalWeight, byteSays, mixed, told, flagAt, falsesAt, lowAt, weightWords, Up}
+use Rattle.search_index.specs.Index.{one, Raised, Noted, Put}
 use Rattle.search_index.proofs.Spots.{same-or-not}
 
 -- the status of what stands for a clause that names a variable twice
@@ -85,26 +86,58 @@ recount-less falses old new n e l = omega (arith, bit-zero new n, bit-one old e,
 pub recount-none : (falses old new : ℕ) → (new ≡ 1 → ⊥) → (old ≡ 1 → ⊥) → falses + bit old ≡ falses + bit new
 recount-none falses old new n m = omega (arith, bit-zero new n, bit-zero old m)
 
--- The flag of a block is up, where it is to be.
-pub record Raised (weights : List ℕ) (c new : ℕ) (mid : List ℕ) : Type 0 where
+-- A block is raised: its flag is up, and the search for a unit clause begins there or earlier.
+module _ (weights : List ℕ) (b : ℕ) (l : length weights ≡ weightWords) (h : b < 1024) where
+  abbrev flagged : List ℕ
+  flagged = set weights (16384 + b) 1
+
+  flag-same : (i : ℕ) → (i ≡ 16384 + b → ⊥) → getD flagged i 0 ≡ getD weights i 0
+  flag-same i n = getD-set-other weights (16384 + b) i 1 0 n
+
+  low-same : lowAt flagged ≡ lowAt weights
+  low-same = flag-same 17409 (λ q. absurd (omega (arith, q, h)))
+
+  flag-up : (d : ℕ) → flagAt weights d ≡ 1 → flagAt flagged d ≡ 1
+  flag-up d u = ⊎-elim
+      (λ q. ap (λ (j : ℕ). getD flagged (16384 + j) 0) q ∙ getD-set-same weights (16384 + b) 1 0 (omega (arith, l, h)))
+      (λ n. flag-same (16384 + d) (λ q. n (omega (arith, q))) ∙ u) (same-or-not d b)
+
+  pub raise-high : (lowAt flagged ≤ b) → Raised weights b flagged
+  raise-high le = record {
+    long = length-set weights (16384 + b) 1;
+    weights-are = λ d k. flag-same d (λ q. absurd (omega (arith, q, k)));
+    raised = (getD-set-same weights (16384 + b) 1 0 (omega (arith, l, h)), le);
+    kept = λ d k u. (flag-up d (u .0), omega (arith, low-same, u .1));
+    falses-are = flag-same 17408 (λ q. absurd (omega (arith, q, h)));
+  }
+
+  pub raise-low : b < lowAt flagged → Raised weights b (set flagged 17409 b)
+  raise-low lt = record {
+    long = length-set flagged 17409 b ∙ length-set weights (16384 + b) 1;
+    weights-are = λ d k. low-other d (λ q. absurd (omega (arith, q, k))) ∙ flag-same d (λ q. absurd (omega (arith, q, k)));
+    raised = (low-other (16384 + b) (λ q. absurd (omega (arith, q, h))) ∙ getD-set-same weights (16384 + b) 1 0 (omega (arith, l, h)), omega (arith, low-is));
+    kept = λ d k u. (low-other (16384 + d) (λ q. absurd (omega (arith, q, k))) ∙ flag-up d (u .0), omega (arith, low-is, lt, low-same, u .1));
+    falses-are = low-other 17408 (λ q. absurd (omega (arith, q))) ∙ flag-same 17408 (λ q. absurd (omega (arith, q, h)));
+  }
+    where
+      low-other : (i : ℕ) → (i ≡ 17409 → ⊥) → getD (set flagged 17409 b) i 0 ≡ getD flagged i 0
+      low-other i n = getD-set-other flagged 17409 i b 0 n
+
+      low-is : lowAt (set flagged 17409 b) ≡ b
+      low-is = getD-set-same flagged 17409 b 0 (omega (arith, length-set weights (16384 + b) 1, l))
+
+-- the block of a clause is raised, where it is to be
+pub record Follows (weights : List ℕ) (c new : ℕ) (mid : List ℕ) : Type 0 where
   pub long : length mid ≡ length weights
   pub weights-are : (d : ℕ) → d < limit → getD mid d 0 ≡ getD weights d 0
-  pub raised : new ≡ 2 → flagAt mid (c / 64) ≡ 1
-  pub kept : (b : ℕ) → b < 256 → flagAt weights b ≡ 1 → flagAt mid b ≡ 1
+  pub raised : new ≡ 2 → Up mid (c / 16)
+  pub kept : (b : ℕ) → b < 1024 → Up weights b → Up mid b
   pub falses-are : falsesAt mid ≡ falsesAt weights
 
-pub raise : (weights mid : List ℕ) (c new : ℕ) → length weights ≡ 16641 → c < limit → mid ≡ set weights (16384 + c / 64) 1 → Raised weights c new mid
-raise weights mid c new l h e = rw e (record {
-  long = length-set weights (16384 + c / 64) 1;
-  weights-are = λ d b. getD-set-other weights (16384 + c / 64) d 1 0 (λ q. absurd (omega (arith, q, b)));
-  raised = λ _. getD-set-same weights (16384 + c / 64) 1 0 (omega (arith, l, h));
-  kept = λ b k u. ⊎-elim
-      (λ q. ap (λ (j : ℕ). getD (set weights (16384 + c / 64) 1) (16384 + j) 0) q ∙ getD-set-same weights (16384 + c / 64) 1 0 (omega (arith, l, h)))
-      (λ n. getD-set-other weights (16384 + c / 64) (16384 + b) 1 0 (λ q. n (omega (arith, q))) ∙ u) (same-or-not b (c / 64));
-  falses-are = getD-set-other weights (16384 + c / 64) 16640 1 0 (λ q. absurd (omega (arith, q, h)));
-})
+pub follow : (weights mid : List ℕ) (c new : ℕ) → Raised weights (c / 16) mid → Follows weights c new mid
+follow weights mid c new r = record { long = r .long; weights-are = r .weights-are; raised = λ _. r .raised; kept = r .kept; falses-are = r .falses-are }
 
-pub leave : (weights mid : List ℕ) (c new : ℕ) → (new ≡ 2 → ⊥) → mid ≡ weights → Raised weights c new mid
+pub leave : (weights mid : List ℕ) (c new : ℕ) → (new ≡ 2 → ⊥) → mid ≡ weights → Follows weights c new mid
 leave weights mid c new n e = rw e (record {
   long = refl;
   weights-are = λ d b. refl;
@@ -113,23 +146,33 @@ leave weights mid c new n e = rw e (record {
   falses-are = refl;
 })
 
-pub noted : (weights mid : List ℕ) (c old new r : ℕ) → length weights ≡ 16641 → c < limit → Raised weights c new mid
-    → r + bit old ≡ falsesAt mid + bit new → Noted weights c old new (set mid 16640 r)
+pub noted : (weights mid : List ℕ) (c old new r : ℕ) → length weights ≡ weightWords → c < limit → Follows weights c new mid
+    → r + bit old ≡ falsesAt mid + bit new → Noted weights c old new (set mid 17408 r)
 noted weights mid c old new r l h m e = record {
-  long = length-set mid 16640 r ∙ m .long;
-  weights-are = λ d b. getD-set-other mid 16640 d r 0 (λ q. absurd (omega (arith, q, b))) ∙ m .weights-are d b;
-  raised = λ q. getD-set-other mid 16640 (16384 + c / 64) r 0 (λ k. absurd (omega (arith, k, h))) ∙ m .raised q;
-  kept = λ b k u. getD-set-other mid 16640 (16384 + b) r 0 (λ q. absurd (omega (arith, q, k))) ∙ m .kept b k u;
-  counted = omega (arith, e, m .falses-are, getD-set-same mid 16640 r 0 (omega (arith, l, m .long)));
+  long = length-set mid 17408 r ∙ m .long;
+  weights-are = λ d b. other d (λ q. absurd (omega (arith, q, b))) ∙ m .weights-are d b;
+  raised = λ q. up (c / 16) (omega (arith, h)) (m .raised q);
+  kept = λ b k u. up b k (m .kept b k u);
+  counted = omega (arith, e, m .falses-are, getD-set-same mid 17408 r 0 (omega (arith, l, m .long)));
 }
+  where
+    other : (i : ℕ) → (i ≡ 17408 → ⊥) → getD (set mid 17408 r) i 0 ≡ getD mid i 0
+    other i n = getD-set-other mid 17408 i r 0 n
+
+    up : (b : ℕ) → b < 1024 → Up mid b → Up (set mid 17408 r) b
+    up b k u = (other (16384 + b) (λ q. absurd (omega (arith, q, k))) ∙ u .0, omega (arith, other 17409 (λ q. absurd (omega (arith, q))), u .1))
 
 -- Something else stands for clause c: the statuses are those that the weights tell.
-module _ (weights : List ℕ) (c w : ℕ) (l : length weights ≡ 16641) (h : c < limit) where
+module _ (weights : List ℕ) (c w : ℕ) (l : length weights ≡ weightWords) (h : c < limit) where
   at-other : (i : ℕ) → (i ≡ c → ⊥) → getD (set weights c w) i 0 ≡ getD weights i 0
   at-other i n = getD-set-other weights c i w 0 n
 
   falses-kept : falsesAt (set weights c w) ≡ falsesAt weights
-  falses-kept = at-other 16640 (λ q. absurd (omega (arith, q, h)))
+  falses-kept = at-other 17408 (λ q. absurd (omega (arith, q, h)))
+
+  up-kept : (b : ℕ) → b < 1024 → Up weights b → Up (set weights c w) b
+  up-kept b k u =
+      (at-other (16384 + b) (λ q. absurd (omega (arith, q, h))) ∙ u .0, omega (arith, at-other 17409 (λ q. absurd (omega (arith, q, h))), u .1))
 
   pub note-asks : (old : ℕ) → old ≡ told (getD weights c 0) → one (getD weights c 0) ≤ falsesAt weights → falsesAt weights ≤ limit
       → (falsesAt (set weights c w) ≤ limit) × (old ≡ 1 → 1 ≤ falsesAt (set weights c w))
@@ -145,7 +188,7 @@ module _ (weights : List ℕ) (c w : ℕ) (l : length weights ≡ 16641) (h : c 
     here = m .weights-are c h ∙ getD-set-same weights c w 0 (omega (arith, l, h));
     others = λ d b q. m .weights-are d b ∙ at-other d q;
     raised = λ t _. m .raised (n ∙ t);
-    kept = λ b k u. m .kept b k (at-other (16384 + b) (λ q. absurd (omega (arith, q, h))) ∙ u);
+    kept = λ b k u. m .kept b k (up-kept b k u);
     counted = omega (arith, m .counted, falses-kept, ap bit o, ap bit n);
   }
 
@@ -156,6 +199,6 @@ module _ (weights : List ℕ) (c w : ℕ) (l : length weights ≡ 16641) (h : c 
     here = getD-set-same weights c w 0 (omega (arith, l, h));
     others = λ d b q. at-other d q;
     raised = λ t q. absurd (q (sym e ∙ t));
-    kept = λ b k u. at-other (16384 + b) (λ q. absurd (omega (arith, q, h))) ∙ u;
+    kept = λ b k u. up-kept b k u;
     counted = omega (arith, falses-kept, ap bit e);
   }

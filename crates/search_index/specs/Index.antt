@@ -57,6 +57,9 @@ headAt chains c = getD chains (49152 + c) 0
 abbrev pub countAt : List ℕ → ℕ
 countAt chains = getD chains 65536 0
 
+abbrev pub chainWords : ℕ
+chainWords = 65537
+
 -- the chains of the words below a bound
 pub record Chained (clauses : List (List ℤ)) (first link owner : ℕ → ℕ) (bound : ℕ) : Type 0 where
   pub owner-is : (p i : ℕ) (s : Spot clauses p i) → i < bound → owner i ≡ s .c
@@ -68,7 +71,7 @@ pub record Chained (clauses : List (List ℤ)) (first link owner : ℕ → ℕ) 
 
 -- chains with room, linked up to a bound
 pub record Linked (clauses : List (List ℤ)) (chains : List ℕ) (bound : ℕ) : Type 0 where
-  pub long : length chains ≡ 65537
+  pub long : length chains ≡ chainWords
   pub chained : Chained clauses (firstAt chains) (linkAt chains) (ownerAt chains) bound
 
 -- the chains of a whole list
@@ -132,12 +135,22 @@ pub data Stood (values : List ℕ) (clause : List ℤ) (w : ℕ) : Type 0 where
   was-weighed : Apart clause → w ≡ weightOf values clause → Stood values clause w
   was-looked : mixed ≤ w → Stood values clause w
 
--- Behind the weights: a flag for each block of 64 clauses, and the number of false clauses.
+-- Behind the weights: a flag for each block of 16 clauses, the number of false clauses, and a block that no unit clause is before.
 abbrev pub flagAt : List ℕ → ℕ → ℕ
 flagAt weights b = getD weights (16384 + b) 0
 
 abbrev pub falsesAt : List ℕ → ℕ
-falsesAt weights = getD weights 16640 0
+falsesAt weights = getD weights 17408 0
+
+abbrev pub lowAt : List ℕ → ℕ
+lowAt weights = getD weights 17409 0
+
+abbrev pub weightWords : ℕ
+weightWords = 17410
+
+-- a block's flag is up, and the search for a unit clause begins no later than there
+abbrev pub Up : List ℕ → ℕ → Type 0
+Up weights b = (flagAt weights b ≡ 1) × (lowAt weights ≤ b)
 
 -- 1 for what stands for a false clause
 unfoldable pub one : ℕ → ℕ
@@ -147,18 +160,26 @@ unfoldable pub falsesBelow : ℕ → (ℕ → ℕ) → ℕ
 falsesBelow zero w = 0
 falsesBelow (suc n) w = one (w n) + falsesBelow n w
 
--- the first n clauses: each unit clause is in a flagged block, and the false ones are counted
+-- the first n clauses: the block of each unit clause is up, and the false ones are counted
 pub record Tallied (weights : List ℕ) (n : ℕ) : Type 0 where
-  pub long : length weights ≡ 16641
-  pub flagged : (c : ℕ) → c < n → told (getD weights c 0) ≡ 2 → flagAt weights (c / 64) ≡ 1
+  pub long : length weights ≡ weightWords
+  pub flagged : (c : ℕ) → c < n → told (getD weights c 0) ≡ 2 → Up weights (c / 16)
   pub counted : falsesAt weights ≡ falsesBelow n (λ c. getD weights c 0)
 
--- the flag of a clause's block and the number of false clauses followed its status
+-- a block was raised
+pub record Raised (weights : List ℕ) (b : ℕ) (weights' : List ℕ) : Type 0 where
+  pub long : length weights' ≡ length weights
+  pub weights-are : (d : ℕ) → d < limit → getD weights' d 0 ≡ getD weights d 0
+  pub raised : Up weights' b
+  pub kept : (d : ℕ) → d < 1024 → Up weights d → Up weights' d
+  pub falses-are : falsesAt weights' ≡ falsesAt weights
+
+-- the block of a clause and the number of false clauses followed its status
 pub record Noted (weights : List ℕ) (c old new : ℕ) (weights' : List ℕ) : Type 0 where
   pub long : length weights' ≡ length weights
   pub weights-are : (d : ℕ) → d < limit → getD weights' d 0 ≡ getD weights d 0
-  pub raised : new ≡ 2 → flagAt weights' (c / 64) ≡ 1
-  pub kept : (b : ℕ) → b < 256 → flagAt weights b ≡ 1 → flagAt weights' b ≡ 1
+  pub raised : new ≡ 2 → Up weights' (c / 16)
+  pub kept : (b : ℕ) → b < 1024 → Up weights b → Up weights' b
   pub counted : falsesAt weights' + cond (eqb old 1) 1 0 ≡ falsesAt weights + cond (eqb new 1) 1 0
 
 -- something else stands for clause c
@@ -166,8 +187,8 @@ pub record Put (weights : List ℕ) (c w : ℕ) (weights' : List ℕ) : Type 0 w
   pub long : length weights' ≡ length weights
   pub here : getD weights' c 0 ≡ w
   pub others : (d : ℕ) → d < limit → (d ≡ c → ⊥) → getD weights' d 0 ≡ getD weights d 0
-  pub raised : told w ≡ 2 → (told (getD weights c 0) ≡ 2 → ⊥) → flagAt weights' (c / 64) ≡ 1
-  pub kept : (b : ℕ) → b < 256 → flagAt weights b ≡ 1 → flagAt weights' b ≡ 1
+  pub raised : told w ≡ 2 → (told (getD weights c 0) ≡ 2 → ⊥) → Up weights' (c / 16)
+  pub kept : (b : ℕ) → b < 1024 → Up weights b → Up weights' b
   pub counted : falsesAt weights' + one (getD weights c 0) ≡ falsesAt weights + one w
 
 -- there is no unit clause before r, and one at r where r is below m
@@ -176,7 +197,7 @@ pub record Stopped (weights : List ℕ) (low m r : ℕ) : Type 0 where
   pub found : r < m → told (getD weights r 0) ≡ 2
   pub upto : r ≤ m
 
--- only flags were lowered
+-- only what tells where unit clauses are was changed
 pub record Same (weights weights' : List ℕ) : Type 0 where
   pub long : length weights' ≡ length weights
   pub weights-are : (c : ℕ) → c < limit → getD weights' c 0 ≡ getD weights c 0
@@ -194,8 +215,7 @@ pub data Watched (clauses : List (List ℤ)) (values chains weights : List ℕ) 
   unwatched : length weights ≡ 0 → Watched clauses values chains weights
   watched : Indexed clauses values chains weights → Watched clauses values chains weights
 
--- a word whose clause is to be weighed anew, where the value of its variable was another
-pub record Due (clauses : List (List ℤ)) (values : List ℕ) (was i w : ℕ) : Type 0 where
-  pub p : ℕ
+-- a word that names the variable at place p, whose value was another, and whose clause is to be weighed anew
+pub record Due (clauses : List (List ℤ)) (values : List ℕ) (p was i w : ℕ) : Type 0 where
   pub spot : Spot clauses p i
   pub stood : Stood (set values p was) (clauseAt clauses (spot .c)) w

@@ -7,7 +7,7 @@ ghost use lib.ListN.{length, getD};
 ghost use Rattle.clause_list.specs.ClauseList.{clausesOf};
 ghost use Rattle.literal.specs.Literals.{lastVariable};
 ghost use Rattle.search_rules.specs.Inner.{Fine};
-ghost use Rattle.search_index.specs.Index.{limit, clauseAt, headOf, firstAt, linkAt, ownerAt, headAt, countAt, Linked, Apart, Roomy};
+ghost use Rattle.search_index.specs.Index.{limit, chainWords, clauseAt, headOf, firstAt, linkAt, ownerAt, headAt, countAt, Linked, Apart, Roomy};
 
 // The words of the longest list that is indexed, and the variables of the widest.
 pub const LIMIT: usize = 16384;
@@ -22,7 +22,7 @@ const COUNT: usize = 4 * LIMIT;
 
 // Chains of no word.
 pub fn blank_chains() -> [u16; COUNT + 1]
-    ensures { λ r. ⌜ (length r ≡ 65537) × ((k : ℕ) → getD r k 0 ≡ 0) ⌝ }
+    ensures { λ r. ⌜ (length r ≡ chainWords) × ((k : ℕ) → getD r k 0 ≡ 0) ⌝ }
 {
     [0u16; COUNT + 1]
 }
@@ -35,7 +35,7 @@ fn wide(x: u16) -> usize
 
 // The latest word that names the variable at a place; 0 where no word does.
 pub fn first(chains: &[u16], p: usize) -> usize
-    requires { ⌜ (length (now chains) ≡ 65537) × (p < limit) ⌝ }
+    requires { ⌜ (length (now chains) ≡ chainWords) × (p < limit) ⌝ }
     ensures { λ r. ⌜ r ≡ firstAt (now (chains .entry)) p ⌝ }
 {
     wide(chains[p])
@@ -43,7 +43,7 @@ pub fn first(chains: &[u16], p: usize) -> usize
 
 // The word before word i that names the same variable; 0 where there is none.
 pub fn link(chains: &[u16], i: usize) -> usize
-    requires { ⌜ (length (now chains) ≡ 65537) × (i < limit) ⌝ }
+    requires { ⌜ (length (now chains) ≡ chainWords) × (i < limit) ⌝ }
     ensures { λ r. ⌜ r ≡ linkAt (now (chains .entry)) i ⌝ }
 {
     wide(chains[LINKS + i])
@@ -51,7 +51,7 @@ pub fn link(chains: &[u16], i: usize) -> usize
 
 // The clause of word i.
 pub fn owner(chains: &[u16], i: usize) -> usize
-    requires { ⌜ (length (now chains) ≡ 65537) × (i < limit) ⌝ }
+    requires { ⌜ (length (now chains) ≡ chainWords) × (i < limit) ⌝ }
     ensures { λ r. ⌜ r ≡ ownerAt (now (chains .entry)) i ⌝ }
 {
     wide(chains[OWNERS + i])
@@ -59,7 +59,7 @@ pub fn owner(chains: &[u16], i: usize) -> usize
 
 // The head of clause c.
 pub fn head(chains: &[u16], c: usize) -> usize
-    requires { ⌜ (length (now chains) ≡ 65537) × (c < limit) ⌝ }
+    requires { ⌜ (length (now chains) ≡ chainWords) × (c < limit) ⌝ }
     ensures { λ r. ⌜ r ≡ headAt (now (chains .entry)) c ⌝ }
 {
     wide(chains[HEADS + c])
@@ -67,7 +67,7 @@ pub fn head(chains: &[u16], c: usize) -> usize
 
 // The number of clauses.
 pub fn count(chains: &[u16]) -> usize
-    requires { ⌜ length (now chains) ≡ 65537 ⌝ }
+    requires { ⌜ length (now chains) ≡ chainWords ⌝ }
     ensures { λ r. ⌜ r ≡ countAt (now (chains .entry)) ⌝ }
 {
     wide(chains[COUNT])
@@ -101,7 +101,7 @@ pub fn enter(list: &[i32], c: usize, head: usize, chains: &mut [u16]) -> bool
 
 // The head of clause c is noted.
 pub fn note_head(chains: &mut [u16], c: usize, head: usize)
-    requires { ⌜ (length (now chains) ≡ 65537) × (c < limit) × (head < limit) ⌝ }
+    requires { ⌜ (length (now chains) ≡ chainWords) × (c < limit) × (head < limit) ⌝ }
     ensures { λ r. ⌜ now (chains .exit) ≡ lib.ListN.set (now (chains .entry)) (49152 + c) head ⌝ }
 {
     chains[HEADS + c] = head as u16;
@@ -109,7 +109,7 @@ pub fn note_head(chains: &mut [u16], c: usize, head: usize)
 
 // The number of clauses is noted.
 pub fn note_count(chains: &mut [u16], c: usize)
-    requires { ⌜ (length (now chains) ≡ 65537) × (c ≤ limit) ⌝ }
+    requires { ⌜ (length (now chains) ≡ chainWords) × (c ≤ limit) ⌝ }
     ensures { λ r. ⌜ now (chains .exit) ≡ lib.ListN.set (now (chains .entry)) 65536 c ⌝ }
 {
     chains[COUNT] = c as u16;

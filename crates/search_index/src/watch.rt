@@ -7,7 +7,7 @@ ghost use Rattle.clause_list.specs.ClauseList.{clausesOf};
 ghost use Rattle.literal.specs.Literals.{lastVariable};
 ghost use Rattle.search_rules.specs.Inner.{Fine};
 ghost use Rattle.search_scan.specs.Seen.{seenAs, seen};
-ghost use Rattle.search_index.specs.Index.{limit, clauseAt, Spot, Chains, Stood, Stands, Indexed, Watched, Due};
+ghost use Rattle.search_index.specs.Index.{limit, chainWords, weightWords, clauseAt, Spot, Chains, Stood, Stands, Indexed, Watched, Due};
 use crate::chains::count;
 use crate::chains::enter;
 use crate::chains::first;
@@ -32,8 +32,8 @@ const MIXED: u16 = 32768;
 pub fn build(list: &[i32], values: &[u8], chains: &mut [u16], weights: &mut [u16])
     requires { ⌜ Fine (length (now values)) (now list) ⌝ }
     requires { ⌜ (length (now values) ≤ limit) × (length (now list) ≤ limit) ⌝ }
-    requires { ⌜ (length (now chains) ≡ 65537) × ((k : ℕ) → getD (now chains) k 0 ≡ 0) ⌝ }
-    requires { ⌜ (length (now weights) ≡ 16641) × ((k : ℕ) → getD (now weights) k 0 ≡ 0) ⌝ }
+    requires { ⌜ (length (now chains) ≡ chainWords) × ((k : ℕ) → getD (now chains) k 0 ≡ 0) ⌝ }
+    requires { ⌜ (length (now weights) ≡ weightWords) × ((k : ℕ) → getD (now weights) k 0 ≡ 0) ⌝ }
     ensures { λ r. ⌜ Watched (clausesOf (now (list .entry))) (now (values .entry)) (now (chains .exit)) (now (weights .exit)) ⌝ }
 {
     let mut at: usize = 0;
@@ -53,13 +53,13 @@ pub fn build(list: &[i32], values: &[u8], chains: &mut [u16], weights: &mut [u16
     note_count(chains, c);
 }
 
-// What stands for the clause of word i, where w stood for it before its variable's byte changed.
-fn renewed(list: &[i32], values: &[u8], chains: &[u16], i: usize, was: u8, w: u16) -> u16
+// What stands for the clause of word i, where w stood for it before the byte of its variable, at place p, changed.
+fn renewed(list: &[i32], values: &[u8], chains: &[u16], p: usize, was: u8, i: usize, w: u16) -> u16
     requires { ⌜ Fine (length (now values)) (now list) ⌝ }
     requires { ⌜ length (now values) ≤ lastVariable ⌝ }
     requires { ⌜ Chains (clausesOf (now list)) (now chains) ⌝ }
-    requires { ⌜ Due (clausesOf (now list)) (now values) was i w ⌝ }
-    ensures { λ r. ⌜ ((d : Due (clausesOf (now (list .entry))) (now (values .entry)) was i w)
+    requires { ⌜ Due (clausesOf (now list)) (now values) p was i w ⌝ }
+    ensures { λ r. ⌜ ((d : Due (clausesOf (now (list .entry))) (now (values .entry)) p was i w)
         → Stands (now (values .entry)) (clauseAt (clausesOf (now (list .entry))) (d .spot .c)) r) ⌝ }
 {
     if w >= MIXED {
@@ -68,8 +68,7 @@ fn renewed(list: &[i32], values: &[u8], chains: &[u16], i: usize, was: u8, w: u1
         return look_up(list, values, at);
     }
     let l = list[i];
-    let x = values[literal::place(l)];
-    w - literal_weight(was, l) + literal_weight(x, l)
+    w - literal_weight(was, l) + literal_weight(values[p], l)
 }
 
 // The clauses that name a variable whose byte was another are put right.
@@ -86,7 +85,7 @@ pub fn touch(list: &[i32], values: &[u8], chains: &[u16], weights: &mut [u16], p
     let mut i = first(chains, p);
     while i > 0 {
         let c = owner(chains, i);
-        let w = renewed(list, values, chains, i, was, weights[c]);
+        let w = renewed(list, values, chains, p, was, i, weights[c]);
         put(weights, c, w);
         i = link(chains, i);
     }

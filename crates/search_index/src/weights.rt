@@ -1,5 +1,5 @@
-// What stands for each clause: its weight or, where it names a variable twice, its status. Behind them a flag for each block of 64 clauses, which
-// is up where one of them is a unit clause, and the number of false clauses.
+// What stands for each clause: its weight or, where it names a variable twice, its status. Behind them a flag for each block of 16 clauses, which
+// is up where one of them is a unit clause, the number of false clauses, and a block that no unit clause is before.
 ghost use mathlib.Core.Path.{_≡_};
 ghost use mathlib.Core.Bool.{cond};
 ghost use mathlib.Core.List.{[], _∷_};
@@ -12,24 +12,32 @@ ghost use Rattle.clause_list.specs.ClauseList.{clausesOf};
 ghost use Rattle.literal.specs.Literals.{lastVariable};
 ghost use Rattle.search_rules.specs.Inner.{Fine};
 ghost use Rattle.search_scan.specs.Seen.{seenAs, seen};
-ghost use Rattle.search_index.specs.Index.{limit, clauseAt, IsHead, literalWeight, byteSays, weightOf, statusOf, mixed, told, falsesAt, one, Tallied, Noted, Put, Stopped, Same};
+ghost use Rattle.search_index.specs.Index.{limit, weightWords, lowAt, Raised, clauseAt, IsHead, literalWeight, byteSays, weightOf, statusOf, mixed, told, falsesAt, one, Tallied, Noted, Put, Stopped, Same};
 use crate::chains::LIMIT;
 use search_scan::Seen;
 use search_scan::scan;
 
-const BLOCK: usize = 64;
+const BLOCK: usize = 16;
 
 const FLAGS: usize = LIMIT;
 
 const FALSES: usize = LIMIT + LIMIT / BLOCK;
 
+const LOW: usize = FALSES + 1;
+
 const MIXED: u16 = 32768;
 
 // Weights of no clause.
-pub fn blank_weights() -> [u16; FALSES + 1]
-    ensures { λ r. ⌜ (length r ≡ 16641) × ((k : ℕ) → getD r k 0 ≡ 0) ⌝ }
+pub fn blank_weights() -> [u16; LOW + 1]
+    ensures { λ r. ⌜ (length r ≡ weightWords) × ((k : ℕ) → getD r k 0 ≡ 0) ⌝ }
 {
-    [0u16; FALSES + 1]
+    [0u16; LOW + 1]
+}
+
+fn wide(x: u16) -> usize
+    ensures { λ r. ⌜ r ≡ x ⌝ }
+{
+    x as usize
 }
 
 // The weight of a literal whose variable has this byte: false 0, open 1, true 2.
@@ -126,14 +134,25 @@ fn recount(falses: u16, old: u16, new: u16) -> u16
     falses
 }
 
-// The flag of the block of clause c and the number of false clauses follow its status.
+// The flag of a block goes up, and the search for a unit clause begins no later than there.
+fn raise(weights: &mut [u16], b: usize)
+    requires { ⌜ (length (now weights) ≡ weightWords) × (b < 1024) ⌝ }
+    ensures { λ r. ⌜ Raised (now (weights .entry)) b (now (weights .exit)) ⌝ }
+{
+    weights[FLAGS + b] = 1;
+    if b < wide(weights[LOW]) {
+        weights[LOW] = b as u16;
+    }
+}
+
+// The block of clause c and the number of false clauses follow its status.
 fn note_status(weights: &mut [u16], c: usize, old: u16, new: u16)
-    requires { ⌜ (length (now weights) ≡ 16641) × (c < limit) ⌝ }
+    requires { ⌜ (length (now weights) ≡ weightWords) × (c < limit) ⌝ }
     requires { ⌜ (falsesAt (now weights) ≤ limit) × (old ≡ 1 → 1 ≤ falsesAt (now weights)) ⌝ }
     ensures { λ r. ⌜ Noted (now (weights .entry)) c old new (now (weights .exit)) ⌝ }
 {
     if new == 2 {
-        weights[FLAGS + c / BLOCK] = 1;
+        raise(weights, c / BLOCK);
     }
     let falses = weights[FALSES];
     weights[FALSES] = recount(falses, old, new);
@@ -141,7 +160,7 @@ fn note_status(weights: &mut [u16], c: usize, old: u16, new: u16)
 
 // Something else stands for clause c.
 pub fn put(weights: &mut [u16], c: usize, w: u16)
-    requires { ⌜ (length (now weights) ≡ 16641) × (c < limit) ⌝ }
+    requires { ⌜ (length (now weights) ≡ weightWords) × (c < limit) ⌝ }
     requires { ⌜ (one (getD (now weights) c 0) ≤ falsesAt (now weights)) × (falsesAt (now weights) ≤ limit) ⌝ }
     ensures { λ r. ⌜ Put (now (weights .entry)) c w (now (weights .exit)) ⌝ }
 {
@@ -155,7 +174,7 @@ pub fn put(weights: &mut [u16], c: usize, w: u16)
 
 // The first unit clause from one on and below another, or the latter.
 fn unit_within(weights: &[u16], from: usize, end: usize) -> usize
-    requires { ⌜ (length (now weights) ≡ 16641) × (from ≤ end) × (end ≤ limit) ⌝ }
+    requires { ⌜ (length (now weights) ≡ weightWords) × (from ≤ end) × (end ≤ limit) ⌝ }
     ensures { λ r. ⌜ Stopped (now (weights .entry)) from end r ⌝ }
 {
     let mut c = from;
@@ -169,14 +188,14 @@ fn unit_within(weights: &[u16], from: usize, end: usize) -> usize
 }
 
 // The first unit clause of m clauses, or m. A flag that is up for no unit clause is lowered.
-pub fn first_unit(weights: &mut [u16], m: usize) -> usize
+fn walk_blocks(weights: &mut [u16], m: usize) -> usize
     requires { ⌜ Tallied (now weights) m ⌝ }
     requires { ⌜ m ≤ limit ⌝ }
     ensures { λ r. ⌜ Stopped (now (weights .entry)) 0 m r ⌝ }
     ensures { λ r. ⌜ Same (now (weights .entry)) (now (weights .exit)) × Tallied (now (weights .exit)) m ⌝ }
 {
-    let mut b: usize = 0;
-    let mut at: usize = 0;
+    let mut b = wide(weights[LOW]);
+    let mut at = BLOCK * b;
     while at < m {
         if weights[FLAGS + b] == 1 {
             let end = lesser(at + BLOCK, m);
@@ -192,6 +211,18 @@ pub fn first_unit(weights: &mut [u16], m: usize) -> usize
     m
 }
 
+// The same, and the next search begins there.
+pub fn first_unit(weights: &mut [u16], m: usize) -> usize
+    requires { ⌜ Tallied (now weights) m ⌝ }
+    requires { ⌜ m ≤ limit ⌝ }
+    ensures { λ r. ⌜ Stopped (now (weights .entry)) 0 m r ⌝ }
+    ensures { λ r. ⌜ Same (now (weights .entry)) (now (weights .exit)) × Tallied (now (weights .exit)) m ⌝ }
+{
+    let c = walk_blocks(weights, m);
+    weights[LOW] = (c / BLOCK) as u16;
+    c
+}
+
 fn lesser(a: usize, b: usize) -> usize
     ensures { λ r. ⌜ (r ≤ a) × (r ≤ b) × ((r ≡ a) ⊎ (r ≡ b)) ⌝ }
 {
@@ -200,14 +231,8 @@ fn lesser(a: usize, b: usize) -> usize
 
 // The number of false clauses.
 pub fn falses(weights: &[u16]) -> usize
-    requires { ⌜ length (now weights) ≡ 16641 ⌝ }
+    requires { ⌜ length (now weights) ≡ weightWords ⌝ }
     ensures { λ r. ⌜ r ≡ falsesAt (now (weights .entry)) ⌝ }
 {
     wide(weights[FALSES])
-}
-
-fn wide(x: u16) -> usize
-    ensures { λ r. ⌜ r ≡ x ⌝ }
-{
-    x as usize
 }

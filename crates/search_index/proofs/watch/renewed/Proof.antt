@@ -10,12 +10,10 @@ use mir.Val.{toZ, ofZ}
 use mir.Facts.{toZ-ofZ}
 use borrow.Author.Needs.{needs, sfits-of, scaled-fits}
 use Rattle.clause_list.specs.ClauseList.{clausesOf}
-use Rattle.search_rules.specs.Rules.{placeOf}
 use Rattle.search_rules.specs.Held.{InRange}
-use Rattle.search_rules.proofs.Found.{place-below}
-use Rattle.search_scan.proofs.Words.{place-of}
 use Rattle.search_index.specs.Index.{IsHead, Chains, literalWeight, byteSays, looked, Due}
-use Rattle.search_index.proofs.Renewing.{word-within, word-range, weight-taken, weight-fits, renewed-stands, head-found, owner-within}
+use Rattle.search_index.proofs.Renewing.{word-within, word-range, place-low, weight-taken, weight-fits, renewed-stands}
+use Rattle.search_index.proofs.Renewing.{head-found, owner-within}
 use Rattle.search_index.proofs.Words.{words-are, clauses-within}
 use Rattle.search_index.proofs.watch.renewed.Statement.{statement}
 use Rattle.search_index.proofs.watch.renewed.Tie as tie
@@ -29,7 +27,7 @@ module _ (c : tie.Start) where
   values = c .args .values .now
 
   abbrev Dues : Type 0
-  Dues = Due (clausesOf list) values (c .args .was) (c .args .i) (c .args .w)
+  Dues = Due (clausesOf list) values (c .args .p) (c .args .was) (c .args .i) (c .args .w)
 
   static : Chains (clausesOf list) (c .args .chains .now)
   static = c .pre .1 .1 .0
@@ -38,7 +36,7 @@ module _ (c : tie.Start) where
   short = omega (arith, ap length (words-are _ list (c .pre .0)), static .short)
 
   inside : c .args .i < length list
-  inside = word-within list values (c .pre .0) _ _ _ (c .pre .1 .1 .1)
+  inside = word-within list values (c .pre .0) _ _ _ _ (c .pre .1 .1 .1)
 
 owner-requires : tie.Need-owner-requires
 owner-requires c κs =
@@ -50,7 +48,7 @@ head-requires c κs =
       static s .linked .long,
       omega (
         arith,
-        owner-within (list s) _ (s .pre .0) _ _ _ (s .pre .1 .1 .1) _ (static s) _ (c .owner .ensures),
+        owner-within (list s) _ (s .pre .0) _ _ _ _ (s .pre .1 .1 .1) _ (static s) _ (c .owner .ensures),
         clauses-within _ (list s) (s .pre .0),
         short s,
       ),
@@ -65,7 +63,7 @@ module _ (c : tie.After-head) where
   at-head d = record {
     c = d .spot .c;
     within = d .spot .within;
-    at = head-found (list s) _ (s .pre .0) _ _ _ d _ (static s) _ _ (c .before .owner .ensures) (c .head .ensures);
+    at = head-found (list s) _ (s .pre .0) _ _ _ _ d _ (static s) _ _ (c .before .owner .ensures) (c .head .ensures);
   }
 
 look-up-requires : tie.Need-look-up-requires
@@ -93,75 +91,58 @@ module _ (c : tie.After-l) where
   literal-is = toZ-ofZ (sfits-of (c .l .given))
 
   range : InRange (length (values r)) (toZ w32 (ofZ w32 word))
-  range = rw literal-is (word-range (list r) (values r) (r .pre .0) _ _ _ (r .pre .1 .1 .1))
+  range = rw literal-is (word-range (list r) (values r) (r .pre .0) _ _ _ _ (r .pre .1 .1 .1))
 
   plain : r .args .w < 32768
   plain = omega (arith, c .before .if1 .left)
 
-place-requires : tie.Need-place-requires
-place-requires c κs = let h = range c in (h .0, (let b = h .1 in omega (arith, b, r c .pre .1 .0)))
-
-module _ (c : tie.After-place) where
-  abbrev l : tie.After-l
-  l = c .before
-
-  at-is : c .place .result ≡ placeOf (word l)
-  at-is = c .place .ensures ∙ place-of _ ∙ ap placeOf (literal-is l)
-
-  in-values : c .place .result < length (values (r l))
-  in-values = omega (arith, at-is, place-below _ (word l) (word-range (list (r l)) (values (r l)) (r l .pre .0) _ _ _ (r l .pre .1 .1 .1)))
-
-shared-slice-read-x : tie.Need-shared-slice-read-x
-shared-slice-read-x c = in-values (c .before)
-
 literal-weight-requires : tie.Need-literal-weight-requires
-literal-weight-requires c κs = range (c .before .before) .0
+literal-weight-requires c κs = range c .0
 
--- the weights of the literal
+-- what the literal weighed, and what it weighs
 module _ (c : tie.After-literal-weight) where
-  abbrev o : tie.After-place
-  o = c .before .before
+  abbrev k : tie.After-l
+  k = c .before
 
-  old-is : c .literal-weight .result ≡ literalWeight (byteSays (r (l o) .args .was) (word (l o)))
-  old-is = c .literal-weight .ensures ∙ ap (λ z. literalWeight (byteSays (r (l o) .args .was) z)) (literal-is (l o))
-
-module _ (c : tie.After-literal-weight2) where
-  abbrev m : tie.After-literal-weight
-  m = c .before
-
-  abbrev byte : ℕ
-  byte = getD (values (r (l (o m)))) (o m .place .result) 0
-
-  byte-is : byte ≡ getD (values (r (l (o m)))) (placeOf (word (l (o m)))) 0
-  byte-is = ap (λ n. getD (values (r (l (o m)))) n 0) (at-is (o m))
-
-  new-is : c .literal-weight2 .result ≡ literalWeight (byteSays byte (word (l (o m))))
-  new-is = c .literal-weight2 .ensures ∙ ap (λ z. literalWeight (byteSays byte z)) (literal-is (l (o m)))
+  old-is : c .literal-weight .result ≡ literalWeight (byteSays (r k .args .was) (word k))
+  old-is = c .literal-weight .ensures ∙ ap (λ z. literalWeight (byteSays (r k .args .was) z)) (literal-is k)
 
 sub-result : tie.Need-sub-result
 sub-result c =
-    let s = r (l (o c)) in
-    weight-taken (list s) (values s) (s .pre .0) _ _ _ (s .pre .1 .1 .1) (plain (l (o c))) _ (old-is c)
+    let s = r (k c) in
+    weight-taken (list s) (values s) (s .pre .0) _ _ _ _ (s .pre .1 .1 .1) (plain (k c)) _ (old-is c)
+
+shared-slice-read-literal-weight : tie.Need-shared-slice-read-literal-weight
+shared-slice-read-literal-weight c =
+    let s = r (k (c .before)) in place-low (list s) (values s) (s .pre .0) _ _ _ _ (s .pre .1 .1 .1)
 
 literal-weight-requires-2 : tie.Need-literal-weight-requires-2
-literal-weight-requires-2 c κs = range (l (o c)) .0
+literal-weight-requires-2 c κs = range (k (c .before)) .0
+
+module _ (c : tie.After-literal-weight2) where
+  abbrev m : tie.After-literal-weight
+  m = c .before .before
+
+  abbrev byte : ℕ
+  byte = getD (values (r (k m))) (r (k m) .args .p) 0
+
+  new-is : c .literal-weight2 .result ≡ literalWeight (byteSays byte (word (k m)))
+  new-is = c .literal-weight2 .ensures ∙ ap (λ z. literalWeight (byteSays byte z)) (literal-is (k m))
 
 add-result : tie.Need-add-result
 add-result c =
-    let s = r (l (o (m c))) in
-    omega (
-      arith,
-      weight-fits (list s) (values s) (s .pre .0) _ _ _ (s .pre .1 .1 .1) (plain (l (o (m c)))) _ (old-is (m c)) _ _ (byte-is c) (new-is c)
-          (short s),
-    )
+    let q = k (m c) in
+    let s = r q in
+    omega (arith, weight-fits (list s) (values s) (s .pre .0) _ _ _ _ (s .pre .1 .1 .1) (plain q) _ (old-is (m c)) _ (new-is c) (short s))
 
 returns-2 : tie.Need-returns-2
 returns-2 c d =
-    let s = r (l (o (m c))) in
-    renewed-stands (list s) (values s) (s .pre .0) _ _ _ d (plain (l (o (m c)))) _ (old-is (m c)) _ _ (byte-is c) (new-is c)
+    let q = k (m c) in
+    let s = r q in
+    renewed-stands (list s) (values s) (s .pre .0) _ _ _ _ d (plain q) _ (old-is (m c)) _ (new-is c)
 
 pub renewed-spec : {M : Type 1} → statement M
 renewed-spec =
     tie.close
-    (tie.spec owner-requires head-requires look-up-requires returns mul-l shared-slice-copy-out-l place-requires shared-slice-read-x
-    literal-weight-requires sub-result literal-weight-requires-2 add-result returns-2)
+    (tie.spec owner-requires head-requires look-up-requires returns mul-l shared-slice-copy-out-l literal-weight-requires sub-result
+    shared-slice-read-literal-weight literal-weight-requires-2 add-result returns-2)

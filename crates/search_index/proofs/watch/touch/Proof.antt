@@ -61,7 +61,7 @@ module _ (c : tie.After-owner Inv-loop μ-loop) where
   below : c .owner .result < 16384
   below = owner-low (clauses (k q)) _ _ _ _ (static (k q)) _ _ (walk q) (positive q) _ (c .owner .ensures)
 
-  due : Due (clauses (k q)) (s (k q) .args .values .now) (s (k q) .args .was) (q .before .loop .i)
+  due : Due (clauses (k q)) (s (k q) .args .values .now) (s (k q) .args .p) (s (k q) .args .was) (q .before .loop .i)
       (getD (q .before .loop .weights) (c .owner .result) 0)
   due = due-here (clauses (k q)) _ _ _ _ (static (k q)) _ _ (walk q) (positive q) _ (c .owner .ensures)
 

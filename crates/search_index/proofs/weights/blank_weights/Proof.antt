@@ -4,7 +4,7 @@ use Rattle.search_index.proofs.weights.blank_weights.Statement.{stateme
 use Rattle.search_index.proofs.weights.blank_weights.Tie as tie
 
 returns : tie.Need-returns
-returns c = blank-list 16641
+returns c = blank-list 17410
 
 pub blank-weights-spec : {M : Type 1} → statement M
 blank-weights-spec = tie.close (tie.spec returns)
