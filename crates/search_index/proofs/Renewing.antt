@@ -1,19 +1,22 @@
 -- What stands for a clause when the value of a variable that it names has changed.
 use mathlib.Core.Path.{_≡_, refl, sym, _∙_, ap, subst}
+use mathlib.Core.Bool.{true, false}
 use mathlib.Core.List.{List, [], _∷_}
 use Prim.Native.Nat.{ℕ, suc, _+_, _-_, _<_, _≤_}
 use native.Mathlib.Omega.{arith}
 use lib.IntN.{ℤ, pos}
 use lib.ListN.{length, getD, set}
 use Rattle.clause_list.specs.ClauseList.{clausesOf, wordsOf}
+use Rattle.literal.specs.Literals.{isPositive}
 use Rattle.search_rules.specs.Rules.{placeOf}
 use Rattle.search_rules.specs.Held.{InRange}
 use Rattle.search_rules.specs.Inner.{Fine}
 use Rattle.search_rules.proofs.Ranges.{ranged}
 use Rattle.search_rules.proofs.Found.{place-below}
-use Rattle.search_index.specs.Index.{limit, clauseAt, headOf, IsHead, ownerAt, headAt, Chains, Apart, literalWeight, byteSays, weightOf, mixed}
+use Rattle.search_index.specs.Index.{limit, clauseAt, headOf, ownerAt, headAt, Chains, Apart, literalWeight, byteSays, weightOf, mixed}
 use Rattle.search_index.specs.Index.{Stands, weighed, Stood, was-weighed, was-looked, Due}
 use Rattle.search_index.proofs.Touching.{word-in}
+use Rattle.search_index.proofs.WeightCode.{weighs-above, weighs-below}
 use Rattle.search_index.proofs.Weighing.{weight-change, weight-low, weight-high}
 use Rattle.search_index.proofs.Words.{words-are, literal-at, clause-ranged, literal-ranged, head-high}
 
@@ -22,7 +25,13 @@ was-weight : (values : List ℕ) (clause : List ℤ) (w : ℕ) → w < mixed →
 was-weight values clause w h (was-weighed a e) = (a, e)
 was-weight values clause w h (was-looked b) = absurd (omega (arith, h, b))
 
-module _ (list : List ℤ) (values : List ℕ) (fine : Fine (length values) list) (p was i w : ℕ) (d : Due (clausesOf list) values p was i w) where
+module _ (list : List ℤ) (values : List ℕ) (fine : Fine (length values) list) (down up i w : ℕ) (d : Due (clausesOf list) values down up i w) where
+  abbrev p : ℕ
+  p = d .p
+
+  abbrev was : ℕ
+  was = d .was
+
   abbrev clauses : List (List ℤ)
   clauses = clausesOf list
 
@@ -54,38 +63,66 @@ module _ (list : List ℤ) (values : List ℕ) (fine : Fine (length values) list
   pub place-low : p < length values
   place-low = omega (arith, sym place-is, place-below (length values) word word-range)
 
-  -- the clause is weighed: the word's weight was a, and is b
-  module _ (plain : w < mixed) (a : ℕ) (was-is : a ≡ literalWeight (byteSays was word)) where
+  -- the clause is weighed
+  module _ (plain : w < mixed) (short : length list ≤ limit) where
     stood : Apart clause × (w ≡ weightOf (set values p was) clause)
     stood = was-weight _ clause w plain (d .stood)
 
+    -- the word's weight was a, and is b
+    a : ℕ
+    a = literalWeight (byteSays was word)
+
+    b : ℕ
+    b = literalWeight (byteSays (getD values p 0) word)
+
     a-is : a ≡ literalWeight (byteSays was (getD clause (d .spot .k) (pos 0)))
-    a-is = was-is ∙ ap (λ l. literalWeight (byteSays was l)) word-is
+    unfolding a
+    a-is = ap (λ l. literalWeight (byteSays was l)) word-is
 
-    pub weight-taken : a ≤ w
-    weight-taken = omega (arith, a-is, stood .1, weight-low values p was (d .spot .k) clause place-low (d .spot .inside) (d .spot .names))
+    b-is : b ≡ literalWeight (byteSays (getD values p 0) (getD clause (d .spot .k) (pos 0)))
+    unfolding b
+    b-is = ap (λ l. literalWeight (byteSays (getD values p 0) l)) word-is
 
-    module _ (b : ℕ) (now-is : b ≡ literalWeight (byteSays (getD values p 0) word)) where
-      b-is : b ≡ literalWeight (byteSays (getD values p 0) (getD clause (d .spot .k) (pos 0)))
-      b-is = now-is ∙ ap (λ l. literalWeight (byteSays (getD values p 0) l)) word-is
+    taken : suc a ≤ w
+    taken = omega (arith, a-is, stood .1, weight-low values p was (d .spot .k) clause place-low (d .spot .inside) (d .spot .names))
 
-      weight-is : w - a + b ≡ weightOf values clause
-      weight-is =
-          omega (
-            arith,
-            weight-taken,
-            a-is,
-            b-is,
-            stood .1,
-            weight-change values p was (d .spot .k) clause place-low (stood .0) (d .spot .inside) (d .spot .names),
-          )
+    changed : weightOf values clause + a ≡ w + b
+    changed =
+        omega (arith, a-is, b-is, stood .1, weight-change values p was (d .spot .k) clause place-low (stood .0) (d .spot .inside) (d .spot .names))
 
-      pub weight-fits : length list ≤ limit → w - a + b < 65536
-      weight-fits short =
-          omega (arith, weight-is, weight-high values clause, head-high clauses (d .spot .c) (d .spot .within), ap length words, short)
+    high : weightOf values clause < 32768
+    high = omega (arith, weight-high values clause, head-high clauses (d .spot .c) (d .spot .within), ap length words, short)
 
-      pub renewed-stands : Stands values clause (w - a + b)
-      renewed-stands = weighed (stood .0) weight-is
+    -- the literal, as the machine has it
+    module _ (z : ℤ) (e : z ≡ word) where
+      above : isPositive z ≡ true → (a ≡ down) × (b ≡ up)
+      unfolding a b
+      above t = (weighs-above was z word e (word-range .0) t ∙ sym (d .down-is), weighs-above (getD values p 0) z word e (word-range .0) t ∙ sym (d .up-is))
+
+      below : isPositive z ≡ false → (a + down ≡ 2) × (b + up ≡ 2)
+      unfolding a b
+      below t = (
+        ap (λ n. literalWeight (byteSays was word) + n) (d .down-is) ∙ weighs-below was z word e (word-range .0) t,
+        ap (λ n. literalWeight (byteSays (getD values p 0) word) + n) (d .up-is) ∙ weighs-below (getD values p 0) z word e (word-range .0) t,
+      )
+
+      pub fits-above : isPositive z ≡ true → w + up < 65536
+      fits-above t = let x = above t in omega (arith, x .0, x .1, changed, high, plain, taken)
+
+      pub taken-above : isPositive z ≡ true → down ≤ w + up
+      taken-above t = let x = above t in omega (arith, x .0, taken)
+
+      pub stands-above : isPositive z ≡ true → Stands values clause (w + up - down)
+      stands-above t = let x = above t in weighed (stood .0) (omega (arith, x .0, x .1, changed, taken))
+
+      pub fits-below : isPositive z ≡ false → w + down < 65536
+      fits-below t = let x = below t in omega (arith, x .0, plain)
+
+      pub taken-below : isPositive z ≡ false → up ≤ w + down
+      taken-below t = let x = below t in omega (arith, x .0, x .1, taken)
+
+      pub stands-below : isPositive z ≡ false → Stands values clause (w + down - up)
+      stands-below t = let x = below t in weighed (stood .0) (omega (arith, x .0, x .1, changed, taken))
 
   -- the clause's head, as the code finds it
   pub head-found : (chains : List ℕ) → Chains clauses chains → (o h : ℕ) → o ≡ ownerAt chains i → h ≡ headAt chains o → (h ≡ headOf clauses (d .spot .c))

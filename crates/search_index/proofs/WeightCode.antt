@@ -12,9 +12,9 @@ use lib.Seq.{getD-set-same, getD-set-other}
 use borrow.Author.Tests.{le-leb, eq-eqb, ne-eqb}
 use Rattle.literal.specs.Literals.{isPositive}
 use Rattle.search_rules.specs.Held.{InRange}
-use Rattle.search_rules.specs.Rules.{falsified, truthOf, negated}
+use Rattle.search_rules.specs.Rules.{Truth, falsified, satisfied, unassigned, truthOf, negated}
 use Rattle.search_scan.proofs.Words.{is-above, is-below}
-use Rattle.search_index.specs.Index.{limit, literalWeight, byteSays, mixed, told, flagAt, falsesAt, lowAt, weightWords, Up}
+use Rattle.search_index.specs.Index.{limit, literalWeight, byteWeight, byteSays, mixed, told, flagAt, falsesAt, lowAt, weightWords, Up}
 use Rattle.search_index.specs.Index.{one, Raised, Noted, Put}
 use Rattle.search_index.proofs.Spots.{same-or-not}
 
@@ -23,46 +23,41 @@ pub told-above : (w : ℕ) → mixed ≤ w → w - mixed ≡ told w
 unfolding told
 told-above w h = rw (le-leb mixed w h) refl
 
--- The weight of a literal: z is the literal as the machine has it, x its variable's byte.
-other-byte : (x : ℕ) → (x ≡ 1 → ⊥) → (x ≡ 2 → ⊥) → truthOf x ≡ falsified
-unfolding truthOf
-other-byte zero p q = refl
-other-byte (suc zero) p q = absurd (p refl)
-other-byte (suc (suc zero)) p q = absurd (q refl)
-other-byte (suc (suc (suc n))) p q = refl
+-- the weight of a byte
+pub weighs-true : (x : ℕ) → x ≡ 1 → 2 ≡ byteWeight x
+unfolding byteWeight truthOf literalWeight
+weighs-true x e = rw e refl
 
-pub weighs-open : (x : ℕ) (l : ℤ) → x ≡ 2 → 1 ≡ literalWeight (byteSays x l)
-unfolding byteSays truthOf negated literalWeight
-weighs-open x (pos n) e = rw e refl
-weighs-open x (negsuc n) e = rw e refl
+pub weighs-open : (x : ℕ) → x ≡ 2 → 1 ≡ byteWeight x
+unfolding byteWeight truthOf literalWeight
+weighs-open x e = rw e refl
 
+pub weighs-false : (x : ℕ) → (x ≡ 1 → ⊥) → (x ≡ 2 → ⊥) → 0 ≡ byteWeight x
+unfolding byteWeight truthOf literalWeight
+weighs-false zero p q = refl
+weighs-false (suc zero) p q = absurd (p refl)
+weighs-false (suc (suc zero)) p q = absurd (q refl)
+weighs-false (suc (suc (suc n))) p q = refl
+
+-- the weight of a literal and of its opposite
+opposites : (t : Truth) → literalWeight (negated t) + literalWeight t ≡ 2
+unfolding negated literalWeight
+opposites falsified = refl
+opposites satisfied = refl
+opposites unassigned = refl
+
+-- the weight of a literal by its sign: z is the literal as the machine has it
 module _ (x : ℕ) (z l : ℤ) (e : z ≡ l) (r : 1 ≤ natAbs l) where
   within : InRange (natAbs l) l
   within = (r, omega arith)
 
-  says-above : isPositive z ≡ true → byteSays x l ≡ truthOf x
-  unfolding byteSays
-  says-above t = rw (is-above (natAbs l) z l e within t .1) refl
+  pub weighs-above : isPositive z ≡ true → literalWeight (byteSays x l) ≡ byteWeight x
+  unfolding byteSays byteWeight
+  weighs-above t = rw (is-above (natAbs l) z l e within t .1) refl
 
-  says-below : isPositive z ≡ false → byteSays x l ≡ negated (truthOf x)
-  unfolding byteSays
-  says-below t = rw (is-below (natAbs l) z l e within t .1) refl
-
-  pub weighs-true-above : isPositive z ≡ true → x ≡ 1 → 2 ≡ literalWeight (byteSays x l)
-  unfolding truthOf literalWeight
-  weighs-true-above t q = sym (ap literalWeight (says-above t ∙ ap truthOf q))
-
-  pub weighs-false-above : isPositive z ≡ true → (x ≡ 1 → ⊥) → (x ≡ 2 → ⊥) → 0 ≡ literalWeight (byteSays x l)
-  unfolding literalWeight
-  weighs-false-above t q s = sym (ap literalWeight (says-above t ∙ other-byte x q s))
-
-  pub weighs-false-below : isPositive z ≡ false → x ≡ 1 → 0 ≡ literalWeight (byteSays x l)
-  unfolding truthOf negated literalWeight
-  weighs-false-below t q = sym (ap literalWeight (says-below t ∙ ap (λ y. negated (truthOf y)) q))
-
-  pub weighs-true-below : isPositive z ≡ false → (x ≡ 1 → ⊥) → (x ≡ 2 → ⊥) → 2 ≡ literalWeight (byteSays x l)
-  unfolding negated literalWeight
-  weighs-true-below t q s = sym (ap literalWeight (says-below t ∙ ap negated (other-byte x q s)))
+  pub weighs-below : isPositive z ≡ false → literalWeight (byteSays x l) + byteWeight x ≡ 2
+  unfolding byteSays byteWeight
+  weighs-below t = rw (is-below (natAbs l) z l e within t .1) (opposites (truthOf x))
 
 -- the number of false clauses
 abbrev pub bit : ℕ → ℕ

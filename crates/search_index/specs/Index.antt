@@ -98,6 +98,10 @@ literalWeight falsified = 0
 literalWeight unassigned = 1
 literalWeight satisfied = 2
 
+-- the weight of the literal that says that its variable, which has this byte, is true
+unfoldable pub byteWeight : ℕ → ℕ
+byteWeight x = literalWeight (truthOf x)
+
 -- what a byte says of a literal of its variable
 unfoldable pub byteSays : ℕ → ℤ → Truth
 byteSays x (pos n) = truthOf x
@@ -215,7 +219,11 @@ pub data Watched (clauses : List (List ℤ)) (values chains weights : List ℕ) 
   unwatched : length weights ≡ 0 → Watched clauses values chains weights
   watched : Indexed clauses values chains weights → Watched clauses values chains weights
 
--- a word that names the variable at place p, whose value was another, and whose clause is to be weighed anew
-pub record Due (clauses : List (List ℤ)) (values : List ℕ) (p was i w : ℕ) : Type 0 where
+-- a word whose clause is to be weighed anew: the byte of the variable that it names was another, and had the weight `down`; now it has `up`
+pub record Due (clauses : List (List ℤ)) (values : List ℕ) (down up i w : ℕ) : Type 0 where
+  pub p : ℕ
+  pub was : ℕ
   pub spot : Spot clauses p i
   pub stood : Stood (set values p was) (clauseAt clauses (spot .c)) w
+  pub down-is : down ≡ byteWeight was
+  pub up-is : up ≡ byteWeight (getD values p 0)

@@ -16,9 +16,9 @@ use crate::chains::link;
 use crate::chains::note_count;
 use crate::chains::note_head;
 use crate::chains::owner;
+use crate::weights::byte_weight;
 use crate::weights::falses;
 use crate::weights::first_unit;
-use crate::weights::literal_weight;
 use crate::weights::look_up;
 use crate::weights::put;
 use crate::weights::sight;
@@ -53,13 +53,13 @@ pub fn build(list: &[i32], values: &[u8], chains: &mut [u16], weights: &mut [u16
     note_count(chains, c);
 }
 
-// What stands for the clause of word i, where w stood for it before the byte of its variable, at place p, changed.
-fn renewed(list: &[i32], values: &[u8], chains: &[u16], p: usize, was: u8, i: usize, w: u16) -> u16
+// What stands for the clause of word i, where w stood for it: the byte of its variable had the weight `down`, and has `up`.
+fn renewed(list: &[i32], values: &[u8], chains: &[u16], down: u16, up: u16, i: usize, w: u16) -> u16
     requires { ⌜ Fine (length (now values)) (now list) ⌝ }
     requires { ⌜ length (now values) ≤ lastVariable ⌝ }
     requires { ⌜ Chains (clausesOf (now list)) (now chains) ⌝ }
-    requires { ⌜ Due (clausesOf (now list)) (now values) p was i w ⌝ }
-    ensures { λ r. ⌜ ((d : Due (clausesOf (now (list .entry))) (now (values .entry)) p was i w)
+    requires { ⌜ Due (clausesOf (now list)) (now values) down up i w ⌝ }
+    ensures { λ r. ⌜ ((d : Due (clausesOf (now (list .entry))) (now (values .entry)) down up i w)
         → Stands (now (values .entry)) (clauseAt (clausesOf (now (list .entry))) (d .spot .c)) r) ⌝ }
 {
     if w >= MIXED {
@@ -67,8 +67,10 @@ fn renewed(list: &[i32], values: &[u8], chains: &[u16], p: usize, was: u8, i: us
         let at = head(chains, c);
         return look_up(list, values, at);
     }
-    let l = list[i];
-    w - literal_weight(was, l) + literal_weight(values[p], l)
+    if literal::is_positive(list[i]) {
+        return w + up - down;
+    }
+    w + down - up
 }
 
 // The clauses that name a variable whose byte was another are put right.
@@ -82,10 +84,12 @@ pub fn touch(list: &[i32], values: &[u8], chains: &[u16], weights: &mut [u16], p
     if weights.len() == 0 {
         return;
     }
+    let down = byte_weight(was);
+    let up = byte_weight(values[p]);
     let mut i = first(chains, p);
     while i > 0 {
         let c = owner(chains, i);
-        let w = renewed(list, values, chains, p, was, i, weights[c]);
+        let w = renewed(list, values, chains, down, up, i, weights[c]);
         put(weights, c, w);
         i = link(chains, i);
     }

@@ -12,7 +12,7 @@ ghost use Rattle.clause_list.specs.ClauseList.{clausesOf};
 ghost use Rattle.literal.specs.Literals.{lastVariable};
 ghost use Rattle.search_rules.specs.Inner.{Fine};
 ghost use Rattle.search_scan.specs.Seen.{seenAs, seen};
-ghost use Rattle.search_index.specs.Index.{limit, weightWords, lowAt, Raised, clauseAt, IsHead, literalWeight, byteSays, weightOf, statusOf, mixed, told, falsesAt, one, Tallied, Noted, Put, Stopped, Same};
+ghost use Rattle.search_index.specs.Index.{limit, weightWords, lowAt, Raised, clauseAt, IsHead, literalWeight, byteWeight, byteSays, weightOf, statusOf, mixed, told, falsesAt, one, Tallied, Noted, Put, Stopped, Same};
 use crate::chains::LIMIT;
 use search_scan::Seen;
 use search_scan::scan;
@@ -40,19 +40,26 @@ fn wide(x: u16) -> usize
     x as usize
 }
 
-// The weight of a literal whose variable has this byte: false 0, open 1, true 2.
-pub fn literal_weight(x: u8, l: i32) -> u16
-    requires { ⌜ 1 ≤ natAbs l ⌝ }
-    ensures { λ r. ⌜ r ≡ literalWeight (byteSays x l) ⌝ }
+// The weight of the literal that says that its variable, which has this byte, is true: false 0, open 1, true 2.
+pub fn byte_weight(x: u8) -> u16
+    ensures { λ r. ⌜ r ≡ byteWeight x ⌝ }
 {
+    if x == 1 {
+        return 2;
+    }
     if x == 2 {
         return 1;
     }
-    if literal::is_positive(l) {
-        if x == 1 { 2 } else { 0 }
-    } else {
-        if x == 1 { 0 } else { 2 }
-    }
+    0
+}
+
+// The weight of a literal whose variable has this byte.
+fn literal_weight(x: u8, l: i32) -> u16
+    requires { ⌜ 1 ≤ natAbs l ⌝ }
+    ensures { λ r. ⌜ r ≡ literalWeight (byteSays x l) ⌝ }
+{
+    let w = byte_weight(x);
+    if literal::is_positive(l) { w } else { 2 - w }
 }
 
 // The weight of the clause at a head.
