@@ -2,10 +2,12 @@
 //! counts.
 //! Before anything is timed, both sides are held to the same answers.
 
+mod counters;
 mod every;
 mod idle;
 mod resuming;
 mod search;
+mod steps;
 mod text;
 mod translation;
 mod worked;
@@ -171,7 +173,16 @@ fn texts(lists: &[Clauses], large: &Clauses) {
     text::texts("a random list", &[text::random_list(1_000_000, SEED)]);
 }
 
+/// All measures; or one of two that the run names.
 fn main() {
+    match std::env::args().nth(1).as_deref() {
+        Some("steps") => steps::each(),
+        Some("few") => steps::few(),
+        _ => all(),
+    }
+}
+
+fn all() {
     let sheets = sheets(300);
     let lists: Vec<Clauses> = sheets.iter().map(|(_, clauses)| clauses.clone()).collect();
     searches("search of 300 random sheets", &lists, 300);
@@ -191,4 +202,6 @@ fn main() {
     giving_up();
     idle::walks();
     worked::table();
+    steps::each();
+    steps::few();
 }

@@ -32,7 +32,7 @@ impl Listed {
 }
 
 /// The examples in the order of their names.
-fn examples() -> Vec<(String, Sheet)> {
+pub fn examples() -> Vec<(String, Sheet)> {
     let files = std::fs::read_dir("examples").expect("the examples").map(|file| file.expect("a file").path());
     let mut texts: Vec<_> = files.filter(|file| file.extension().is_some_and(|end| end == "hex")).collect();
     texts.sort();

@@ -11,6 +11,7 @@ pub mod every;
 pub mod every_kind;
 pub mod finder;
 pub mod idle_walks;
+pub mod large_sheets;
 pub mod long_search;
 pub mod meaning;
 pub mod next;

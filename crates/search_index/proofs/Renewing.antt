@@ -1,6 +1,6 @@
 -- What stands for a clause when the value of a variable that it names has changed.
 use mathlib.Core.Path.{_≡_, refl, sym, _∙_, ap, subst}
-use mathlib.Core.Bool.{true, false}
+use mathlib.Core.Bool.{Bool, true, false, cond}
 use mathlib.Core.List.{List, [], _∷_}
 use Prim.Native.Nat.{ℕ, suc, _+_, _-_, _<_, _≤_}
 use native.Mathlib.Omega.{arith}
@@ -17,7 +17,7 @@ use Rattle.search_index.specs.Index.{limit, clauseAt, headOf, ownerAt, h
 use Rattle.search_index.specs.Index.{Stands, weighed, Stood, was-weighed, was-looked, Due}
 use Rattle.search_index.proofs.Touching.{word-in}
 use Rattle.search_index.proofs.WeightCode.{weighs-above, weighs-below}
-use Rattle.search_index.proofs.Weighing.{weight-change, weight-low, weight-high}
+use Rattle.search_index.proofs.Weighing.{weight-change, weight-low, weight-high, weight-some}
 use Rattle.search_index.proofs.Words.{words-are, literal-at, clause-ranged, literal-ranged, head-high}
 
 -- what stood for a clause below all statuses was its weight
@@ -25,7 +25,7 @@ was-weight : (values : List ℕ) (clause : List ℤ) (w : ℕ) → w < mixed →
 was-weight values clause w h (was-weighed a e) = (a, e)
 was-weight values clause w h (was-looked b) = absurd (omega (arith, h, b))
 
-module _ (list : List ℤ) (values : List ℕ) (fine : Fine (length values) list) (down up i w : ℕ) (d : Due (clausesOf list) values down up i w) where
+module _ (list : List ℤ) (values : List ℕ) (fine : Fine (length values) list) (gains : List ℕ) (i w : ℕ) (d : Due (clausesOf list) values gains i w) where
   abbrev p : ℕ
   p = d .p
 
@@ -93,36 +93,47 @@ module _ (list : List ℤ) (values : List ℕ) (fine : Fine (length values) list
     high : weightOf values clause < 32768
     high = omega (arith, weight-high values clause, head-high clauses (d .spot .c) (d .spot .within), ap length words, short)
 
-    -- the literal, as the machine has it
-    module _ (z : ℤ) (e : z ≡ word) where
-      above : isPositive z ≡ true → (a ≡ down) × (b ≡ up)
+    -- the literal as the machine has it, its sign, and what its weight changes by
+    module _ (z : ℤ) (e : z ≡ word) (n : ℕ) (sign : n ≡ cond (isPositive z) 1 0) where
+      gained : (t : Bool) → isPositive z ≡ t → getD gains n 0 + a ≡ 2 + b
       unfolding a b
-      above t = (weighs-above was z word e (word-range .0) t ∙ sym (d .down-is), weighs-above (getD values p 0) z word e (word-range .0) t ∙ sym (d .up-is))
+      gained true t =
+          let m : n ≡ 1 = sign ∙ ap (λ t. cond t 1 0) t in
+          omega (
+            arith,
+            ap (λ k. getD gains k 0) m,
+            d .changed .positive,
+            weighs-above was z word e (word-range .0) t,
+            weighs-above (getD values p 0) z word e (word-range .0) t,
+          )
+      gained false t =
+          let m : n ≡ 0 = sign ∙ ap (λ t. cond t 1 0) t in
+          omega (
+            arith,
+            ap (λ k. getD gains k 0) m,
+            d .changed .negative,
+            weighs-below was z word e (word-range .0) t,
+            weighs-below (getD values p 0) z word e (word-range .0) t,
+          )
 
-      below : isPositive z ≡ false → (a + down ≡ 2) × (b + up ≡ 2)
-      unfolding a b
-      below t = (
-        ap (λ n. literalWeight (byteSays was word) + n) (d .down-is) ∙ weighs-below was z word e (word-range .0) t,
-        ap (λ n. literalWeight (byteSays (getD values p 0) word) + n) (d .up-is) ∙ weighs-below (getD values p 0) z word e (word-range .0) t,
-      )
+      gain : getD gains n 0 + a ≡ 2 + b
+      gain = gained (isPositive z) refl
 
-      pub fits-above : isPositive z ≡ true → w + up < 65536
-      fits-above t = let x = above t in omega (arith, x .0, x .1, changed, high, plain, taken)
+      low : (t : Bool) → n ≡ cond t 1 0 → n < 2
+      low true q = omega (arith, q)
+      low false q = omega (arith, q)
 
-      pub taken-above : isPositive z ≡ true → down ≤ w + up
-      taken-above t = let x = above t in omega (arith, x .0, taken)
+      pub sign-low : n < 2
+      sign-low = low (isPositive z) sign
 
-      pub stands-above : isPositive z ≡ true → Stands values clause (w + up - down)
-      stands-above t = let x = above t in weighed (stood .0) (omega (arith, x .0, x .1, changed, taken))
+      pub gain-fits : w + getD gains n 0 < 65536
+      gain-fits = omega (arith, gain, changed, high, taken)
 
-      pub fits-below : isPositive z ≡ false → w + down < 65536
-      fits-below t = let x = below t in omega (arith, x .0, plain)
+      pub gain-high : 2 ≤ w + getD gains n 0
+      gain-high = omega (arith, gain, changed, taken, weight-some values clause)
 
-      pub taken-below : isPositive z ≡ false → up ≤ w + down
-      taken-below t = let x = below t in omega (arith, x .0, x .1, taken)
-
-      pub stands-below : isPositive z ≡ false → Stands values clause (w + down - up)
-      stands-below t = let x = below t in weighed (stood .0) (omega (arith, x .0, x .1, changed, taken))
+      pub renewed-stands : Stands values clause (w + getD gains n 0 - 2)
+      renewed-stands = weighed (stood .0) (omega (arith, gain, changed, taken))
 
   -- the clause's head, as the code finds it
   pub head-found : (chains : List ℕ) → Chains clauses chains → (o h : ℕ) → o ≡ ownerAt chains i → h ≡ headAt chains o → (h ≡ headOf clauses (d .spot .c))

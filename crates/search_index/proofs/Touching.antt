@@ -11,7 +11,7 @@ use Rattle.clause_list.specs.ClauseList.{wordsOf}
 use Rattle.search_rules.specs.Rules.{placeOf}
 use Rattle.search_index.specs.Index.{limit, clauseAt, headOf, Spot, firstAt, linkAt, ownerAt, Chained, Chains, Apart, weightOf, statusOf}
 use Rattle.search_index.specs.Index.{mixed, Stands, weighed, looked, Stood, was-weighed, was-looked, one, falsesAt, Tallied, Put, Indexed}
-use Rattle.search_index.specs.Index.{byteWeight, Watched, unwatched, watched, Due}
+use Rattle.search_index.specs.Index.{Gains, Watched, unwatched, watched, Due}
 use Rattle.search_index.proofs.Spots.{same-or-not}
 use Rattle.search_index.proofs.Words.{clauses-few, head-high}
 use Rattle.search_index.proofs.Weighing.{weight-away, status-away}
@@ -111,28 +111,27 @@ module _ (clauses : List (List ℤ)) (chains values : List ℕ) (p was : ℕ) (s
             (rw (put .here) (stood-twice values (set values p was) _ w (twice clauses p i j here s e (omega (arith, b, falls))) stands))
 
     -- the clause of the word, as the code finds it
-    module _ (o : ℕ) (e : o ≡ ownerAt chains i) (down up : ℕ) (down-is : down ≡ byteWeight was) (up-is : up ≡ byteWeight (getD values p 0)) where
+    module _ (o : ℕ) (e : o ≡ ownerAt chains i) (gains : List ℕ) (changed : Gains was (getD values p 0) gains) where
       owner-is : o ≡ here .c
       owner-is = e ∙ owner-here
 
       pub owner-low : o < limit
       owner-low = omega (arith, owner-is, here .within, few)
 
-      pub due-here : Due clauses values down up i (getD weights o 0)
+      pub due-here : Due clauses values gains i (getD weights o 0)
       due-here = record {
         p = p;
         was = was;
         spot = here;
         stood = subst (λ c. Stood (set values p was) (clauseAt clauses (here .c)) (getD weights c 0)) (sym owner-is) (walk .due i here (omega arith));
-        down-is = down-is;
-        up-is = up-is;
+        changed = changed;
       }
 
       pub asks-here : (one (getD weights o 0) ≤ falsesAt weights) × (falsesAt weights ≤ limit)
       asks-here = put-asks weights (length clauses) o (walk .tallied) (omega (arith, owner-is, here .within)) few
 
       pub walk-on : (w : ℕ) (weights' : List ℕ) → Put weights o w weights'
-          → ((d : Due clauses values down up i (getD weights o 0)) → Stands values (clauseAt clauses (d .spot .c)) w)
+          → ((d : Due clauses values gains i (getD weights o 0)) → Stands values (clauseAt clauses (d .spot .c)) w)
           → Walk clauses values p was weights' (linkAt chains i)
       unfolding due-here
       walk-on w weights' put stands = walk-next w weights' (subst (λ c. Put weights c w weights') owner-is put) (stands due-here)

@@ -39,6 +39,16 @@ weighs-false (suc zero) p q = absurd (p refl)
 weighs-false (suc (suc zero)) p q = absurd (q refl)
 weighs-false (suc (suc (suc n))) p q = refl
 
+low : (t : Truth) → literalWeight t ≤ 2
+unfolding literalWeight
+low falsified = omega arith
+low satisfied = omega arith
+low unassigned = omega arith
+
+pub byte-low : (x : ℕ) → byteWeight x ≤ 2
+unfolding byteWeight
+byte-low x = low (truthOf x)
+
 -- the weight of a literal and of its opposite
 opposites : (t : Truth) → literalWeight (negated t) + literalWeight t ≡ 2
 unfolding negated literalWeight

@@ -219,11 +219,16 @@ pub data Watched (clauses : List (List ℤ)) (values chains weights : List ℕ) 
   unwatched : length weights ≡ 0 → Watched clauses values chains weights
   watched : Indexed clauses values chains weights → Watched clauses values chains weights
 
--- a word whose clause is to be weighed anew: the byte of the variable that it names was another, and had the weight `down`; now it has `up`
-pub record Due (clauses : List (List ℤ)) (values : List ℕ) (down up i w : ℕ) : Type 0 where
+-- The byte of a variable was another: what the weights of its literals change by, and 2 more, of the negative literal and of the positive one.
+pub record Gains (was is : ℕ) (gains : List ℕ) : Type 0 where
+  pub long : length gains ≡ 2
+  pub negative : getD gains 0 0 + byteWeight is ≡ 2 + byteWeight was
+  pub positive : getD gains 1 0 + byteWeight was ≡ 2 + byteWeight is
+
+-- a word whose clause is to be weighed anew, since the byte of the variable that it names was another
+pub record Due (clauses : List (List ℤ)) (values gains : List ℕ) (i w : ℕ) : Type 0 where
   pub p : ℕ
   pub was : ℕ
   pub spot : Spot clauses p i
   pub stood : Stood (set values p was) (clauseAt clauses (spot .c)) w
-  pub down-is : down ≡ byteWeight was
-  pub up-is : up ≡ byteWeight (getD values p 0)
+  pub changed : Gains was (getD values p 0) gains

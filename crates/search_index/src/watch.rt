@@ -16,12 +16,13 @@ use crate::chains::link;
 use crate::chains::note_count;
 use crate::chains::note_head;
 use crate::chains::owner;
-use crate::weights::byte_weight;
 use crate::weights::falses;
 use crate::weights::first_unit;
+use crate::weights::gains;
 use crate::weights::look_up;
 use crate::weights::put;
 use crate::weights::sight;
+use crate::weights::sign;
 use crate::weights::weigh;
 use search_scan::Seen;
 use search_scan::scan;
@@ -53,13 +54,14 @@ pub fn build(list: &[i32], values: &[u8], chains: &mut [u16], weights: &mut [u16
     note_count(chains, c);
 }
 
-// What stands for the clause of word i, where w stood for it: the byte of its variable had the weight `down`, and has `up`.
-fn renewed(list: &[i32], values: &[u8], chains: &[u16], down: u16, up: u16, i: usize, w: u16) -> u16
+// What stands for the clause of word i, where w stood for it before the byte of its variable changed. (A table, and no branch, tells the two signs
+// apart: which one comes next is not to be foreseen.)
+fn renewed(list: &[i32], values: &[u8], chains: &[u16], gains: &[u16; 2], i: usize, w: u16) -> u16
     requires { ⌜ Fine (length (now values)) (now list) ⌝ }
     requires { ⌜ length (now values) ≤ lastVariable ⌝ }
     requires { ⌜ Chains (clausesOf (now list)) (now chains) ⌝ }
-    requires { ⌜ Due (clausesOf (now list)) (now values) down up i w ⌝ }
-    ensures { λ r. ⌜ ((d : Due (clausesOf (now (list .entry))) (now (values .entry)) down up i w)
+    requires { ⌜ Due (clausesOf (now list)) (now values) (now gains) i w ⌝ }
+    ensures { λ r. ⌜ ((d : Due (clausesOf (now (list .entry))) (now (values .entry)) (now (gains .entry)) i w)
         → Stands (now (values .entry)) (clauseAt (clausesOf (now (list .entry))) (d .spot .c)) r) ⌝ }
 {
     if w >= MIXED {
@@ -67,10 +69,8 @@ fn renewed(list: &[i32], values: &[u8], chains: &[u16], down: u16, up: u16, i: u
         let at = head(chains, c);
         return look_up(list, values, at);
     }
-    if literal::is_positive(list[i]) {
-        return w + up - down;
-    }
-    w + down - up
+    let s = sign(list[i]);
+    w + gains[s] - 2
 }
 
 // The clauses that name a variable whose byte was another are put right.
@@ -84,12 +84,11 @@ pub fn touch(list: &[i32], values: &[u8], chains: &[u16], weights: &mut [u16], p
     if weights.len() == 0 {
         return;
     }
-    let down = byte_weight(was);
-    let up = byte_weight(values[p]);
+    let gains = gains(was, values[p]);
     let mut i = first(chains, p);
     while i > 0 {
         let c = owner(chains, i);
-        let w = renewed(list, values, chains, down, up, i, weights[c]);
+        let w = renewed(list, values, chains, &gains, i, weights[c]);
         put(weights, c, w);
         i = link(chains, i);
     }

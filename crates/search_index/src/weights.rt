@@ -9,10 +9,10 @@ ghost use lib.Dec.{eqb};
 ghost use lib.IntN.{natAbs};
 ghost use lib.ListN.{length, getD};
 ghost use Rattle.clause_list.specs.ClauseList.{clausesOf};
-ghost use Rattle.literal.specs.Literals.{lastVariable};
+ghost use Rattle.literal.specs.Literals.{isPositive, lastVariable};
 ghost use Rattle.search_rules.specs.Inner.{Fine};
 ghost use Rattle.search_scan.specs.Seen.{seenAs, seen};
-ghost use Rattle.search_index.specs.Index.{limit, weightWords, lowAt, Raised, clauseAt, IsHead, literalWeight, byteWeight, byteSays, weightOf, statusOf, mixed, told, falsesAt, one, Tallied, Noted, Put, Stopped, Same};
+ghost use Rattle.search_index.specs.Index.{limit, weightWords, lowAt, Raised, clauseAt, IsHead, literalWeight, byteWeight, Gains, byteSays, weightOf, statusOf, mixed, told, falsesAt, one, Tallied, Noted, Put, Stopped, Same};
 use crate::chains::LIMIT;
 use search_scan::Seen;
 use search_scan::scan;
@@ -41,7 +41,7 @@ fn wide(x: u16) -> usize
 }
 
 // The weight of the literal that says that its variable, which has this byte, is true: false 0, open 1, true 2.
-pub fn byte_weight(x: u8) -> u16
+fn byte_weight(x: u8) -> u16
     ensures { λ r. ⌜ r ≡ byteWeight x ⌝ }
 {
     if x == 1 {
@@ -51,6 +51,25 @@ pub fn byte_weight(x: u8) -> u16
         return 1;
     }
     0
+}
+
+// 1 for a literal that says that its variable is true, else 0.
+pub fn sign(l: i32) -> usize
+    ensures { λ r. ⌜ r ≡ cond (isPositive l) 1 0 ⌝ }
+{
+    if literal::is_positive(l) { 1 } else { 0 }
+}
+
+// What the weights of the negative literal and of the positive one change by, and 2 more, where their variable's byte was another.
+pub fn gains(was: u8, is: u8) -> [u16; 2]
+    ensures { λ r. ⌜ Gains was is r ⌝ }
+{
+    let before = byte_weight(was);
+    let after = byte_weight(is);
+    let mut gains = [0u16; 2];
+    gains[0] = 2 + before - after;
+    gains[1] = 2 + after - before;
+    gains
 }
 
 // The weight of a literal whose variable has this byte.

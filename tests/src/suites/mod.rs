@@ -13,8 +13,10 @@ mod dimacs;
 mod earlier;
 mod every;
 mod failures;
+mod indexes;
 mod least;
 mod lengths;
+mod long_runs;
 mod next;
 mod onward;
 mod programs;
@@ -27,6 +29,7 @@ mod solvers;
 mod stack;
 mod states;
 mod walks;
+mod ways;
 
 type Suite = fn(&Run) -> Outcome;
 
@@ -40,6 +43,8 @@ pub fn all() -> Vec<(&'static str, Suite)> {
         ("search", search::run),
         ("resume", resume::run),
         ("next", next::run),
+        ("ways", ways::run),
+        ("long_runs", long_runs::run),
         ("dimacs", dimacs::run),
         ("solve", solve::run),
         ("programs", programs::run),

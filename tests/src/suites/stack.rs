@@ -1,5 +1,5 @@
-//! The deepest sheets through every call and every program: the answers are the reference's, and no more stack is taken
-//! than docs/ARCHITECTURE.md states.
+//! The deepest sheets through every call and every program, and one whose search goes on by an index (`ways.rs`): the answers are the
+//! reference's, and no more stack is taken than docs/ARCHITECTURE.md states.
 
 use super::every::{is_whole, printed_lines};
 use super::programs::clause_text;
@@ -10,6 +10,7 @@ use reference::deep::sheets;
 use reference::every::every;
 use reference::finder::finder;
 use reference::random::Source;
+use reference::random_sheet::gates_of;
 use reference::random_state::{Call, Resume};
 use reference::sheet::Sheet;
 use std::process::{Command, Stdio};
@@ -129,8 +130,10 @@ fn program(name: &str, stated: usize) -> Command {
 
 pub fn run(_: &Run) -> Outcome {
     let mut depths = [0; CALLS.len()];
-    let sheets = sheets();
-    for (name, sheet) in &sheets {
+    let deepest = sheets();
+    // the lists of the deepest are too long for an index, or too short for one within the steps that are waited for
+    let indexed = ("by an index", gates_of(400));
+    for (name, sheet) in deepest.iter().chain([&indexed]) {
         let bytes = sheet.bytes();
         let asked = format!("{name}, sheet {}", hex(&bytes));
         calls(&mut depths, sheet, &asked)?;
@@ -149,5 +152,6 @@ pub fn run(_: &Run) -> Outcome {
     }
     let seen: Vec<String> =
         CALLS.iter().zip(depths).map(|((name, _), depth)| format!("{name} {}", depth.div_ceil(1_024))).collect();
-    Ok(format!("{} sheets of 200 nodes within the stated stacks; KB taken: {}", sheets.len(), seen.join(", ")))
+    let sheets = format!("{} sheets of 200 nodes and one of an index", deepest.len());
+    Ok(format!("{sheets} within the stated stacks; KB taken: {}", seen.join(", ")))
 }

@@ -1,6 +1,5 @@
 -- `search_index::watch::renewed` meets its contract. Assumes nothing.
 use mathlib.Core.Path.{_≡_, refl, sym, _∙_, ap}
-use mathlib.Core.Bool.{true, false}
 use mathlib.Core.List.{List}
 use Prim.Native.Nat.{ℕ, _<_, _≤_}
 use native.Mathlib.Omega.{arith}
@@ -10,11 +9,9 @@ use mir.Syntax.{w32}
 use mir.Val.{toZ, ofZ}
 use mir.Facts.{toZ-ofZ}
 use borrow.Author.Needs.{needs, sfits-of, scaled-fits}
-use Rattle.literal.specs.Literals.{isPositive}
 use Rattle.clause_list.specs.ClauseList.{clausesOf}
 use Rattle.search_index.specs.Index.{IsHead, Chains, looked, Due}
-use Rattle.search_index.proofs.Renewing.{word-within, head-found, owner-within, fits-above, taken-above, stands-above}
-use Rattle.search_index.proofs.Renewing.{fits-below, taken-below, stands-below}
+use Rattle.search_index.proofs.Renewing.{word-within, head-found, owner-within, sign-low, gain-fits, gain-high, renewed-stands}
 use Rattle.search_index.proofs.Words.{words-are, clauses-within}
 use Rattle.search_index.proofs.watch.renewed.Statement.{statement}
 use Rattle.search_index.proofs.watch.renewed.Tie as tie
@@ -28,7 +25,7 @@ module _ (c : tie.Start) where
   values = c .args .values .now
 
   abbrev Dues : Type 0
-  Dues = Due (clausesOf list) values (c .args .down) (c .args .up) (c .args .i) (c .args .w)
+  Dues = Due (clausesOf list) values (c .args .gains .now) (c .args .i) (c .args .w)
 
   static : Chains (clausesOf list) (c .args .chains .now)
   static = c .pre .1 .1 .0
@@ -37,7 +34,7 @@ module _ (c : tie.Start) where
   short = omega (arith, ap length (words-are _ list (c .pre .0)), static .short)
 
   inside : c .args .i < length list
-  inside = word-within list values (c .pre .0) _ _ _ _ (c .pre .1 .1 .1)
+  inside = word-within list values (c .pre .0) _ _ _ (c .pre .1 .1 .1)
 
 owner-requires : tie.Need-owner-requires
 owner-requires c κs =
@@ -49,7 +46,7 @@ head-requires c κs =
       static s .linked .long,
       omega (
         arith,
-        owner-within (list s) _ (s .pre .0) _ _ _ _ (s .pre .1 .1 .1) _ (static s) _ (c .owner .ensures),
+        owner-within (list s) _ (s .pre .0) _ _ _ (s .pre .1 .1 .1) _ (static s) _ (c .owner .ensures),
         clauses-within _ (list s) (s .pre .0),
         short s,
       ),
@@ -64,7 +61,7 @@ module _ (c : tie.After-head) where
   at-head d = record {
     c = d .spot .c;
     within = d .spot .within;
-    at = head-found (list s) _ (s .pre .0) _ _ _ _ d _ (static s) _ _ (c .before .owner .ensures) (c .head .ensures);
+    at = head-found (list s) _ (s .pre .0) _ _ _ d _ (static s) _ _ (c .before .owner .ensures) (c .head .ensures);
   }
 
 look-up-requires : tie.Need-look-up-requires
@@ -74,17 +71,17 @@ returns : tie.Need-returns
 unfolding at-head
 returns c d = looked (c .look-up .ensures (at-head (c .before) d))
 
-mul-is-positive : tie.Need-mul-is-positive
-mul-is-positive c = let s = c .before .before .before in omega (arith, inside s, short s)
+mul-sign : tie.Need-mul-sign
+mul-sign c = let s = c .before .before .before in omega (arith, inside s, short s)
 
-shared-slice-copy-out-is-positive : tie.Need-shared-slice-copy-out-is-positive
-shared-slice-copy-out-is-positive c = inside (c .before .before .before)
+shared-slice-copy-out-sign : tie.Need-shared-slice-copy-out-sign
+shared-slice-copy-out-sign c = inside (c .before .before .before)
 
-is-positive-requires : tie.Need-is-positive-requires
-is-positive-requires c κs = search needs
+sign-requires : tie.Need-sign-requires
+sign-requires c κs = search needs
 
--- the sign of the literal
-module _ (c : tie.After-is-positive) where
+-- the sign of the literal, and what its weight changes by
+module _ (c : tie.After-sign) where
   abbrev r : tie.Start
   r = c .before .before .before .before .before
 
@@ -92,55 +89,41 @@ module _ (c : tie.After-is-positive) where
   word = getD (list r) (r .args .i) (pos 0)
 
   literal-is : toZ w32 (ofZ w32 word) ≡ word
-  literal-is = toZ-ofZ (sfits-of (c .before .is-positive-arg .given))
+  literal-is = toZ-ofZ (sfits-of (c .before .sign-arg .given))
 
   plain : r .args .w < 32768
   plain = omega (arith, c .before .before .if1 .left)
 
-above : (c : tie.Then2) → isPositive (toZ w32 (ofZ w32 (word (c .before)))) ≡ true
-above c = sym (c .before .is-positive .ensures) ∙ c .if2 .taken
+  below : c .sign .result < 2
+  below =
+      sign-low (list r) (values r) (r .pre .0) _ _ _ (r .pre .1 .1 .1) plain (short r) _ literal-is _ (c .sign .ensures)
 
-below : (c : tie.Else2) → isPositive (toZ w32 (ofZ w32 (word (c .before)))) ≡ false
-below c = sym (c .before .is-positive .ensures) ∙ c .if2 .left
+mul-result : tie.Need-mul-result
+mul-result c = omega (arith, below c)
+
+element-copy-out-result : tie.Need-element-copy-out-result
+element-copy-out-result c = below c
 
 add-result : tie.Need-add-result
 add-result c =
     let q = c .before in
     let s = r q in
-    omega (arith, fits-above (list s) (values s) (s .pre .0) _ _ _ _ (s .pre .1 .1 .1) (plain q) (short s) _ (literal-is q) (above c))
+    omega (arith, gain-fits (list s) (values s) (s .pre .0) _ _ _ (s .pre .1 .1 .1) (plain q) (short s) _ (literal-is q) _ (q .sign .ensures))
 
 sub-result : tie.Need-sub-result
 sub-result c =
     let q = c .before in
     let s = r q in
-    taken-above (list s) (values s) (s .pre .0) _ _ _ _ (s .pre .1 .1 .1) (plain q) (short s) _ (literal-is q) (above c)
+    gain-high (list s) (values s) (s .pre .0) _ _ _ (s .pre .1 .1 .1) (plain q) (short s) _ (literal-is q) _ (q .sign .ensures)
 
 returns-2 : tie.Need-returns-2
 returns-2 c d =
     let q = c .before in
     let s = r q in
-    stands-above (list s) (values s) (s .pre .0) _ _ _ _ d (plain q) (short s) _ (literal-is q) (above c)
-
-add-result-2 : tie.Need-add-result-2
-add-result-2 c =
-    let q = c .before in
-    let s = r q in
-    omega (arith, fits-below (list s) (values s) (s .pre .0) _ _ _ _ (s .pre .1 .1 .1) (plain q) (short s) _ (literal-is q) (below c))
-
-sub-result-2 : tie.Need-sub-result-2
-sub-result-2 c =
-    let q = c .before in
-    let s = r q in
-    taken-below (list s) (values s) (s .pre .0) _ _ _ _ (s .pre .1 .1 .1) (plain q) (short s) _ (literal-is q) (below c)
-
-returns-3 : tie.Need-returns-3
-returns-3 c d =
-    let q = c .before in
-    let s = r q in
-    stands-below (list s) (values s) (s .pre .0) _ _ _ _ d (plain q) (short s) _ (literal-is q) (below c)
+    renewed-stands (list s) (values s) (s .pre .0) _ _ _ d (plain q) (short s) _ (literal-is q) _ (q .sign .ensures)
 
 pub renewed-spec : {M : Type 1} → statement M
 renewed-spec =
     tie.close
-    (tie.spec owner-requires head-requires look-up-requires returns mul-is-positive shared-slice-copy-out-is-positive is-positive-requires
-    add-result sub-result returns-2 add-result-2 sub-result-2 returns-3)
+    (tie.spec owner-requires head-requires look-up-requires returns mul-sign shared-slice-copy-out-sign sign-requires mul-result
+    element-copy-out-result add-result sub-result returns-2)
