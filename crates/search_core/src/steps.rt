@@ -69,7 +69,7 @@ pub fn back(
         if was == 3 {
             values[at] = 1;
             trail[top] = literal::opposite(l);
-            touch(list, values, chains, weights, at, was);
+            touch(list, values, chains, weights, at, 3);
             return n;
         }
         values[at] = 2;

@@ -120,21 +120,19 @@ mul-t20 c = scaled (c .before .before .before .before .before)
 slice-set-from-trail : tie.Need-slice-set-from-trail Inv-loop μ-loop
 slice-set-from-trail c = slice-copy-out-l (c .before .before .before .before .before)
 
--- the value at the place is changed
-changed : (c : tie.After-place Inv-loop μ-loop) (b : ℕ)
+-- the value at the place, which was x, is changed
+changed : (c : tie.After-place Inv-loop μ-loop) (b x : ℕ) → x ≡ getD (c .before .before .before .loop .values) (c .place .result) 0
     → Fine (length (set (c .before .before .before .loop .values) (c .place .result) b)) (s (c .before .before) .args .list .now)
     × ((length (set (c .before .before .before .loop .values) (c .place .result) b) ≤ lastVariable)
     × ((c .place .result < length (set (c .before .before .before .loop .values) (c .place .result) b))
-    × Watched (clausesOf (s (c .before .before) .args .list .now))
-    (set (set (c .before .before .before .loop .values) (c .place .result) b) (c .place .result)
-    (getD (c .before .before .before .loop .values) (c .place .result) 0))
+    × Watched (clausesOf (s (c .before .before) .args .list .now)) (set (set (c .before .before .before .loop .values) (c .place .result) b) (c .place .result) x)
     (s (c .before .before) .args .chains .now) (c .before .before .before .loop .weights)))
-changed c b =
+changed c b x e =
     let q = c .before .before in
-    touches _ _ _ _ b _ _ _ refl (in-values c) refl (rw (wide q) (s q .pre .0)) (omega (arith, wide q, s q .pre .1 .0)) (q .before .loop .inv .1)
+    touches _ _ _ _ b x _ _ refl (in-values c) e (rw (wide q) (s q .pre .0)) (omega (arith, wide q, s q .pre .1 .0)) (q .before .loop .inv .1)
 
 touch-requires : tie.Need-touch-requires Inv-loop μ-loop
-touch-requires c κs = changed (c .before .before .before .before .before) 1
+touch-requires c κs = changed (c .before .before .before .before .before) 1 3 (sym (c .before .before .before .if1 .taken))
 
 same-length : tie.Need-same-length Inv-loop μ-loop
 same-length c = simp length-set (wide (c .before .before .before .before .before .before .before .before .before .before))
@@ -175,7 +173,7 @@ slice-set-of-trail : tie.Need-slice-set-of-trail Inv-loop μ-loop
 slice-set-of-trail c = slice-copy-out-l (c .before .before .before .before)
 
 touch-requires-2 : tie.Need-touch-requires-2 Inv-loop μ-loop
-touch-requires-2 c κs = changed (c .before .before .before .before) 2
+touch-requires-2 c κs = changed (c .before .before .before .before) 2 _ refl
 
 loop-less : tie.Need-loop-less Inv-loop μ-loop
 loop-less c = omega (arith, c .before .before .before .before .before .before .before .before .before .loop-test .taken)
