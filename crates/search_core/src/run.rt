@@ -219,7 +219,7 @@ fn scanned_steps(words: usize, v: usize, budget: u64) -> u64
     if v > LIMIT {
         return budget;
     }
-    let few = (8 + LIMIT / (words + 1)) as u64;
+    let few = (4 + LIMIT / (words + 1)) as u64;
     if budget < few {
         return budget;
     }

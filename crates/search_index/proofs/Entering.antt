@@ -3,7 +3,7 @@ use mathlib.Core.Path.{_≡_, refl, sym, _∙_, ap}
 use mathlib.Core.Bool.{Bool, true}
 use mathlib.Core.Logic.{_⊎_, ⊎-elim}
 use mathlib.Core.List.{List}
-use Prim.Native.Nat.{ℕ, suc, _+_, _-_, _<_, _≤_}
+use Prim.Native.Nat.{ℕ, suc, _+_, _*_, _-_, _<_, _≤_}
 use native.Mathlib.Omega.{arith}
 use native.Mathlib.Nat.{eq-or-lt-of-le}
 use lib.IntN.{ℤ, pos}
@@ -38,49 +38,49 @@ pub linked-set : (clauses : List (List ℤ)) → ((q j : ℕ) → Spot clauses q
 linked-set clauses low chains bound b h k x l = record {
   long = length-set chains k x ∙ h .long;
   chained = chained-same clauses _ _ _ bound (h .chained) low _ _ _
-      (λ j a. getD-set-other chains k (16384 + j) x 0 (λ e. absurd (omega (arith, e))))
-      (λ j a. getD-set-other chains k (32768 + j) x 0 (λ e. absurd (omega (arith, e))))
+      (λ j a. getD-set-other chains k (16384 + 2 * j) x 0 (λ e. absurd (omega (arith, e))))
+      (λ j a. getD-set-other chains k (16385 + 2 * j) x 0 (λ e. absurd (omega (arith, e))))
       (λ q a. getD-set-other chains k q x 0 (λ e. absurd (omega (arith, e))));
 }
 
 -- word i names the variable at place p and is of clause c
 abbrev pub withWord : List ℕ → ℕ → ℕ → ℕ → List ℕ
-withWord chains p i c = set (set (set chains (32768 + i) c) (16384 + i) (firstAt chains p)) p i
+withWord chains p i c = set (set (set chains (16385 + 2 * i) c) (16384 + 2 * i) (firstAt chains p)) p i
 
 module _ (chains : List ℕ) (long : length chains ≡ 65537) (p i c : ℕ) (lp : p < limit) (li : i < limit) where
   abbrev owned : List ℕ
-  owned = set chains (32768 + i) c
+  owned = set chains (16385 + 2 * i) c
 
   abbrev joined : List ℕ
-  joined = set owned (16384 + i) (firstAt chains p)
+  joined = set owned (16384 + 2 * i) (firstAt chains p)
 
   owned-long : length owned ≡ 65537
-  owned-long = length-set chains (32768 + i) c ∙ long
+  owned-long = length-set chains (16385 + 2 * i) c ∙ long
 
   joined-long : length joined ≡ 65537
-  joined-long = length-set owned (16384 + i) _ ∙ owned-long
+  joined-long = length-set owned (16384 + 2 * i) _ ∙ owned-long
 
   word-long : length (withWord chains p i c) ≡ 65537
   word-long = length-set joined p i ∙ joined-long
 
   -- other places
-  word-other : (k : ℕ) → (k ≡ p → ⊥) → (k ≡ 16384 + i → ⊥) → (k ≡ 32768 + i → ⊥) → getD (withWord chains p i c) k 0 ≡ getD chains k 0
+  word-other : (k : ℕ) → (k ≡ p → ⊥) → (k ≡ 16384 + 2 * i → ⊥) → (k ≡ 16385 + 2 * i → ⊥) → getD (withWord chains p i c) k 0 ≡ getD chains k 0
   word-other k a b d =
-      getD-set-other joined p k i 0 a ∙ getD-set-other owned (16384 + i) k _ 0 b ∙ getD-set-other chains (32768 + i) k c 0 d
+      getD-set-other joined p k i 0 a ∙ getD-set-other owned (16384 + 2 * i) k _ 0 b ∙ getD-set-other chains (16385 + 2 * i) k c 0 d
 
   word-first : firstAt (withWord chains p i c) p ≡ i
   word-first = getD-set-same joined p i 0 (omega (arith, joined-long))
 
   word-link : linkAt (withWord chains p i c) i ≡ firstAt chains p
   word-link =
-      getD-set-other joined p (16384 + i) i 0 (λ e. absurd (omega (arith, e)))
-      ∙ getD-set-same owned (16384 + i) _ 0 (omega (arith, owned-long))
+      getD-set-other joined p (16384 + 2 * i) i 0 (λ e. absurd (omega (arith, e)))
+      ∙ getD-set-same owned (16384 + 2 * i) _ 0 (omega (arith, owned-long))
 
   word-owner : ownerAt (withWord chains p i c) i ≡ c
   word-owner =
-      getD-set-other joined p (32768 + i) i 0 (λ e. absurd (omega (arith, e)))
-      ∙ getD-set-other owned (16384 + i) (32768 + i) _ 0 (λ e. absurd (omega (arith, e)))
-      ∙ getD-set-same chains (32768 + i) c 0 (omega (arith, long))
+      getD-set-other joined p (16385 + 2 * i) i 0 (λ e. absurd (omega (arith, e)))
+      ∙ getD-set-other owned (16384 + 2 * i) (16385 + 2 * i) _ 0 (λ e. absurd (omega (arith, e)))
+      ∙ getD-set-same chains (16385 + 2 * i) c 0 (omega (arith, long))
 
   word-heads : (k : ℕ) → headAt (withWord chains p i c) k ≡ headAt chains k
   word-heads k =
@@ -91,8 +91,8 @@ module _ (chains : List ℕ) (long : length chains ≡ 65537) (p i c : ℕ) (lp 
   linked-word clauses low h s e = record {
     long = word-long;
     chained = chained-more clauses _ _ _ i (h .chained) low _ _ _
-        (λ j a. word-other (16384 + j) (λ z. absurd (omega (arith, z))) (λ z. absurd (omega (arith, z))) (λ z. absurd (omega (arith, z))))
-        (λ j a. word-other (32768 + j) (λ z. absurd (omega (arith, z))) (λ z. absurd (omega (arith, z))) (λ z. absurd (omega (arith, z))))
+        (λ j a. word-other (16384 + 2 * j) (λ z. absurd (omega (arith, z))) (λ z. absurd (omega (arith, z))) (λ z. absurd (omega (arith, z))))
+        (λ j a. word-other (16385 + 2 * j) (λ z. absurd (omega (arith, z))) (λ z. absurd (omega (arith, z))) (λ z. absurd (omega (arith, z))))
         p s word-first word-link (word-owner ∙ e)
         (λ q a n. word-other q n (λ z. absurd (omega (arith, z))) (λ z. absurd (omega (arith, z))));
   }

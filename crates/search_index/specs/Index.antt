@@ -3,7 +3,7 @@
 use mathlib.Core.Path.{_≡_}
 use mathlib.Core.Bool.{Bool, true, false, cond}
 use mathlib.Core.List.{List, [], _∷_}
-use Prim.Native.Nat.{ℕ, zero, suc, _+_, _-_, _/_, _<_, _≤_}
+use Prim.Native.Nat.{ℕ, zero, suc, _+_, _-_, _*_, _/_, _<_, _≤_}
 use lib.Dec.{eqb, leb}
 use lib.IntN.{ℤ, pos, negsuc}
 use lib.ListN.{length, getD, set}
@@ -41,15 +41,15 @@ pub record Spot (clauses : List (List ℤ)) (p i : ℕ) : Type 0 where
   pub word : i ≡ suc (headOf clauses c + k)
 
 -- The chains: the latest word that names the variable at a place, from each word of a literal the one before it that names the same variable
--- (0 where there is none) and its clause, each clause's head, the number of clauses.
+-- (0 where there is none) and, beside it, its clause, each clause's head, the number of clauses.
 abbrev pub firstAt : List ℕ → ℕ → ℕ
 firstAt chains p = getD chains p 0
 
 abbrev pub linkAt : List ℕ → ℕ → ℕ
-linkAt chains i = getD chains (16384 + i) 0
+linkAt chains i = getD chains (16384 + 2 * i) 0
 
 abbrev pub ownerAt : List ℕ → ℕ → ℕ
-ownerAt chains i = getD chains (32768 + i) 0
+ownerAt chains i = getD chains (16385 + 2 * i) 0
 
 abbrev pub headAt : List ℕ → ℕ → ℕ
 headAt chains c = getD chains (49152 + c) 0

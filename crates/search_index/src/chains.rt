@@ -1,5 +1,5 @@
 // The chains, in one array: for each place the latest word that names its variable; for each word of a literal the one before it that
-// names the same variable, and its clause; for each clause its head; the number of clauses.
+// names the same variable and, beside it, its clause; for each clause its head; the number of clauses.
 ghost use mathlib.Core.Path.{_≡_};
 ghost use mathlib.Core.Bool.{true};
 ghost use Prim.Native.Nat.{ℕ, suc, _+_, _<_, _≤_};
@@ -14,7 +14,7 @@ pub const LIMIT: usize = 16384;
 
 const LINKS: usize = LIMIT;
 
-const OWNERS: usize = 2 * LIMIT;
+const OWNERS: usize = LIMIT + 1;
 
 const HEADS: usize = 3 * LIMIT;
 
@@ -46,7 +46,7 @@ pub fn link(chains: &[u16], i: usize) -> usize
     requires { ⌜ (length (now chains) ≡ chainWords) × (i < limit) ⌝ }
     ensures { λ r. ⌜ r ≡ linkAt (now (chains .entry)) i ⌝ }
 {
-    wide(chains[LINKS + i])
+    wide(chains[LINKS + 2 * i])
 }
 
 // The clause of word i.
@@ -54,7 +54,7 @@ pub fn owner(chains: &[u16], i: usize) -> usize
     requires { ⌜ (length (now chains) ≡ chainWords) × (i < limit) ⌝ }
     ensures { λ r. ⌜ r ≡ ownerAt (now (chains .entry)) i ⌝ }
 {
-    wide(chains[OWNERS + i])
+    wide(chains[OWNERS + 2 * i])
 }
 
 // The head of clause c.
@@ -91,8 +91,8 @@ pub fn enter(list: &[i32], c: usize, head: usize, chains: &mut [u16]) -> bool
         if head < wide(earlier) {
             apart = false;
         }
-        chains[OWNERS + i] = c as u16;
-        chains[LINKS + i] = earlier;
+        chains[OWNERS + 2 * i] = c as u16;
+        chains[LINKS + 2 * i] = earlier;
         chains[p] = i as u16;
         i += 1;
     }

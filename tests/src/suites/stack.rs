@@ -23,11 +23,11 @@ const CALLS: [(&str, usize); 11] = [
     ("write", 1_024),
     ("read_back", 1_024),
     ("find", 1_024),
-    ("search", 64),
+    ("search", 256),
     ("text_size", 64),
     ("text", 64),
-    ("resume", 64),
-    ("next", 64),
+    ("resume", 256),
+    ("next", 256),
 ];
 const PROGRAMS: [(&str, usize); 4] = [("finder", 1_024), ("cnf", 1_024), ("finder_on", 1_024), ("every", 1_024)];
 

@@ -172,20 +172,26 @@ module _ (c : tie.Joined1 Inv-loop μ-loop) where
 cast-chains : tie.Need-cast-chains Inv-loop μ-loop
 cast-chains c = omega (arith, number (word-at c))
 
+mul-chains : tie.Need-mul-chains Inv-loop μ-loop
+mul-chains c = omega (arith, below (word-at c))
+
 add-chains : tie.Need-add-chains Inv-loop μ-loop
 add-chains c = omega (arith, below (word-at c))
 
-mul-chains : tie.Need-mul-chains Inv-loop μ-loop
-mul-chains c = omega (arith, below (word-at c))
+mul-chains-2 : tie.Need-mul-chains-2 Inv-loop μ-loop
+mul-chains-2 c = omega (arith, below (word-at c))
 
 slice-write-chains : tie.Need-slice-write-chains Inv-loop μ-loop
 slice-write-chains c = omega (arith, below (word-at c), room c)
 
+mul-chains-3 : tie.Need-mul-chains-3 Inv-loop μ-loop
+mul-chains-3 c = omega (arith, below (word-at c))
+
 add-chains-2 : tie.Need-add-chains-2 Inv-loop μ-loop
 add-chains-2 c = omega (arith, below (word-at c))
 
-mul-chains-2 : tie.Need-mul-chains-2 Inv-loop μ-loop
-mul-chains-2 c = omega (arith, below (word-at c))
+mul-chains-4 : tie.Need-mul-chains-4 Inv-loop μ-loop
+mul-chains-4 c = omega (arith, below (word-at c))
 
 slice-write-chains-2 : tie.Need-slice-write-chains-2 Inv-loop μ-loop
 slice-write-chains-2 c = simp length-set (omega (arith, below (word-at c), room c))
@@ -193,8 +199,8 @@ slice-write-chains-2 c = simp length-set (omega (arith, below (word-at c), room 
 cast-chains-2 : tie.Need-cast-chains-2 Inv-loop μ-loop
 cast-chains-2 c = omega (arith, below (word-at c))
 
-mul-chains-3 : tie.Need-mul-chains-3 Inv-loop μ-loop
-mul-chains-3 c = omega (arith, place-low (placed c))
+mul-chains-5 : tie.Need-mul-chains-5 Inv-loop μ-loop
+mul-chains-5 c = omega (arith, place-low (placed c))
 
 slice-write-chains-3 : tie.Need-slice-write-chains-3 Inv-loop μ-loop
 slice-write-chains-3 c = simp length-set (omega (arith, place-low (placed c), room c))
@@ -227,6 +233,6 @@ enter-spec =
     tie.close
     (tie.spec Inv-loop μ-loop
     add-end mul-known-count shared-slice-copy-out-known-count known-count-requires add-end-2 add-i loop-holds mul-place
-    shared-slice-copy-out-place place-requires mul-earlier slice-read-earlier wide-requires cast-chains add-chains mul-chains
-    slice-write-chains add-chains-2 mul-chains-2 slice-write-chains-2 cast-chains-2 mul-chains-3 slice-write-chains-3 add-i-2 loop-less
+    shared-slice-copy-out-place place-requires mul-earlier slice-read-earlier wide-requires cast-chains mul-chains add-chains
+    mul-chains-2 slice-write-chains mul-chains-3 add-chains-2 mul-chains-4 slice-write-chains-2 cast-chains-2 mul-chains-5 slice-write-chains-3 add-i-2 loop-less
     loop-again same-length returns)
