@@ -26,12 +26,16 @@ pub record Onward (clauses : List (List ℤ)) (v few budget : ℕ) (t : Steps) (
   pub figure : total (stepsOf (r .position)) ≡ total t + few
   pub alike : run clauses v (budget - few) (stepsOf (r .position)) to ≡ run clauses v budget t state
 
-module _ (clauses : List (List ℤ)) (v few budget : ℕ) (within : few ≤ budget) (t : Steps) (state : State) (r : Ran) (values : List ℕ) (trail : List ℤ) where
+module _ (clauses : List (List ℤ)) (v few budget : ℕ) (within : few ≤ budget) (t : Steps) (state : State) (r : Ran) (values : List ℕ)
+    (trail : List ℤ) where
   whole : run clauses v budget t state ≡ again clauses v (budget - few) (run clauses v few t state)
-  whole = let e : budget ≡ few + (budget - few) = omega (arith, within) in ap (λ n. run clauses v n t state) e ∙ resume clauses v few (budget - few) t state
+  whole =
+      let e : budget ≡ few + (budget - few) = omega (arith, within) in ap (λ n. run clauses v n t state) e
+      ∙ resume clauses v few (budget - few) t state
 
   -- what was left of the run, where that is its end
-  early : (x : End) → run clauses v few t state ≡ x → (r .end ≡ Spent → ⊥) → Ended v x r values trail → Ended v (run clauses v budget t state) r values trail
+  early : (x : End) → run clauses v few t state ≡ x → (r .end ≡ Spent → ⊥) → Ended v x r values trail
+      → Ended v (run clauses v budget t state) r values trail
   unfolding again
   early (wasNone t') e n d = subst (λ y. Ended v y r values trail) (sym (whole ∙ ap (again clauses v (budget - few)) e)) d
   early (wasFound t' s) e n d = subst (λ y. Ended v y r values trail) (sym (whole ∙ ap (again clauses v (budget - few)) e)) d

@@ -1,5 +1,5 @@
-// The step rules over values and trail, whose first `used` words are in use. Each step looks at the clauses by their index, and keeps it; where there are
-// no weights there is no index, and the list is scanned.
+// The step rules over values and trail, whose first `used` words are in use. Each step looks at the clauses by their index, and keeps it;
+// where there are no weights there is no index, and the list is scanned.
 ghost use mathlib.Core.Path.{_≡_};
 ghost use mathlib.Core.Option.{Option·getD};
 ghost use Prim.Native.Nat.{_<_, _≤_};

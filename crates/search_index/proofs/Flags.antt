@@ -137,5 +137,6 @@ begins-there weights₀ weights m r few stop same tallied = (
     low : (c : ℕ) → c < m → told (getD weights c 0) ≡ 2 → lowAt (set weights 17409 (r / 16)) ≤ c / 16
     low c k t =
         let is = getD-set-same weights 17409 (r / 16) 0 (omega (arith, tallied .long)) in
-        ⊎-elim (λ u. absurd (stop .passed c (omega arith) u (sym (ap told (same .weights-are c (omega (arith, k, few)))) ∙ t))) (λ u. omega (arith, is, u))
+        ⊎-elim (λ u. absurd (stop .passed c (omega arith) u (sym (ap told (same .weights-are c (omega (arith, k, few)))) ∙ t)))
+        (λ u. omega (arith, is, u))
         (below-or c r)

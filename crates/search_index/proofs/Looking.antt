@@ -1,19 +1,22 @@
 -- What the weights show of all clauses is what a pass over them shows.
-use mathlib.Core.Path.{_≡_, sym, _∙_, ap, subst}
+use mathlib.Core.Path.{_≡_, sym, _∙_, subst}
 use mathlib.Core.List.{List, [], _∷_}
 use Prim.Native.Nat.{ℕ, _<_, _≤_}
 use native.Mathlib.Omega.{arith}
 use lib.IntN.{ℤ}
 use lib.ListN.{length, getD}
 use Rattle.search_scan.specs.Seen.{conflicting, neither, seen}
-use Rattle.search_index.specs.Index.{limit, clauseAt, headOf, IsHead, headAt, countAt, statusOf, told, falsesAt, Stands, Tallied, Stopped, Same, Indexed}
+use Rattle.search_index.specs.Index.{limit, clauseAt, IsHead, headAt, countAt, statusOf, told, falsesAt, Stands, Tallied}
+use Rattle.search_index.specs.Index.{Stopped, Same, Indexed}
 use Rattle.search_index.proofs.Statuses.{shows-false, shows-unit, shows-neither}
 use Rattle.search_index.proofs.Weighing.{stands-tells}
 use Rattle.search_index.proofs.Words.{clauses-few, head-high}
 
 module _ (clauses : List (List ℤ)) (values chains weights : List ℕ) (index : Indexed clauses values chains weights) where
   tells : (c : ℕ) → c < length clauses → told (getD weights c 0) ≡ statusOf values (clauseAt clauses c)
-  tells c l = stands-tells values (clauseAt clauses c) (getD weights c 0) (omega (arith, head-high clauses c l, index .chains-are .short)) (index .right c l)
+  tells c l =
+      stands-tells values (clauseAt clauses c) (getD weights c 0) (omega (arith, head-high clauses c l, index .chains-are .short))
+      (index .right c l)
 
   pub few : length clauses ≤ limit
   few = omega (arith, clauses-few clauses, index .chains-are .short)

@@ -1,15 +1,15 @@
 -- A clause taken out of the list.
 use mathlib.Core.Path.{_≡_, refl, sym, _∙_, ap, subst}
-use mathlib.Core.List.{List, [], _∷_, _++_}
-use Prim.Native.Nat.{ℕ, zero, suc, _+_, _<_, _≤_}
+use mathlib.Core.List.{List, [], _∷_}
+use Prim.Native.Nat.{ℕ, zero, suc, _+_, _≤_}
 use native.Mathlib.Omega.{arith}
-use lib.IntN.{ℤ, pos, natAbs}
+use lib.IntN.{ℤ, pos}
 use lib.ListN.{length, getD, take, drop, drop-of-length-le}
 use lib.Seq.{take-all}
-use Rattle.clause_list.specs.ClauseList.{cut, clausesOf, wordsOf}
+use Rattle.clause_list.specs.ClauseList.{clausesOf, wordsOf}
 use Rattle.search_rules.specs.Inner.{AllIn, FineIn, Fine}
 use Rattle.search_rules.proofs.Ranges.{ranged}
-use Rattle.search_index.specs.Index.{clauseAt, headOf, IsHead}
+use Rattle.search_index.specs.Index.{clauseAt, IsHead}
 use Rattle.search_index.proofs.Words.{words-are, count-at, head-high, clause-ranged, part-is, part-clauses, one-words}
 
 none-fine : (v n : ℕ) → FineIn v n []

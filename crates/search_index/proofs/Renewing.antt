@@ -1,7 +1,7 @@
 -- What stands for a clause when the value of a variable that it names has changed.
 use mathlib.Core.Path.{_≡_, refl, sym, _∙_, ap, subst}
 use mathlib.Core.Bool.{Bool, true, false, cond}
-use mathlib.Core.List.{List, [], _∷_}
+use mathlib.Core.List.{List}
 use Prim.Native.Nat.{ℕ, suc, _+_, _-_, _<_, _≤_}
 use native.Mathlib.Omega.{arith}
 use lib.IntN.{ℤ, pos}
@@ -13,7 +13,8 @@ use Rattle.search_rules.specs.Held.{InRange}
 use Rattle.search_rules.specs.Inner.{Fine}
 use Rattle.search_rules.proofs.Ranges.{ranged}
 use Rattle.search_rules.proofs.Found.{place-below}
-use Rattle.search_index.specs.Index.{limit, clauseAt, headOf, ownerAt, headAt, Chains, Apart, literalWeight, byteSays, weightOf, mixed}
+use Rattle.search_index.specs.Index.{limit, clauseAt, headOf, ownerAt, headAt, Chains, Apart, literalWeight, byteSays, weightOf}
+use Rattle.search_index.specs.Index.{mixed}
 use Rattle.search_index.specs.Index.{Stands, weighed, Stood, was-weighed, was-looked, Due}
 use Rattle.search_index.proofs.Touching.{word-in}
 use Rattle.search_index.proofs.WeightCode.{weighs-above, weighs-below}
@@ -25,7 +26,8 @@ was-weight : (values : List ℕ) (clause : List ℤ) (w : ℕ) → w < mixed →
 was-weight values clause w h (was-weighed a e) = (a, e)
 was-weight values clause w h (was-looked b) = absurd (omega (arith, h, b))
 
-module _ (list : List ℤ) (values : List ℕ) (fine : Fine (length values) list) (gains : List ℕ) (i w : ℕ) (d : Due (clausesOf list) values gains i w) where
+module _ (list : List ℤ) (values : List ℕ) (fine : Fine (length values) list) (gains : List ℕ) (i w : ℕ)
+    (d : Due (clausesOf list) values gains i w) where
   abbrev p : ℕ
   p = d .p
 
@@ -55,7 +57,8 @@ module _ (list : List ℤ) (values : List ℕ) (fine : Fine (length values) list
   pub word-range : InRange (length values) word
   word-range =
       subst (InRange (length values)) (sym word-is)
-      (literal-ranged (length values) clause (d .spot .k) (clause-ranged (length values) clauses (d .spot .c) (ranged (length values) list fine) (d .spot .within)) (d .spot .inside))
+      (literal-ranged (length values) clause (d .spot .k)
+      (clause-ranged (length values) clauses (d .spot .c) (ranged (length values) list fine) (d .spot .within)) (d .spot .inside))
 
   place-is : placeOf word ≡ p
   place-is = ap placeOf word-is ∙ d .spot .names
@@ -136,9 +139,11 @@ module _ (list : List ℤ) (values : List ℕ) (fine : Fine (length values) list
       renewed-stands = weighed (stood .0) (omega (arith, gain, changed, taken))
 
   -- the clause's head, as the code finds it
-  pub head-found : (chains : List ℕ) → Chains clauses chains → (o h : ℕ) → o ≡ ownerAt chains i → h ≡ headAt chains o → (h ≡ headOf clauses (d .spot .c))
+  pub head-found : (chains : List ℕ) → Chains clauses chains → (o h : ℕ) → o ≡ ownerAt chains i → h ≡ headAt chains o
+      → (h ≡ headOf clauses (d .spot .c))
   head-found chains x o h e z =
-      z ∙ ap (headAt chains) (e ∙ x .linked .chained .owner-is p i (d .spot) (word-in clauses p i (d .spot))) ∙ x .heads (d .spot .c) (d .spot .within)
+      z ∙ ap (headAt chains) (e ∙ x .linked .chained .owner-is p i (d .spot) (word-in clauses p i (d .spot)))
+      ∙ x .heads (d .spot .c) (d .spot .within)
 
   pub owner-within : (chains : List ℕ) → Chains clauses chains → (o : ℕ) → o ≡ ownerAt chains i → o < length clauses
   owner-within chains x o e =

@@ -23,7 +23,8 @@ below-or (suc a) zero = inr (omega arith)
 below-or (suc a) (suc b) = ⊎-elim (λ l. inl (omega (arith, l))) (λ l. inr (omega (arith, l))) (below-or a b)
 
 -- a clause ends before the next begins
-pub head-next : (clauses : List (List ℤ)) (c d : ℕ) → c < d → d < length clauses → headOf clauses c + suc (length (clauseAt clauses c)) ≤ headOf clauses d
+pub head-next : (clauses : List (List ℤ)) (c d : ℕ) → c < d → d < length clauses
+    → headOf clauses c + suc (length (clauseAt clauses c)) ≤ headOf clauses d
 unfolding headOf
 head-next [] c d h l = absurd (omega arith)
 head-next (clause ∷ clauses) c zero h l = absurd (omega arith)

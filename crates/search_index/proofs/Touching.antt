@@ -1,16 +1,17 @@
 -- A chain walked to its end puts every clause that names the variable right.
 use mathlib.Core.Path.{_≡_, refl, sym, _∙_, ap, subst}
 use mathlib.Core.Logic.{_⊎_, inl, inr, ⊎-elim}
-use mathlib.Core.List.{List, [], _∷_}
-use Prim.Native.Nat.{ℕ, zero, suc, _+_, _<_, _≤_}
+use mathlib.Core.List.{List}
+use Prim.Native.Nat.{ℕ, suc, _+_, _<_, _≤_}
 use native.Mathlib.Omega.{arith}
 use native.Mathlib.Nat.{eq-or-lt-of-le}
 use lib.IntN.{ℤ, pos}
 use lib.ListN.{length, getD, set}
 use Rattle.clause_list.specs.ClauseList.{wordsOf}
 use Rattle.search_rules.specs.Rules.{placeOf}
-use Rattle.search_index.specs.Index.{limit, clauseAt, headOf, Spot, firstAt, linkAt, ownerAt, Chained, Chains, Apart, weightOf, statusOf}
-use Rattle.search_index.specs.Index.{mixed, Stands, weighed, looked, Stood, was-weighed, was-looked, one, falsesAt, Tallied, Put, Indexed}
+use Rattle.search_index.specs.Index.{limit, clauseAt, headOf, Spot, firstAt, linkAt, ownerAt, Chained, Chains, Apart}
+use Rattle.search_index.specs.Index.{mixed, Stands, weighed, looked, Stood, was-weighed, was-looked, one, falsesAt, Tallied, Put}
+use Rattle.search_index.specs.Index.{Indexed}
 use Rattle.search_index.specs.Index.{Gains, Watched, unwatched, watched, Due}
 use Rattle.search_index.proofs.Spots.{same-or-not}
 use Rattle.search_index.proofs.Words.{clauses-few, head-high}
@@ -22,8 +23,10 @@ pub word-in : (clauses : List (List ℤ)) (p i : ℕ) → Spot clauses p i → i
 word-in clauses p i s = omega (arith, s .word, s .inside, head-high clauses (s .c) (s .within))
 
 -- a clause with two words that name one variable
-pub twice : (clauses : List (List ℤ)) (p i j : ℕ) (s : Spot clauses p i) (t : Spot clauses p j) → t .c ≡ s .c → j < i → Apart (clauseAt clauses (s .c)) → ⊥
-twice clauses p i j s t e l a = a (t .k) (s .k) before (s .inside) (ap (λ c. placeOf (getD (clauseAt clauses c) (t .k) (pos 0))) (sym e) ∙ t .names ∙ sym (s .names))
+pub twice : (clauses : List (List ℤ)) (p i j : ℕ) (s : Spot clauses p i) (t : Spot clauses p j) → t .c ≡ s .c → j < i
+    → Apart (clauseAt clauses (s .c)) → ⊥
+twice clauses p i j s t e l a =
+    a (t .k) (s .k) before (s .inside) (ap (λ c. placeOf (getD (clauseAt clauses c) (t .k) (pos 0))) (sym e) ∙ t .names ∙ sym (s .names))
   where
     before : t .k < s .k
     before = omega (arith, s .word, t .word, ap (headOf clauses) e, l)
@@ -59,7 +62,8 @@ module _ (clauses : List (List ℤ)) (chains values : List ℕ) (p was : ℕ) (s
   few : length clauses ≤ limit
   few = omega (arith, clauses-few clauses, static .short)
 
-  pub walk-first : (weights : List ℕ) → Indexed clauses (set values p was) chains weights → p < limit → Walk clauses values p was weights (firstAt chains p)
+  pub walk-first : (weights : List ℕ) → Indexed clauses (set values p was) chains weights → p < limit
+      → Walk clauses values p was weights (firstAt chains p)
   walk-first weights x l = record {
     right = λ c lc none. stands-away values p was (clauseAt clauses c) (getD weights c 0)
         (λ k lk e.
@@ -136,7 +140,8 @@ module _ (clauses : List (List ℤ)) (chains values : List ℕ) (p was : ℕ) (s
       unfolding due-here
       walk-on w weights' put stands = walk-next w weights' (subst (λ c. Put weights c w weights') owner-is put) (stands due-here)
 
-  pub walk-end : (weights : List ℕ) (i : ℕ) → Walk clauses values p was weights i → i ≤ 0 → length values ≤ limit → Indexed clauses values chains weights
+  pub walk-end : (weights : List ℕ) (i : ℕ) → Walk clauses values p was weights i → i ≤ 0 → length values ≤ limit
+      → Indexed clauses values chains weights
   walk-end weights i walk h f = record {
     chains-are = static;
     few = f;

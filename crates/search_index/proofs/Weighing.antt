@@ -15,7 +15,8 @@ use Rattle.search_rules.specs.Rules.{conflict, openOf, sameLiteral, only, unitO
 use Rattle.search_rules.proofs.Booleans.{bool-false}
 use Rattle.search_rules.proofs.Assignments.{same-true}
 use Rattle.search_scan.specs.Seen.{Sight, conflicting, unit, neither, seen}
-use Rattle.search_index.specs.Index.{limit, Apart, literalWeight, byteSays, weightOf, statusCode, statusOf, mixed, told, Stands, weighed, looked}
+use Rattle.search_index.specs.Index.{limit, Apart, literalWeight, byteSays, weightOf, statusCode, statusOf, mixed, told, Stands}
+use Rattle.search_index.specs.Index.{weighed, looked}
 
 -- no literal of the clause names the variable at place p
 abbrev pub Away : ℕ → List ℤ → Type 0

@@ -6,7 +6,7 @@ use mathlib.Core.List.{List}
 use Prim.Native.Nat.{ℕ, zero, suc, _+_, _-_, _/_, _<_, _≤_}
 use native.Mathlib.Omega.{arith}
 use lib.Dec.{eqb}
-use lib.IntN.{ℤ, pos, negsuc, natAbs}
+use lib.IntN.{ℤ, natAbs}
 use lib.ListN.{length, getD, set, length-set}
 use lib.Seq.{getD-set-same, getD-set-other}
 use borrow.Author.Tests.{le-leb, eq-eqb, ne-eqb}
@@ -14,7 +14,8 @@ use Rattle.literal.specs.Literals.{isPositive}
 use Rattle.search_rules.specs.Held.{InRange}
 use Rattle.search_rules.specs.Rules.{Truth, falsified, satisfied, unassigned, truthOf, negated}
 use Rattle.search_scan.proofs.Words.{is-above, is-below}
-use Rattle.search_index.specs.Index.{limit, literalWeight, byteWeight, byteSays, mixed, told, flagAt, falsesAt, lowAt, weightWords, Up}
+use Rattle.search_index.specs.Index.{limit, literalWeight, byteWeight, byteSays, mixed, told, flagAt, falsesAt, lowAt}
+use Rattle.search_index.specs.Index.{weightWords, Up}
 use Rattle.search_index.specs.Index.{one, Raised, Noted, Put}
 use Rattle.search_index.proofs.Spots.{same-or-not}
 
@@ -120,7 +121,10 @@ module _ (weights : List ℕ) (b : ℕ) (l : length weights ≡ weightWords) (h 
   raise-low lt = record {
     long = length-set flagged 17409 b ∙ length-set weights (16384 + b) 1;
     weights-are = λ d k. low-other d (λ q. absurd (omega (arith, q, k))) ∙ flag-same d (λ q. absurd (omega (arith, q, k)));
-    raised = (low-other (16384 + b) (λ q. absurd (omega (arith, q, h))) ∙ getD-set-same weights (16384 + b) 1 0 (omega (arith, l, h)), omega (arith, low-is));
+    raised = (
+      low-other (16384 + b) (λ q. absurd (omega (arith, q, h))) ∙ getD-set-same weights (16384 + b) 1 0 (omega (arith, l, h)),
+      omega (arith, low-is),
+    );
     kept = λ d k u. (low-other (16384 + d) (λ q. absurd (omega (arith, q, k))) ∙ flag-up d (u .0), omega (arith, low-is, lt, low-same, u .1));
     falses-are = low-other 17408 (λ q. absurd (omega (arith, q))) ∙ flag-same 17408 (λ q. absurd (omega (arith, q, h)));
   }
@@ -140,7 +144,8 @@ pub record Follows (weights : List ℕ) (c new : ℕ) (mid : List ℕ) : Type 0 
   pub falses-are : falsesAt mid ≡ falsesAt weights
 
 pub follow : (weights mid : List ℕ) (c new : ℕ) → Raised weights (c / 16) mid → Follows weights c new mid
-follow weights mid c new r = record { long = r .long; weights-are = r .weights-are; raised = λ _. r .raised; kept = r .kept; falses-are = r .falses-are }
+follow weights mid c new r =
+    record { long = r .long; weights-are = r .weights-are; raised = λ _. r .raised; kept = r .kept; falses-are = r .falses-are }
 
 pub leave : (weights mid : List ℕ) (c new : ℕ) → (new ≡ 2 → ⊥) → mid ≡ weights → Follows weights c new mid
 leave weights mid c new n e = rw e (record {

@@ -8,11 +8,10 @@ use lib.ListN.{length, getD, take, drop, length-append, take-append-drop, List·
 use lib.Seq.{length-take-le, drop-append-add, getD-append-add, take-append-seam}
 use Rattle.clause_list.specs.ClauseList.{cut, clausesOf, wordsOf}
 use Rattle.clause_list.proofs.Laws.{clauses-words}
-use Rattle.search_rules.specs.Rules.{placeOf}
 use Rattle.search_rules.specs.Held.{InRange}
 use Rattle.search_rules.specs.Inner.{AllIn, FineIn, Fine}
-use Rattle.search_rules.proofs.Ranges.{Ranged, ranged}
-use Rattle.search_index.specs.Index.{clauseAt, headOf, Spot}
+use Rattle.search_rules.proofs.Ranges.{Ranged}
+use Rattle.search_index.specs.Index.{clauseAt, headOf}
 
 -- the words of a well-cut list are those of its clauses
 words-cut : (v rounds : ℕ) (ws : List ℤ) → FineIn v rounds ws → wordsOf (cut rounds ws) ≡ ws
@@ -28,21 +27,25 @@ words-are v list h = sym (words-cut v (length list) list h)
 
 -- from the head of a clause on
 pub at-head : (clauses : List (List ℤ)) (c : ℕ) → c < length clauses
-    → drop (headOf clauses c) (wordsOf clauses) ≡ pos (length (clauseAt clauses c)) ∷ (clauseAt clauses c ++ drop (headOf clauses (suc c)) (wordsOf clauses))
+    → drop (headOf clauses c) (wordsOf clauses) ≡ pos (length (clauseAt clauses c)) ∷
+    (clauseAt clauses c ++ drop (headOf clauses (suc c)) (wordsOf clauses))
 unfolding headOf wordsOf
 at-head [] c l = absurd (omega arith)
 at-head (clause ∷ clauses) zero l =
-    ap (λ (r : List ℤ). pos (length clause) ∷ (clause ++ r)) (sym (drop-append-add clause (wordsOf clauses) (headOf clauses 0) ∙ rw (head-zero clauses) refl))
+    ap (λ (r : List ℤ). pos (length clause) ∷ (clause ++ r))
+    (sym (drop-append-add clause (wordsOf clauses) (headOf clauses 0) ∙ rw (head-zero clauses) refl))
   where
     head-zero : (cs : List (List ℤ)) → headOf cs 0 ≡ 0
     head-zero [] = refl
     head-zero (c ∷ cs) = refl
 at-head (clause ∷ clauses) (suc c) l =
     drop-append-add clause (wordsOf clauses) (headOf clauses c) ∙ at-head clauses c (omega arith)
-    ∙ ap (λ (r : List ℤ). pos (length (clauseAt clauses c)) ∷ (clauseAt clauses c ++ r)) (sym (drop-append-add clause (wordsOf clauses) (headOf clauses (suc c))))
+    ∙ ap (λ (r : List ℤ). pos (length (clauseAt clauses c)) ∷ (clauseAt clauses c ++ r))
+    (sym (drop-append-add clause (wordsOf clauses) (headOf clauses (suc c))))
 
 -- the count's word
-pub count-at : (clauses : List (List ℤ)) (c : ℕ) → c < length clauses → getD (wordsOf clauses) (headOf clauses c) (pos 0) ≡ pos (length (clauseAt clauses c))
+pub count-at : (clauses : List (List ℤ)) (c : ℕ) → c < length clauses
+    → getD (wordsOf clauses) (headOf clauses c) (pos 0) ≡ pos (length (clauseAt clauses c))
 unfolding headOf wordsOf
 count-at [] c l = absurd (omega arith)
 count-at (clause ∷ clauses) zero l = refl
@@ -60,7 +63,8 @@ literal-at (clause ∷ clauses) (suc c) k l h =
     rw e (getD-append-add clause (wordsOf clauses) (suc (headOf clauses c + k)) (pos 0) ∙ literal-at clauses c k (omega arith) h)
 
 -- a clause ends within the words
-pub head-high : (clauses : List (List ℤ)) (c : ℕ) → c < length clauses → headOf clauses c + suc (length (clauseAt clauses c)) ≤ length (wordsOf clauses)
+pub head-high : (clauses : List (List ℤ)) (c : ℕ) → c < length clauses
+    → headOf clauses c + suc (length (clauseAt clauses c)) ≤ length (wordsOf clauses)
 unfolding headOf wordsOf
 head-high [] c l = absurd (omega arith)
 head-high (clause ∷ clauses) zero l = omega (arith, length-append clause (wordsOf clauses))

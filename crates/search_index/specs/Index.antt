@@ -1,7 +1,7 @@
 -- The index of a clause list: where its clauses stand, the chains of the words that name a variable, the weights of the clauses.
 -- No public contract reaches this file: nothing here needs belief.
 use mathlib.Core.Path.{_≡_}
-use mathlib.Core.Bool.{Bool, true, false, cond}
+use mathlib.Core.Bool.{true, false, cond}
 use mathlib.Core.List.{List, [], _∷_}
 use Prim.Native.Nat.{ℕ, zero, suc, _+_, _-_, _*_, _/_, _<_, _≤_}
 use lib.Dec.{eqb, leb}
@@ -46,19 +46,19 @@ abbrev pub firstAt : List ℕ → ℕ → ℕ
 firstAt chains p = getD chains p 0
 
 abbrev pub linkAt : List ℕ → ℕ → ℕ
-linkAt chains i = getD chains (16384 + 2 * i) 0
+linkAt chains i = getD chains (limit + 2 * i) 0
 
 abbrev pub ownerAt : List ℕ → ℕ → ℕ
-ownerAt chains i = getD chains (16385 + 2 * i) 0
+ownerAt chains i = getD chains (limit + 1 + 2 * i) 0
 
 abbrev pub headAt : List ℕ → ℕ → ℕ
-headAt chains c = getD chains (49152 + c) 0
+headAt chains c = getD chains (3 * limit + c) 0
 
 abbrev pub countAt : List ℕ → ℕ
-countAt chains = getD chains 65536 0
+countAt chains = getD chains (4 * limit) 0
 
 abbrev pub chainWords : ℕ
-chainWords = 65537
+chainWords = 4 * limit + 1
 
 -- the chains of the words below a bound
 pub record Chained (clauses : List (List ℤ)) (first link owner : ℕ → ℕ) (bound : ℕ) : Type 0 where
@@ -140,17 +140,20 @@ pub data Stood (values : List ℕ) (clause : List ℤ) (w : ℕ) : Type 0 where
   was-looked : mixed ≤ w → Stood values clause w
 
 -- Behind the weights: a flag for each block of 16 clauses, the number of false clauses, and a block that no unit clause is before.
+abbrev pub blocks : ℕ
+blocks = limit / 16
+
 abbrev pub flagAt : List ℕ → ℕ → ℕ
-flagAt weights b = getD weights (16384 + b) 0
+flagAt weights b = getD weights (limit + b) 0
 
 abbrev pub falsesAt : List ℕ → ℕ
-falsesAt weights = getD weights 17408 0
+falsesAt weights = getD weights (limit + blocks) 0
 
 abbrev pub lowAt : List ℕ → ℕ
-lowAt weights = getD weights 17409 0
+lowAt weights = getD weights (limit + blocks + 1) 0
 
 abbrev pub weightWords : ℕ
-weightWords = 17410
+weightWords = limit + blocks + 2
 
 -- a block's flag is up, and the search for a unit clause begins no later than there
 abbrev pub Up : List ℕ → ℕ → Type 0
@@ -175,7 +178,7 @@ pub record Raised (weights : List ℕ) (b : ℕ) (weights' : List ℕ) : Type 0 
   pub long : length weights' ≡ length weights
   pub weights-are : (d : ℕ) → d < limit → getD weights' d 0 ≡ getD weights d 0
   pub raised : Up weights' b
-  pub kept : (d : ℕ) → d < 1024 → Up weights d → Up weights' d
+  pub kept : (d : ℕ) → d < blocks → Up weights d → Up weights' d
   pub falses-are : falsesAt weights' ≡ falsesAt weights
 
 -- the block of a clause and the number of false clauses followed its status
@@ -183,7 +186,7 @@ pub record Noted (weights : List ℕ) (c old new : ℕ) (weights' : List ℕ) : 
   pub long : length weights' ≡ length weights
   pub weights-are : (d : ℕ) → d < limit → getD weights' d 0 ≡ getD weights d 0
   pub raised : new ≡ 2 → Up weights' (c / 16)
-  pub kept : (b : ℕ) → b < 1024 → Up weights b → Up weights' b
+  pub kept : (b : ℕ) → b < blocks → Up weights b → Up weights' b
   pub counted : falsesAt weights' + cond (eqb old 1) 1 0 ≡ falsesAt weights + cond (eqb new 1) 1 0
 
 -- something else stands for clause c
@@ -192,7 +195,7 @@ pub record Put (weights : List ℕ) (c w : ℕ) (weights' : List ℕ) : Type 0 w
   pub here : getD weights' c 0 ≡ w
   pub others : (d : ℕ) → d < limit → (d ≡ c → ⊥) → getD weights' d 0 ≡ getD weights d 0
   pub raised : told w ≡ 2 → (told (getD weights c 0) ≡ 2 → ⊥) → Up weights' (c / 16)
-  pub kept : (b : ℕ) → b < 1024 → Up weights b → Up weights' b
+  pub kept : (b : ℕ) → b < blocks → Up weights b → Up weights' b
   pub counted : falsesAt weights' + one (getD weights c 0) ≡ falsesAt weights + one w
 
 -- there is no unit clause before r, and one at r where r is below m

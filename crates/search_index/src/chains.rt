@@ -2,12 +2,11 @@
 // names the same variable and, beside it, its clause; for each clause its head; the number of clauses.
 ghost use mathlib.Core.Path.{_≡_};
 ghost use mathlib.Core.Bool.{true};
-ghost use Prim.Native.Nat.{ℕ, suc, _+_, _<_, _≤_};
-ghost use lib.ListN.{length, getD};
+ghost use Prim.Native.Nat.{ℕ, suc, _+_, _*_, _<_, _≤_};
+ghost use lib.ListN.{length, getD, set};
 ghost use Rattle.clause_list.specs.ClauseList.{clausesOf};
-ghost use Rattle.literal.specs.Literals.{lastVariable};
-ghost use Rattle.search_rules.specs.Inner.{Fine};
-ghost use Rattle.search_index.specs.Index.{limit, chainWords, clauseAt, headOf, firstAt, linkAt, ownerAt, headAt, countAt, Linked, Apart, Roomy};
+ghost use Rattle.search_index.specs.Index.{limit, chainWords, clauseAt, headOf, firstAt, linkAt, ownerAt, headAt, countAt};
+ghost use Rattle.search_index.specs.Index.{Linked, Apart, Roomy};
 
 // The words of the longest list that is indexed, and the variables of the widest.
 pub const LIMIT: usize = 16384;
@@ -102,7 +101,7 @@ pub fn enter(list: &[i32], c: usize, head: usize, chains: &mut [u16]) -> bool
 // The head of clause c is noted.
 pub fn note_head(chains: &mut [u16], c: usize, head: usize)
     requires { ⌜ (length (now chains) ≡ chainWords) × (c < limit) × (head < limit) ⌝ }
-    ensures { λ r. ⌜ now (chains .exit) ≡ lib.ListN.set (now (chains .entry)) (49152 + c) head ⌝ }
+    ensures { λ r. ⌜ now (chains .exit) ≡ set (now (chains .entry)) (3 * limit + c) head ⌝ }
 {
     chains[HEADS + c] = head as u16;
 }
@@ -110,7 +109,7 @@ pub fn note_head(chains: &mut [u16], c: usize, head: usize)
 // The number of clauses is noted.
 pub fn note_count(chains: &mut [u16], c: usize)
     requires { ⌜ (length (now chains) ≡ chainWords) × (c ≤ limit) ⌝ }
-    ensures { λ r. ⌜ now (chains .exit) ≡ lib.ListN.set (now (chains .entry)) 65536 c ⌝ }
+    ensures { λ r. ⌜ now (chains .exit) ≡ set (now (chains .entry)) (4 * limit) c ⌝ }
 {
     chains[COUNT] = c as u16;
 }

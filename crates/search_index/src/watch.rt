@@ -7,7 +7,7 @@ ghost use Rattle.clause_list.specs.ClauseList.{clausesOf};
 ghost use Rattle.literal.specs.Literals.{lastVariable};
 ghost use Rattle.search_rules.specs.Inner.{Fine};
 ghost use Rattle.search_scan.specs.Seen.{seenAs, seen};
-ghost use Rattle.search_index.specs.Index.{limit, chainWords, weightWords, clauseAt, Spot, Chains, Stood, Stands, Indexed, Watched, Due};
+ghost use Rattle.search_index.specs.Index.{limit, chainWords, weightWords, clauseAt, Chains, Stands, Watched, Due};
 use crate::chains::count;
 use crate::chains::enter;
 use crate::chains::first;
@@ -16,6 +16,7 @@ use crate::chains::link;
 use crate::chains::note_count;
 use crate::chains::note_head;
 use crate::chains::owner;
+use crate::weights::MIXED;
 use crate::weights::falses;
 use crate::weights::first_unit;
 use crate::weights::gains;
@@ -26,8 +27,6 @@ use crate::weights::sign;
 use crate::weights::weigh;
 use search_scan::Seen;
 use search_scan::scan;
-
-const MIXED: u16 = 32768;
 
 // The index of a list and its values, in blank arrays.
 pub fn build(list: &[i32], values: &[u8], chains: &mut [u16], weights: &mut [u16])

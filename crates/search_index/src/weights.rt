@@ -4,7 +4,7 @@ ghost use mathlib.Core.Path.{_≡_};
 ghost use mathlib.Core.Bool.{cond};
 ghost use mathlib.Core.List.{[], _∷_};
 ghost use mathlib.Core.Logic.{_⊎_};
-ghost use Prim.Native.Nat.{ℕ, _+_, _*_, _<_, _≤_, _^_};
+ghost use Prim.Native.Nat.{ℕ, _+_, _*_, _<_, _≤_};
 ghost use lib.Dec.{eqb};
 ghost use lib.IntN.{natAbs};
 ghost use lib.ListN.{length, getD};
@@ -12,7 +12,9 @@ ghost use Rattle.clause_list.specs.ClauseList.{clausesOf};
 ghost use Rattle.literal.specs.Literals.{isPositive, lastVariable};
 ghost use Rattle.search_rules.specs.Inner.{Fine};
 ghost use Rattle.search_scan.specs.Seen.{seenAs, seen};
-ghost use Rattle.search_index.specs.Index.{limit, weightWords, lowAt, Raised, clauseAt, IsHead, literalWeight, byteWeight, Gains, byteSays, weightOf, statusOf, mixed, told, falsesAt, one, Tallied, Noted, Put, Stopped, Same};
+ghost use Rattle.search_index.specs.Index.{limit, blocks, weightWords, Raised, clauseAt, IsHead, literalWeight, byteWeight};
+ghost use Rattle.search_index.specs.Index.{Gains, byteSays, weightOf, statusOf, mixed, told, falsesAt, one, Tallied, Noted, Put};
+ghost use Rattle.search_index.specs.Index.{Stopped, Same};
 use crate::chains::LIMIT;
 use search_scan::Seen;
 use search_scan::scan;
@@ -25,7 +27,8 @@ const FALSES: usize = LIMIT + LIMIT / BLOCK;
 
 const LOW: usize = FALSES + 1;
 
-const MIXED: u16 = 32768;
+// Above all weights: with a status added, what stands for a clause that names a variable twice.
+pub const MIXED: u16 = 32768;
 
 // Weights of no clause.
 pub fn blank_weights() -> [u16; LOW + 1]
@@ -162,7 +165,7 @@ fn recount(falses: u16, old: u16, new: u16) -> u16
 
 // The flag of a block goes up, and the search for a unit clause begins no later than there.
 fn raise(weights: &mut [u16], b: usize)
-    requires { ⌜ (length (now weights) ≡ weightWords) × (b < 1024) ⌝ }
+    requires { ⌜ (length (now weights) ≡ weightWords) × (b < blocks) ⌝ }
     ensures { λ r. ⌜ Raised (now (weights .entry)) b (now (weights .exit)) ⌝ }
 {
     weights[FLAGS + b] = 1;

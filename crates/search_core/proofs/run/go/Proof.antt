@@ -43,13 +43,19 @@ emptied-requires : tie.Need-emptied-requires Inv-loop μ-loop
 emptied-requires c κs = search needs
 
 same-length : tie.Need-same-length Inv-loop μ-loop
-same-length c = c .before .before .before .before .before .before .before .before .step .kept .1 .0 ∙ c .before .before .before .before .before .before .before .before .before .before .before .before .before .loop .inv .0 .wide
+same-length c =
+    c .before .before .before .before .before .before .before .before .step .kept .1 .0
+    ∙ c .before .before .before .before .before .before .before .before .before .before .before .before .before .loop .inv .0 .wide
 
 same-length-2 : tie.Need-same-length-2 Inv-loop μ-loop
-same-length-2 c = c .before .before .before .before .before .before .before .before .step .kept .1 .1 .0 ∙ c .before .before .before .before .before .before .before .before .before .before .before .before .before .loop .inv .0 .deep
+same-length-2 c =
+    c .before .before .before .before .before .before .before .before .step .kept .1 .1 .0
+    ∙ c .before .before .before .before .before .before .before .before .before .before .before .before .before .loop .inv .0 .deep
 
 same-length-3 : tie.Need-same-length-3 Inv-loop μ-loop
-same-length-3 c = c .before .before .before .before .before .before .before .before .step .kept .1 .1 .1 .1 .1 .0 ∙ c .before .before .before .before .before .before .before .before .before .before .before .before .before .loop .inv .2
+same-length-3 c =
+    c .before .before .before .before .before .before .before .before .step .kept .1 .1 .1 .1 .1 .0
+    ∙ c .before .before .before .before .before .before .before .before .before .before .before .before .before .loop .inv .2
 
 returns : tie.Need-returns Inv-loop μ-loop
 returns c state i =
@@ -62,13 +68,19 @@ enum-told-2 : tie.Need-enum-told-2 Inv-loop μ-loop
 enum-told-2 c = search needs
 
 same-length-4 : tie.Need-same-length-4 Inv-loop μ-loop
-same-length-4 c = c .before .before .before .before .before .before .before .step .kept .1 .0 ∙ c .before .before .before .before .before .before .before .before .before .before .before .before .loop .inv .0 .wide
+same-length-4 c =
+    c .before .before .before .before .before .before .before .step .kept .1 .0
+    ∙ c .before .before .before .before .before .before .before .before .before .before .before .before .loop .inv .0 .wide
 
 same-length-5 : tie.Need-same-length-5 Inv-loop μ-loop
-same-length-5 c = c .before .before .before .before .before .before .before .step .kept .1 .1 .0 ∙ c .before .before .before .before .before .before .before .before .before .before .before .before .loop .inv .0 .deep
+same-length-5 c =
+    c .before .before .before .before .before .before .before .step .kept .1 .1 .0
+    ∙ c .before .before .before .before .before .before .before .before .before .before .before .before .loop .inv .0 .deep
 
 same-length-6 : tie.Need-same-length-6 Inv-loop μ-loop
-same-length-6 c = c .before .before .before .before .before .before .before .step .kept .1 .1 .1 .1 .1 .0 ∙ c .before .before .before .before .before .before .before .before .before .before .before .before .loop .inv .2
+same-length-6 c =
+    c .before .before .before .before .before .before .before .step .kept .1 .1 .1 .1 .1 .0
+    ∙ c .before .before .before .before .before .before .before .before .before .before .before .before .loop .inv .2
 
 returns-2 : tie.Need-returns-2 Inv-loop μ-loop
 returns-2 c state i =
@@ -81,13 +93,22 @@ enum-known-moved : tie.Need-enum-known-moved Inv-loop μ-loop
 enum-known-moved c = search needs
 
 advance-requires : tie.Need-advance-requires Inv-loop μ-loop
-advance-requires c κs = omega (arith, c .before .before .before .before .before .before .before .before .before .before .before .before .before .loop .inv .0 .figure, c .before .before .before .before .before .before .before .before .before .before .before .before .loop-test .taken, c .before .before .before .before .before .before .before .before .before .before .before .before .before .before .before .before .before .pre .1 .1 .1 .0)
+advance-requires c κs =
+    omega (
+      arith,
+      c .before .before .before .before .before .before .before .before .before .before .before .before .before .loop .inv .0
+          .figure,
+      c .before .before .before .before .before .before .before .before .before .before .before .before .loop-test .taken,
+      c .before .before .before .before .before .before .before .before .before .before .before .before .before .before .before .before
+          .before .pre .1 .1 .1 .0,
+    )
 
 sub-left : tie.Need-sub-left Inv-loop μ-loop
 sub-left c = some-left (c .before .before .before .before .before .before .before .before .before .before .before .before .before)
 
 loop-less : tie.Need-loop-less Inv-loop μ-loop
-loop-less c = omega (arith, c .before .before .before .before .before .before .before .before .before .before .before .before .before .loop-test .taken)
+loop-less c =
+    omega (arith, c .before .before .before .before .before .before .before .before .before .before .before .before .before .loop-test .taken)
 
 loop-again : tie.Need-loop-again Inv-loop μ-loop
 loop-again c =
@@ -101,7 +122,8 @@ loop-again c =
         deep = c .before .before .before .before .before .before .before .before .before .step .kept .1 .1 .0 ∙ l .deep;
         far = λ state i.
             let f = l .far state i in
-            let s = (rw (l .wide) at (c .before .before .before .before .before .before .before .before .before .step .ensures .0)) (f .at) (f .stored) in
+            let s = (rw (l .wide) at (c .before .before .before .before .before .before .before .before .before .step .ensures .0)) (f .at)
+            (f .stored) in
             far-on _ _ _ _ _ _ _ _ _ f _ _ _ _ _ t a _ refl (rw (c .before .before .moved .given .1) at s);
       },
       c .before .before .before .before .before .before .before .before .before .step .ensures .1,
@@ -134,19 +156,29 @@ enum-told-5 : tie.Need-enum-told-5 Inv-loop μ-loop
 enum-told-5 c = search needs
 
 same-length-7 : tie.Need-same-length-7 Inv-loop μ-loop
-same-length-7 c = c .before .before .before .before .before .before .back .kept .1 .0 ∙ c .before .before .before .before .before .before .before .before .before .before .before .before .before .before .before .loop .inv .0 .wide
+same-length-7 c =
+    c .before .before .before .before .before .before .back .kept .1 .0
+    ∙ c .before .before .before .before .before .before .before .before .before .before .before .before .before .before .before .loop .inv
+    .0 .wide
 
 same-length-8 : tie.Need-same-length-8 Inv-loop μ-loop
-same-length-8 c = c .before .before .before .before .before .before .back .kept .1 .1 .0 ∙ c .before .before .before .before .before .before .before .before .before .before .before .before .before .before .before .loop .inv .0 .deep
+same-length-8 c =
+    c .before .before .before .before .before .before .back .kept .1 .1 .0
+    ∙ c .before .before .before .before .before .before .before .before .before .before .before .before .before .before .before .loop .inv
+    .0 .deep
 
 same-length-9 : tie.Need-same-length-9 Inv-loop μ-loop
-same-length-9 c = c .before .before .before .before .before .before .back .kept .1 .1 .1 .1 .1 .0 ∙ c .before .before .before .before .before .before .before .before .before .before .before .before .before .before .before .loop .inv .2
+same-length-9 c =
+    c .before .before .before .before .before .before .back .kept .1 .1 .1 .1 .1 .0
+    ∙ c .before .before .before .before .before .before .before .before .before .before .before .before .before .before .before .loop .inv
+    .2
 
 returns-3 : tie.Need-returns-3 Inv-loop μ-loop
 returns-3 c state i =
     let l = c .before .before .before .before .before .before .before .before .before .before .before .before .before .before .before .loop .inv .0 in
     let f = l .far state i in
-    let e = (rw (l .wide) at (c .before .before .before .before .before .before .before .before .before .before .before .before .ends .ensures)) (f .at) (f .stored .was-open) (f .stored .values-are) in
+    let e = (rw (l .wide) at (c .before .before .before .before .before .before .before .before .before .before .before .before .ends
+    .ensures)) (f .at) (f .stored .was-open) (f .stored .values-are) in
     let b = (rw (l .wide) at (c .before .before .before .before .before .before .back .ensures .0)) (f .at) (f .stored) in
     let told = c .before .before .before .before .before .before .before .before .before .before .enum-told3 .given .1 in
     rw told (far-emptied _ _ _ _ _ _ _ _ _ f _ _ _ _ _ refl (sym told ∙ e) (c .emptied2 .ensures) b)
@@ -187,4 +219,7 @@ returns-5 c state i =
 pub go-spec : {M : Type 1} → statement M
 go-spec =
     tie.close
-    (tie.spec Inv-loop μ-loop loop-holds step-requires enum-told emptied-requires same-length same-length-2 same-length-3 returns enum-told-2 same-length-4 same-length-5 same-length-6 returns-2 enum-known-moved advance-requires sub-left loop-less loop-again ends-requires enum-told-3 back-requires emptied-requires-2 enum-told-4 enum-told-5 same-length-7 same-length-8 same-length-9 returns-3 same-length-10 same-length-11 same-length-12 returns-4 same-length-13 same-length-14 same-length-15 returns-5)
+    (tie.spec Inv-loop μ-loop loop-holds step-requires enum-told emptied-requires same-length same-length-2 same-length-3 returns
+    enum-told-2 same-length-4 same-length-5 same-length-6 returns-2 enum-known-moved advance-requires sub-left loop-less loop-again
+    ends-requires enum-told-3 back-requires emptied-requires-2 enum-told-4 enum-told-5 same-length-7 same-length-8 same-length-9 returns-3
+    same-length-10 same-length-11 same-length-12 returns-4 same-length-13 same-length-14 same-length-15 returns-5)

@@ -28,7 +28,8 @@ same-length-2 c = search needs
 
 returns : tie.Need-returns
 returns c state i =
-    all-done _ _ _ _ (c .before .before .before .before .before .before .before .scanned-steps .ensures .0) _ state _ _ _ (c .if1 .taken) (c .before .before .before .before .run-scanned .ensures state i)
+    all-done _ _ _ _ (c .before .before .before .before .before .before .before .scanned-steps .ensures .0) _ state _ _ _ (c .if1 .taken)
+    (c .before .before .before .before .run-scanned .ensures state i)
 
 enum-told : tie.Need-enum-told
 enum-told c = search needs
@@ -85,7 +86,9 @@ same-length-4 c = search needs
 
 returns-2 : tie.Need-returns-2
 returns-2 c state i =
-    ended-early _ _ (few (c .before .before .before .before .before .before .before)) _ (c .before .before .before .before .before .before .before .before .before .before .scanned-steps .ensures .0) _ state _ _ _ (λ z. apart-none (sym (c .enum-told .given .1) ∙ z))
+    ended-early _ _ (few (c .before .before .before .before .before .before .before)) _
+    (c .before .before .before .before .before .before .before .before .before .before .scanned-steps .ensures .0) _ state _ _ _
+    (λ z. apart-none (sym (c .enum-told .given .1) ∙ z))
     (c .before .before .before .before .before .before .before .run-scanned .ensures state i)
 
 same-length-5 : tie.Need-same-length-5
@@ -96,7 +99,9 @@ same-length-6 c = search needs
 
 returns-3 : tie.Need-returns-3
 returns-3 c state i =
-    ended-early _ _ (few (c .before .before .before .before .before .before .before)) _ (c .before .before .before .before .before .before .before .before .before .before .scanned-steps .ensures .0) _ state _ _ _ (λ z. apart-found (sym (c .enum-told2 .given .1) ∙ z))
+    ended-early _ _ (few (c .before .before .before .before .before .before .before)) _
+    (c .before .before .before .before .before .before .before .before .before .before .scanned-steps .ensures .0) _ state _ _ _
+    (λ z. apart-found (sym (c .enum-told2 .given .1) ∙ z))
     (c .before .before .before .before .before .before .before .run-scanned .ensures state i)
 
 same-length-7 : tie.Need-same-length-7
@@ -115,4 +120,6 @@ returns-4 c state i =
 pub run-spec : {M : Type 1} → statement M
 run-spec =
     tie.close
-    (tie.spec scanned-steps-requires run-scanned-requires same-length same-length-2 returns enum-told enum-told-2 enum-told-3 sub-run-indexed run-indexed-requires same-length-3 same-length-4 returns-2 same-length-5 same-length-6 returns-3 same-length-7 same-length-8 returns-4)
+    (tie.spec scanned-steps-requires run-scanned-requires same-length same-length-2 returns enum-told enum-told-2 enum-told-3
+    sub-run-indexed run-indexed-requires same-length-3 same-length-4 returns-2 same-length-5 same-length-6 returns-3 same-length-7
+    same-length-8 returns-4)

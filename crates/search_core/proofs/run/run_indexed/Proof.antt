@@ -22,10 +22,14 @@ build-requires c κs =
     (p .0, (p .1 .1 .1 .1, (c .before .before .before .before .blank-chains .ensures, c .before .before .before .blank-weights .ensures)))
 
 slice-aggregate-go : tie.Need-slice-aggregate-go
-slice-aggregate-go c = sym (c .before .before .before .before .before .build .kept .1 .1 .0 ∙ c .before .before .before .before .before .before .before .before .before .before .blank-chains .ensures .0)
+slice-aggregate-go c =
+    sym (c .before .before .before .before .before .build .kept .1 .1 .0
+    ∙ c .before .before .before .before .before .before .before .before .before .before .blank-chains .ensures .0)
 
 slice-aggregate-go-2 : tie.Need-slice-aggregate-go-2
-slice-aggregate-go-2 c = sym (c .before .before .before .before .before .before .build .kept .1 .1 .1 .0 ∙ c .before .before .before .before .before .before .before .before .before .before .blank-weights .ensures .0)
+slice-aggregate-go-2 c =
+    sym (c .before .before .before .before .before .before .build .kept .1 .1 .1 .0
+    ∙ c .before .before .before .before .before .before .before .before .before .before .blank-weights .ensures .0)
 
 go-requires : tie.Need-go-requires
 go-requires c κs =
@@ -42,4 +46,6 @@ returns : tie.Need-returns
 returns c = c .before .before .before .before .go .ensures
 
 pub run-indexed-spec : {M : Type 1} → statement M
-run-indexed-spec = tie.close (tie.spec blank-chains-requires blank-weights-requires slice-aggregate-build slice-aggregate-build-2 build-requires slice-aggregate-go slice-aggregate-go-2 go-requires same-length same-length-2 returns)
+run-indexed-spec =
+    tie.close (tie.spec blank-chains-requires blank-weights-requires slice-aggregate-build slice-aggregate-build-2 build-requires
+    slice-aggregate-go slice-aggregate-go-2 go-requires same-length same-length-2 returns)

@@ -71,7 +71,8 @@ module _ (c : tie.After-run-arg2) where
 
   goes-to : (state : State) → Stored (length (s .args .values .now)) state (s .args .values .now) (s .args .trail .now) (s .args .start .length)
       → Turns (length (s .args .values .now)) state (c .before .before .advance .result .length)
-      (c .before .before .before .before .before .before .back-scanned2 .last .1 .0) (c .before .before .before .before .before .before .back-scanned2 .last .1 .1 .0)
+      (c .before .before .before .before .before .before .back-scanned2 .last .1 .0)
+      (c .before .before .before .before .before .before .back-scanned2 .last .1 .1 .0)
   goes-to state i =
       turned _ state _ _ _ i _ _ _ _ _ some-decision (c .before .before .advance .ensures)
       (c .before .before .before .before .before .before .back-scanned2 .ensures state i)
@@ -115,5 +116,6 @@ returns-3 c state i full =
 pub turn-full-spec : {M : Type 1} → statement M
 turn-full-spec =
     tie.close
-    (tie.spec any-decision-requires back-scanned-requires emptied-requires same-length same-length-2 returns same-length-3 returns-2 back-scanned-requires-2
+    (tie.spec any-decision-requires back-scanned-requires emptied-requires same-length same-length-2 returns same-length-3 returns-2
+    back-scanned-requires-2
     advance-requires sub-run run-requires same-length-4 same-length-5 returns-3)

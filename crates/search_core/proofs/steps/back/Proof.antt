@@ -125,7 +125,8 @@ changed : (c : tie.After-place Inv-loop μ-loop) (b x : ℕ) → x ≡ getD (c .
     → Fine (length (set (c .before .before .before .loop .values) (c .place .result) b)) (s (c .before .before) .args .list .now)
     × ((length (set (c .before .before .before .loop .values) (c .place .result) b) ≤ lastVariable)
     × ((c .place .result < length (set (c .before .before .before .loop .values) (c .place .result) b))
-    × Watched (clausesOf (s (c .before .before) .args .list .now)) (set (set (c .before .before .before .loop .values) (c .place .result) b) (c .place .result) x)
+    × Watched (clausesOf (s (c .before .before) .args .list .now))
+    (set (set (c .before .before .before .loop .values) (c .place .result) b) (c .place .result) x)
     (s (c .before .before) .args .chains .now) (c .before .before .before .loop .weights)))
 changed c b x e =
     let q = c .before .before in
@@ -195,7 +196,8 @@ loop-again c =
     )
 
 -- after the loop
-ended : (c : tie.At-loop Inv-loop μ-loop) → Went (v (c .before .before .before .before)) (held (c .before .before .before .before) .state) (c .loop .values)
+ended : (c : tie.At-loop Inv-loop μ-loop) → Went (v (c .before .before .before .before)) (held (c .before .before .before .before) .state)
+    (c .loop .values)
     (c .loop .trail) (c .loop .n)
 ended c = c .loop .inv .0 (held (c .before .before .before .before) .state) (held (c .before .before .before .before) .stored)
 

@@ -54,7 +54,11 @@ enum-told : tie.Need-enum-told
 enum-told c = search needs
 
 back-requires : tie.Need-back-requires
-back-requires c κs = let p = start (c .before .before .before .before .before .before .before) .pre in (p .0, (p .1 .0, (p .1 .1 .0, c .before .before .before .before .before .before .before .look .ensures .1)))
+back-requires c κs =
+    let p = start (c .before .before .before .before .before .before .before) .pre in (
+      p .0,
+      (p .1 .0, (p .1 .1 .0, c .before .before .before .before .before .before .before .look .ensures .1)),
+    )
 
 same-length : tie.Need-same-length
 same-length c = search needs
@@ -68,13 +72,16 @@ same-length-3 c = search needs
 returns : tie.Need-returns
 returns c = (
   (λ state i.
-      step-none _ _ _ _ _ i _ _ _ _ (sym (ap seenAs (c .before .before .before .before .before .before .before .before .before .before .enum-told .given .1)) ∙ c .before .before .before .before .before .before .before .before .before .before .before .before .before .before .look .ensures .0)
+      step-none _ _ _ _ _ i _ _ _ _ (sym (ap seenAs
+      (c .before .before .before .before .before .before .before .before .before .before .enum-told .given .1))
+      ∙ c .before .before .before .before .before .before .before .before .before .before .before .before .before .before .look .ensures .0)
       (c .before .before .before .before .before .before .back .ensures .0 state i) (c .if1 .taken)),
   c .before .before .before .before .before .before .back .ensures .1,
 )
 
 -- the literal of a unit clause
-unit-open : (c : tie.After-seen) → OpenIn (length (values (start (c .before .before .before .before)))) (values (start (c .before .before .before .before))) (c .seen .given .0 .0)
+unit-open : (c : tie.After-seen) → OpenIn (length (values (start (c .before .before .before .before))))
+    (values (start (c .before .before .before .before))) (c .seen .given .0 .0)
 unit-open c =
     first-unit-open _ _ _ _ (ranged _ _ (start (c .before .before .before .before) .pre .0))
     (saw-unit _ _ _ (sym (ap seenAs (c .seen .given .1)) ∙ c .before .before .before .before .look .ensures .0) .1)
@@ -94,7 +101,15 @@ propagate-requires c κs =
 place-requires : tie.Need-place-requires
 place-requires c κs =
     let r = unit-open (c .before .before .before .before .before .before .before .before .before) .0 in
-    rw (word-is (c .before .before .before .before .before .before .before .before)) (r .0, (let h = r .1 in omega (arith, h, start (c .before .before .before .before .before .before .before .before .before .before .before .before .before) .pre .1 .0)))
+    rw (word-is (c .before .before .before .before .before .before .before .before)) (
+      r .0,
+      (let h = r .1 in omega (
+        arith,
+        h,
+        start (c .before .before .before .before .before .before .before .before .before .before .before
+            .before .before) .pre .1 .0,
+      )),
+    )
 
 -- the literal that is propagated, and its place
 module _ (c : tie.After-place) where
@@ -112,13 +127,20 @@ touch-requires c κs =
     let o = unit-open (c .before .before .before .before .before .before .before .before .before .before) in
     let vs = values (start (c .before .before .before .before .before .before .before .before .before .before .before .before .before .before)) in
     set-open (c .before .before .before .before .before .before .before .before .before .before .before .before .before .before) _ _ _
-    (c .before .before .before .before .before .before .propagate .ensures .0 ∙ ap (λ n. set vs n (byteOf (propagated (toZ w32 (ofZ w32 (l c)))))) (sym (place-at c)))
+    (c .before .before .before .before .before .before .propagate .ensures .0
+    ∙ ap (λ n. set vs n (byteOf (propagated (toZ w32 (ofZ w32 (l c)))))) (sym (place-at c)))
     (omega (arith, place-is c, place-below (length vs) (l c) (o .0))) (ap (λ n. getD vs n 2) (place-is c) ∙ o .1)
 
 add-t33 : tie.Need-add-t33
 add-t33 c =
-    let s = start (c .before .before .before .before .before .before .before .before .before .before .before .before .before .before .before .before .before) in
-    omega (arith, open-room _ _ _ _ _ (s .pre .1 .1 .0 .stored) _ (unit-open (c .before .before .before .before .before .before .before .before .before .before .before .before .before)), s .good .1 .1 .0 .0)
+    let s = start (c .before .before .before .before .before .before .before .before .before .before .before .before .before .before
+    .before .before .before) in
+    omega (
+      arith,
+      open-room _ _ _ _ _ (s .pre .1 .1 .0 .stored) _
+          (unit-open (c .before .before .before .before .before .before .before .before .before .before .before .before .before)),
+      s .good .1 .1 .0 .0,
+    )
 
 enum-told-2 : tie.Need-enum-told-2
 enum-told-2 c = search needs
@@ -135,13 +157,15 @@ same-length-5 c = search needs
 returns-2 : tie.Need-returns-2
 returns-2 c = (
   (λ state i.
-      step-full _ _ _ _ _ i _ _ (sym (ap seenAs (c .before .before .before .enum-told2 .given .1)) ∙ c .before .before .before .before .before .before .before .look .ensures .0) (c .before .lowest-open .ensures)
+      step-full _ _ _ _ _ i _ _ (sym (ap seenAs (c .before .before .before .enum-told2 .given .1))
+      ∙ c .before .before .before .before .before .before .before .look .ensures .0) (c .before .lowest-open .ensures)
       (c .if2 .taken)),
   c .before .before .before .before .before .before .before .look .ensures .1,
 )
 
 -- the lowest open variable
-low : (c : tie.After-lowest-open) → (c .lowest-open .result ≡ length (values (start (c .before .before .before .before .before .before))) → ⊥) → Lowest (values (start (c .before .before .before .before .before .before))) (c .lowest-open .result)
+low : (c : tie.After-lowest-open) → (c .lowest-open .result ≡ length (values (start (c .before .before .before .before .before .before)))
+    → ⊥) → Lowest (values (start (c .before .before .before .before .before .before))) (c .lowest-open .result)
 low c n = low-open _ _ (c .lowest-open .ensures) n .0
 
 decide-requires : tie.Need-decide-requires
@@ -153,13 +177,17 @@ decide-requires c κs =
 
 touch-requires-2 : tie.Need-touch-requires-2
 touch-requires-2 c κs =
-    let w = low (c .before .before .before .before .before .before .before .before .before) (c .before .before .before .before .before .before .before .before .if2 .left) in
-    set-open (c .before .before .before .before .before .before .before .before .before .before .before .before .before .before .before) _ _ 3 (c .before .before .before .before .before .decide .ensures .0) (w .within) (w .is-open)
+    let w = low (c .before .before .before .before .before .before .before .before .before)
+    (c .before .before .before .before .before .before .before .before .if2 .left) in
+    set-open (c .before .before .before .before .before .before .before .before .before .before .before .before .before .before .before) _
+    _ 3 (c .before .before .before .before .before .decide .ensures .0) (w .within) (w .is-open)
 
 add-t37 : tie.Need-add-t37
 add-t37 c =
-    let s = start (c .before .before .before .before .before .before .before .before .before .before .before .before .before .before .before .before .before .before) in
-    let w = low (c .before .before .before .before .before .before .before .before .before .before .before .before) (c .before .before .before .before .before .before .before .before .before .before .before .if2 .left) in
+    let s = start (c .before .before .before .before .before .before .before .before .before .before .before .before .before .before
+    .before .before .before .before) in
+    let w = low (c .before .before .before .before .before .before .before .before .before .before .before .before)
+    (c .before .before .before .before .before .before .before .before .before .before .before .if2 .left) in
     omega (arith, has-room _ _ _ _ _ (s .pre .1 .1 .0 .stored) _ (w .within) (w .is-open), s .good .1 .1 .0 .0)
 
 same-length-6 : tie.Need-same-length-6
@@ -174,7 +202,9 @@ same-length-8 c = search needs
 returns-3 : tie.Need-returns-3
 returns-3 c = (
   (λ state i.
-      step-turn _ _ _ _ _ i _ _ _ _ (sym (ap seenAs (c .before .before .before .before .before .before .before .before .before .before .enum-told .given .1)) ∙ c .before .before .before .before .before .before .before .before .before .before .before .before .before .before .look .ensures .0)
+      step-turn _ _ _ _ _ i _ _ _ _ (sym (ap seenAs
+      (c .before .before .before .before .before .before .before .before .before .before .enum-told .given .1))
+      ∙ c .before .before .before .before .before .before .before .before .before .before .before .before .before .before .look .ensures .0)
       (c .before .before .before .before .before .before .back .ensures .0 state i) (c .if1 .left)),
   c .before .before .before .before .before .before .back .ensures .1,
 )
@@ -192,8 +222,13 @@ returns-4 : tie.Need-returns-4
 returns-4 c =
     let w = word-is (c .before .before .before .before .before .before .before .before .before .before .before .before) in (
       (λ state i.
-          step-unit _ _ _ _ _ i _ _ _ _ (sym (ap seenAs (c .before .before .before .before .before .before .before .before .before .before .before .before .before .seen .given .1)) ∙ c .before .before .before .before .before .before .before .before .before .before .before .before .before .before .before .before .before .look .ensures .0) (unit-open (c .before .before .before .before .before .before .before .before .before .before .before .before .before))
-          (rw w at (c .before .before .before .before .before .before .before .before .before .propagate .ensures .0)) (rw w at (c .before .before .before .before .before .before .before .before .before .propagate .ensures .1))),
+          step-unit _ _ _ _ _ i _ _ _ _ (sym (ap seenAs
+          (c .before .before .before .before .before .before .before .before .before .before .before .before .before .seen .given .1))
+          ∙ c .before .before .before .before .before .before .before .before .before .before .before .before .before .before .before
+          .before .before .look .ensures .0) (unit-open
+          (c .before .before .before .before .before .before .before .before .before .before .before .before .before))
+          (rw w at (c .before .before .before .before .before .before .before .before .before .propagate .ensures .0))
+          (rw w at (c .before .before .before .before .before .before .before .before .before .propagate .ensures .1))),
       c .before .before .touch .ensures,
     )
 
@@ -209,12 +244,21 @@ same-length-14 c = search needs
 returns-5 : tie.Need-returns-5
 returns-5 c = (
   (λ state i.
-      step-decide _ _ _ _ _ i _ _ _ _ (sym (ap seenAs (c .before .before .before .before .before .before .before .before .before .before .before .before .before .before .enum-told2 .given .1)) ∙ c .before .before .before .before .before .before .before .before .before .before .before .before .before .before .before .before .before .before .look .ensures .0)
-      (c .before .before .before .before .before .before .before .before .before .before .before .before .lowest-open .ensures) (c .before .before .before .before .before .before .before .before .before .before .before .if2 .left) (c .before .before .before .before .before .before .before .before .decide .ensures .0) (c .before .before .before .before .before .before .before .before .decide .ensures .1)),
+      step-decide _ _ _ _ _ i _ _ _ _ (sym (ap seenAs
+      (c .before .before .before .before .before .before .before .before .before .before .before .before .before .before .enum-told2 .given
+      .1)) ∙ c .before .before .before .before .before .before .before .before .before .before .before .before .before .before .before
+      .before .before .before .look .ensures .0)
+      (c .before .before .before .before .before .before .before .before .before .before .before .before .lowest-open .ensures)
+      (c .before .before .before .before .before .before .before .before .before .before .before .if2 .left)
+      (c .before .before .before .before .before .before .before .before .decide .ensures .0)
+      (c .before .before .before .before .before .before .before .before .decide .ensures .1)),
   c .before .before .touch2 .ensures,
 )
 
 pub step-spec : {M : Type 1} → statement M
 step-spec =
     tie.close
-    (tie.spec look-requires enum-told back-requires same-length same-length-2 same-length-3 returns enum-known-seen propagate-requires place-requires touch-requires add-t33 enum-told-2 lowest-open-requires same-length-4 same-length-5 returns-2 decide-requires touch-requires-2 add-t37 same-length-6 same-length-7 same-length-8 returns-3 same-length-9 same-length-10 same-length-11 returns-4 same-length-12 same-length-13 same-length-14 returns-5)
+    (tie.spec look-requires enum-told back-requires same-length same-length-2 same-length-3 returns enum-known-seen propagate-requires
+    place-requires touch-requires add-t33 enum-told-2 lowest-open-requires same-length-4 same-length-5 returns-2 decide-requires
+    touch-requires-2 add-t37 same-length-6 same-length-7 same-length-8 returns-3 same-length-9 same-length-10 same-length-11 returns-4
+    same-length-12 same-length-13 same-length-14 returns-5)

@@ -19,7 +19,8 @@ use Rattle.search_scan.proofs.Words.{place-of}
 use Rattle.search_index.specs.Index.{limit, clauseAt, headOf, firstAt, IsHead}
 use Rattle.search_index.proofs.Parts.{count-is, high}
 use Rattle.search_index.proofs.Words.{words-are, head-step, clauses-within}
-use Rattle.search_index.proofs.Entering.{Entered, spot-low, enter-first, enter-next, enter-end, enter-apart, word-within, literal-range}
+use Rattle.search_index.proofs.Entering.{Entered, spot-low, enter-first, enter-next, enter-end, enter-apart, word-within}
+use Rattle.search_index.proofs.Entering.{literal-range}
 use Rattle.search_index.proofs.chains.enter.Statement.{statement}
 use Rattle.search_index.proofs.chains.enter.Tie as tie
 
@@ -234,5 +235,6 @@ enter-spec =
     (tie.spec Inv-loop μ-loop
     add-end mul-known-count shared-slice-copy-out-known-count known-count-requires add-end-2 add-i loop-holds mul-place
     shared-slice-copy-out-place place-requires mul-earlier slice-read-earlier wide-requires cast-chains mul-chains add-chains
-    mul-chains-2 slice-write-chains mul-chains-3 add-chains-2 mul-chains-4 slice-write-chains-2 cast-chains-2 mul-chains-5 slice-write-chains-3 add-i-2 loop-less
+    mul-chains-2 slice-write-chains mul-chains-3 add-chains-2 mul-chains-4 slice-write-chains-2 cast-chains-2 mul-chains-5
+    slice-write-chains-3 add-i-2 loop-less
     loop-again same-length returns)

@@ -1,12 +1,12 @@
 -- `search_index::watch::look` meets its contract. Assumes nothing.
-use mathlib.Core.Path.{_≡_, sym, _∙_}
+use mathlib.Core.Path.{_∙_}
 use mathlib.Core.List.{List}
-use Prim.Native.Nat.{ℕ, _≤_}
+use Prim.Native.Nat.{_≤_}
 use native.Mathlib.Omega.{arith}
 use lib.IntN.{ℤ}
 use borrow.Author.Needs.{needs}
 use Rattle.clause_list.specs.ClauseList.{clausesOf}
-use Rattle.search_index.specs.Index.{IsHead, headAt, falsesAt, Indexed, unwatched, watched}
+use Rattle.search_index.specs.Index.{IsHead, falsesAt, Indexed, unwatched, watched}
 use Rattle.search_index.proofs.Looking.{looks-false, size-low, tallied, looks-neither, unit-low, unit-head, looks-unit, lowered}
 use Rattle.search_index.proofs.Touching.{indexed}
 use Rattle.search_index.proofs.watch.look.Statement.{statement}
@@ -57,17 +57,25 @@ head-requires : tie.Need-head-requires
 head-requires c κs =
     let k = c .before .before .before .before .before .before .before .before .before in (
       index k .chains-are .linked .long,
-      unit-low (clauses k) _ _ _ (index k) _ (c .before .before .before .before .before .count .ensures) _ (c .before .before .before .first-unit .ensures .0) (none (c .before .before .before .before .before .before)) (c .if3 .taken),
+      unit-low (clauses k) _ _ _ (index k) _ (c .before .before .before .before .before .count .ensures) _
+          (c .before .before .before .first-unit .ensures .0) (none (c .before .before .before .before .before .before)) (c .if3 .taken),
     )
 
 -- the head of the first unit clause
-at-head : (c : tie.After-head) → IsHead (clauses (c .before .before .before .before .before .before .before .before .before .before)) (c .head .result)
+at-head : (c : tie.After-head) → IsHead (clauses (c .before .before .before .before .before .before .before .before .before .before))
+    (c .head .result)
 at-head c =
-    unit-head (clauses (c .before .before .before .before .before .before .before .before .before .before)) _ _ _ (index (c .before .before .before .before .before .before .before .before .before .before)) _ (c .before .before .before .before .before .before .count .ensures) _ (c .before .before .before .before .first-unit .ensures .0) (none (c .before .before .before .before .before .before .before)) (c .before .if3 .taken) _
+    unit-head (clauses (c .before .before .before .before .before .before .before .before .before .before)) _ _ _
+    (index (c .before .before .before .before .before .before .before .before .before .before)) _
+    (c .before .before .before .before .before .before .count .ensures) _ (c .before .before .before .before .first-unit .ensures .0)
+    (none (c .before .before .before .before .before .before .before)) (c .before .if3 .taken) _
     (c .head .ensures)
 
 sight-requires : tie.Need-sight-requires
-sight-requires c κs = (s (c .before .before .before .before .before .before .before .before .before .before) .pre .0, (s (c .before .before .before .before .before .before .before .before .before .before) .pre .1 .0, at-head c))
+sight-requires c κs = (
+  s (c .before .before .before .before .before .before .before .before .before .before) .pre .0,
+  (s (c .before .before .before .before .before .before .before .before .before .before) .pre .1 .0, at-head c),
+)
 
 same-length-2 : tie.Need-same-length-2
 same-length-2 c = search needs
@@ -79,7 +87,8 @@ returns-3 c =
     let u = c .before .before .before .before .before .first-unit .ensures in
     let e = c .before .before .before .before .before .before .before .count .ensures in (
       c .sight .ensures (at-head (c .before))
-          ∙ looks-unit (clauses k) _ _ _ (index k) _ e _ (u .0) (none (c .before .before .before .before .before .before .before .before)) (c .before .before .if3 .taken) _ (c .before .head .ensures),
+          ∙ looks-unit (clauses k) _ _ _ (index k) _ e _ (u .0) (none (c .before .before .before .before .before .before .before .before))
+          (c .before .before .if3 .taken) _ (c .before .head .ensures),
       watched (lowered (clauses k) _ _ _ (index k) _ e _ (u .1 .0) (u .1 .1)),
     )
 
@@ -98,4 +107,5 @@ returns-4 c =
 pub look-spec : {M : Type 1} → statement M
 look-spec =
     tie.close
-    (tie.spec scan-requires returns falses-requires same-length returns-2 count-requires first-unit-requires head-requires sight-requires same-length-2 returns-3 same-length-3 returns-4)
+    (tie.spec scan-requires returns falses-requires same-length returns-2 count-requires first-unit-requires head-requires sight-requires
+    same-length-2 returns-3 same-length-3 returns-4)

@@ -1,5 +1,5 @@
 -- `search_index::watch::renewed` meets its contract. Assumes nothing.
-use mathlib.Core.Path.{_≡_, refl, sym, _∙_, ap}
+use mathlib.Core.Path.{_≡_, ap}
 use mathlib.Core.List.{List}
 use Prim.Native.Nat.{ℕ, _<_, _≤_}
 use native.Mathlib.Omega.{arith}
@@ -8,7 +8,7 @@ use lib.ListN.{length, getD}
 use mir.Syntax.{w32}
 use mir.Val.{toZ, ofZ}
 use mir.Facts.{toZ-ofZ}
-use borrow.Author.Needs.{needs, sfits-of, scaled-fits}
+use borrow.Author.Needs.{needs, sfits-of}
 use Rattle.clause_list.specs.ClauseList.{clausesOf}
 use Rattle.search_index.specs.Index.{IsHead, Chains, looked, Due}
 use Rattle.search_index.proofs.Renewing.{word-within, head-found, owner-within, sign-low, gain-fits, gain-high, renewed-stands}

@@ -1,5 +1,5 @@
 -- `search_index::watch::touch` meets its contract. Assumes nothing.
-use mathlib.Core.Path.{_≡_, sym, _∙_, subst}
+use mathlib.Core.Path.{sym, _∙_, subst}
 use mathlib.Core.List.{List}
 use Prim.Native.Nat.{ℕ, _<_, _≤_}
 use native.Mathlib.Omega.{arith}
@@ -113,7 +113,11 @@ link-requires c κs = let i = q (c .before .before .before .before .before .befo
 
 loop-less : tie.Need-loop-less Inv-loop μ-loop
 loop-less c =
-    let i = q (c .before .before .before .before .before .before .before .before) in omega (arith, c .link .ensures, falls (clauses (k i)) _ _ _ _ (static (k i)) _ _ (walk i) (positive i))
+    let i = q (c .before .before .before .before .before .before .before .before) in omega (
+      arith,
+      c .link .ensures,
+      falls (clauses (k i)) _ _ _ _ (static (k i)) _ _ (walk i) (positive i),
+    )
 
 loop-again : tie.Need-loop-again Inv-loop μ-loop
 loop-again c =

@@ -18,7 +18,9 @@ slice-write-weights : tie.Need-slice-write-weights
 slice-write-weights c = omega (arith, c .before .before .walk-blocks .ensures .1 .1 .long)
 
 same-length : tie.Need-same-length
-same-length c = length-set (c .before .before .walk-blocks .last .0) 17409 (c .before .before .walk-blocks .result / 16) ∙ c .before .before .walk-blocks .ensures .1 .0 .long
+same-length c =
+    length-set (c .before .before .walk-blocks .last .0) 17409 (c .before .before .walk-blocks .result / 16)
+    ∙ c .before .before .walk-blocks .ensures .1 .0 .long
 
 returns : tie.Need-returns
 returns c =

@@ -25,7 +25,8 @@ sub-result c =
 returns : tie.Need-returns
 returns c =
     let s = c .before .before .before in
-    c .before .before .byte-weight .ensures ∙ sym (weighs-above (s .args .x) _ (s .args .l) (toZ-ofZ (s .fits .l)) (s .pre) (sym (c .before .is-positive .ensures) ∙ c .if1 .taken))
+    c .before .before .byte-weight .ensures ∙ sym
+    (weighs-above (s .args .x) _ (s .args .l) (toZ-ofZ (s .fits .l)) (s .pre) (sym (c .before .is-positive .ensures) ∙ c .if1 .taken))
 
 returns-2 : tie.Need-returns-2
 returns-2 c =

@@ -3,7 +3,6 @@ use mathlib.Core.Path.{_∙_}
 use mathlib.Core.Logic.{⊎-elim}
 use native.Mathlib.Omega.{arith}
 use lib.ListN.{length-set}
-use borrow.Author.Needs.{needs}
 use Rattle.search_index.proofs.WeightCode.{Follows, follow, leave, noted}
 use Rattle.search_index.proofs.weights.note_status.Statement.{statement}
 use Rattle.search_index.proofs.weights.note_status.Tie as tie
@@ -12,7 +11,8 @@ raise-requires : tie.Need-raise-requires
 raise-requires c κs = let p = c .before .before .before .pre .0 in (p .0, omega (arith, p .1))
 
 -- the weights behind the branch
-follows : (c : tie.After-slice-known3) → Follows (c .before .before .before .args .weights .now) (c .before .before .before .args .c) (c .before .before .before .args .new) (c .before .if1 .weights)
+follows : (c : tie.After-slice-known3) → Follows (c .before .before .before .args .weights .now) (c .before .before .before .args .c)
+    (c .before .before .before .args .new) (c .before .if1 .weights)
 follows c = ⊎-elim (λ w. rw (w .5) (follow _ _ _ _ (w .2 .ensures))) (λ w. leave _ _ _ _ (w .0 .left) (w .1)) (c .before .if1 .came)
 
 slice-read-falses : tie.Need-slice-read-falses

@@ -33,7 +33,8 @@ mul-if1 : tie.Need-mul-if1 Inv-loop μ-loop
 mul-if1 c = omega (arith, c .before .loop .inv .first, c .loop-test .taken, c .before .before .before .before .before .pre .1)
 
 slice-read-if1 : tie.Need-slice-read-if1 Inv-loop μ-loop
-slice-read-if1 c = long-enough _ _ _ _ _ (c .before .before .before .before .before .before .pre .1) (c .before .before .loop .inv) (c .before .loop-test .taken)
+slice-read-if1 c =
+    long-enough _ _ _ _ _ (c .before .before .before .before .before .before .pre .1) (c .before .before .loop .inv) (c .before .loop-test .taken)
 
 add-lesser : tie.Need-add-lesser Inv-loop μ-loop
 add-lesser c = omega (arith, c .before .before .loop-test .taken, c .before .before .before .before .before .before .before .pre .1)
@@ -58,7 +59,8 @@ returns c =
     let s = c .before .before .before .before .before .before .before .before .before .before .before in
     let le = c .before .before .before .lesser .ensures in
     search-found _ _ _ _ _ (s .pre .1) (c .before .before .before .before .before .before .before .loop .inv)
-    (c .before .before .before .before .before .before .loop-test .taken) _ _ (le .0) (le .1) (le .2) (c .before .unit-within .ensures) (c .if2 .taken)
+    (c .before .before .before .before .before .before .loop-test .taken) _ _ (le .0) (le .1) (le .2) (c .before .unit-within .ensures)
+    (c .if2 .taken)
 
 add-weights : tie.Need-add-weights Inv-loop μ-loop
 add-weights c =
@@ -85,11 +87,21 @@ slice-write-weights c =
 
 add-b : tie.Need-add-b Inv-loop μ-loop
 add-b c =
-    omega (arith, c .before .before .before .loop .inv .first, c .before .before .loop-test .taken, c .before .before .before .before .before .before .before .pre .1)
+    omega (
+      arith,
+      c .before .before .before .loop .inv .first,
+      c .before .before .loop-test .taken,
+      c .before .before .before .before .before .before .before .pre .1,
+    )
 
 add-at : tie.Need-add-at Inv-loop μ-loop
 add-at c =
-    omega (arith, c .before .before .before .loop .inv .first, c .before .before .loop-test .taken, c .before .before .before .before .before .before .before .pre .1)
+    omega (
+      arith,
+      c .before .before .before .loop .inv .first,
+      c .before .before .loop-test .taken,
+      c .before .before .before .before .before .before .before .pre .1,
+    )
 
 loop-less : tie.Need-loop-less Inv-loop μ-loop
 loop-less c = omega (arith, c .before .before .loop-test .taken)
@@ -114,4 +126,6 @@ returns-2 c = search-end _ _ _ _ _ (c .before .before .before .before .before .p
 pub walk-blocks-spec : {M : Type 1} → statement M
 walk-blocks-spec =
     tie.close
-    (tie.spec Inv-loop μ-loop slice-read-wide wide-requires mul-at loop-holds add-if1 mul-if1 slice-read-if1 add-lesser lesser-requires unit-within-requires same-length returns add-weights mul-weights slice-write-weights add-b add-at loop-less loop-again same-length-2 returns-2)
+    (tie.spec Inv-loop μ-loop slice-read-wide wide-requires mul-at loop-holds add-if1 mul-if1 slice-read-if1 add-lesser lesser-requires
+    unit-within-requires same-length returns add-weights mul-weights slice-write-weights add-b add-at loop-less loop-again same-length-2
+    returns-2)

@@ -73,7 +73,8 @@ mul-l : tie.Need-mul-l Inv-loop μ-loop
 mul-l c =
     let s = c .before .before .before .before .before in
     let h = s .pre .1 .1 .1 in
-    scaled-fits _ (length (s .args .list .now)) _ (word-within _ _ (s .pre .0) _ h _ _ _ (c .before .loop .inv h) (c .loop-test .taken)) (s .good .0 .1)
+    scaled-fits _ (length (s .args .list .now)) _ (word-within _ _ (s .pre .0) _ h _ _ _ (c .before .loop .inv h) (c .loop-test .taken))
+    (s .good .0 .1)
 
 shared-slice-copy-out-l : tie.Need-shared-slice-copy-out-l Inv-loop μ-loop
 shared-slice-copy-out-l c =
