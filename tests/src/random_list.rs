@@ -87,7 +87,7 @@ pub enum Padding {
 }
 
 /// A good list with further clauses that change no step of its search, so that it has exactly so many words: as many as before, or at
-/// least three more. They are always true; some are a clause of the list once more, behind it.
+/// least three more. Each is always true, or a clause of the list once more, behind it.
 pub fn padded(source: &mut Source, list: &[i32], v: u32, words: usize, padding: Padding) -> Vec<i32> {
     let own = crate::search::cut(list, v).expect("a good list");
     let mut placed: Vec<(usize, Vec<i32>)> =

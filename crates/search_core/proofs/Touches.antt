@@ -11,7 +11,7 @@ use Rattle.search_rules.specs.Inner.{Fine}
 use Rattle.search_index.specs.Index.{Watched}
 
 -- a value that is set and set back
-pub restored : (values : List ℕ) (p b : ℕ) → set (set values p b) p (getD values p 0) ≡ values
+restored : (values : List ℕ) (p b : ℕ) → set (set values p b) p (getD values p 0) ≡ values
 restored [] p b = refl
 restored (x ∷ values) zero b = refl
 restored (x ∷ values) (suc p) b = ap (λ vs. x ∷ vs) (restored values p b)

@@ -11,7 +11,7 @@ use lib.Seq.{getD-set-same, getD-set-other}
 use Rattle.clause_list.specs.ClauseList.{wordsOf}
 use Rattle.search_index.specs.Index.{limit, clauseAt, headOf, Spot, Linked, Stands, Tallied, Put, Watched, watched}
 use Rattle.search_index.specs.Index.{headAt}
-use Rattle.search_index.proofs.Words.{head-high, head-all, clauses-few}
+use Rattle.search_index.proofs.Words.{head-zero, head-high, head-all, clauses-few}
 use Rattle.search_index.proofs.Chaining.{chained-none}
 use Rattle.search_index.proofs.Entering.{linked-set}
 use Rattle.search_index.proofs.Tallies.{tally-none, tally-more}
@@ -38,10 +38,6 @@ module _ (clauses : List (List ℤ)) (values : List ℕ) where
     tallied = tally-none weights room none;
     clean = λ d l b. none d;
   }
-    where
-      head-zero : (cs : List (List ℤ)) → headOf cs 0 ≡ 0
-      head-zero [] = unfold headOf in refl
-      head-zero (c ∷ cs) = unfold headOf in refl
 
   module _ (low : (q j : ℕ) → Spot clauses q j → q < limit) (short : length (wordsOf clauses) ≤ limit)
       (chains weights : List ℕ) (c at : ℕ) (h : Built clauses values chains weights c at) where

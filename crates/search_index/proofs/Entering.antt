@@ -1,4 +1,4 @@
--- The words of a clause entered into the chains, and the clauses one after the other.
+-- The words of a clause entered into the chains.
 use mathlib.Core.Path.{_≡_, refl, sym, _∙_, ap}
 use mathlib.Core.Bool.{Bool, true}
 use mathlib.Core.Logic.{_⊎_, ⊎-elim}
@@ -44,7 +44,7 @@ linked-set clauses low chains bound b h k x l = record {
 }
 
 -- word i names the variable at place p and is of clause c
-abbrev pub withWord : List ℕ → ℕ → ℕ → ℕ → List ℕ
+abbrev withWord : List ℕ → ℕ → ℕ → ℕ → List ℕ
 withWord chains p i c = set (set (set chains (16385 + 2 * i) c) (16384 + 2 * i) (firstAt chains p)) p i
 
 module _ (chains : List ℕ) (long : length chains ≡ 65537) (p i c : ℕ) (lp : p < limit) (li : i < limit) where

@@ -5,9 +5,9 @@ mod Spots
 mod Chaining
 mod Entering
 mod Weighing
+mod WeightCode
 mod Tallies
 mod Statuses
-mod WeightCode
 mod WeighLoop
 mod Flags
 mod Touching

@@ -1,4 +1,4 @@
--- What the weights show of all clauses is what a pass over them shows.
+-- What the code of a look finds in an index.
 use mathlib.Core.Path.{_≡_, sym, _∙_, subst}
 use mathlib.Core.List.{List, [], _∷_}
 use Prim.Native.Nat.{ℕ, _<_, _≤_}
@@ -56,7 +56,7 @@ module _ (clauses : List (List ℤ)) (values chains weights : List ℕ) (index :
         unfolding unit-head
         looks-unit at z = shows-unit clauses values weights tells (index .tallied) r stop none inside
 
-    -- the index where only flags were lowered
+    -- the index where only what tells where unit clauses are was changed
     pub lowered : (weights' : List ℕ) → Same weights weights' → Tallied weights' m → Indexed clauses values chains weights'
     lowered weights' s t = record {
       chains-are = index .chains-are;

@@ -32,7 +32,7 @@ module _ (v : ℕ) (list : List ℤ) (fine : Fine v list) (head : ℕ) (h : IsHe
 
   pub count-is : getD list head (pos 0) ≡ pos (length clause)
   count-is =
-      ap (getD list head) refl ∙ ap (λ (ws : List ℤ). getD ws head (pos 0)) (words-are v list fine)
+      ap (λ (ws : List ℤ). getD ws head (pos 0)) (words-are v list fine)
       ∙ ap (λ (i : ℕ). getD (wordsOf (clausesOf list)) i (pos 0)) (h .at) ∙ count-at (clausesOf list) (h .c) (h .within)
 
   pub high : head + suc (length clause) ≤ length list

@@ -54,7 +54,7 @@ module _ (list : List ℤ) (values : List ℕ) (fine : Fine (length values) list
       ap (λ (ws : List ℤ). getD ws i (pos 0)) words ∙ ap (λ (n : ℕ). getD (wordsOf clauses) n (pos 0)) (d .spot .word)
       ∙ literal-at clauses (d .spot .c) (d .spot .k) (d .spot .within) (d .spot .inside)
 
-  pub word-range : InRange (length values) word
+  word-range : InRange (length values) word
   word-range =
       subst (InRange (length values)) (sym word-is)
       (literal-ranged (length values) clause (d .spot .k)

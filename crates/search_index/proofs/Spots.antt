@@ -23,7 +23,7 @@ below-or (suc a) zero = inr (omega arith)
 below-or (suc a) (suc b) = ⊎-elim (λ l. inl (omega (arith, l))) (λ l. inr (omega (arith, l))) (below-or a b)
 
 -- a clause ends before the next begins
-pub head-next : (clauses : List (List ℤ)) (c d : ℕ) → c < d → d < length clauses
+head-next : (clauses : List (List ℤ)) (c d : ℕ) → c < d → d < length clauses
     → headOf clauses c + suc (length (clauseAt clauses c)) ≤ headOf clauses d
 unfolding headOf
 head-next [] c d h l = absurd (omega arith)
@@ -35,11 +35,11 @@ head-next (clause ∷ clauses) (suc c) (suc d) h l = omega (arith, head-next cla
 pub same-clause : (clauses : List (List ℤ)) (p q i j : ℕ) (s : Spot clauses p i) (t : Spot clauses q j) → i ≡ j → s .c ≡ t .c
 same-clause clauses p q i j s t z = ⊎-elim (λ e. e) apart (same-or-not (s .c) (t .c))
   where
-    before : (n : ℕ) → s .c < t .c → s .c ≡ t .c
-    before n l = absurd (omega (arith, head-next clauses (s .c) (t .c) l (t .within), z, s .word, t .word, s .inside))
+    before : s .c < t .c → s .c ≡ t .c
+    before l = absurd (omega (arith, head-next clauses (s .c) (t .c) l (t .within), z, s .word, t .word, s .inside))
 
-    after : (n : ℕ) → t .c < s .c → s .c ≡ t .c
-    after n l = absurd (omega (arith, head-next clauses (t .c) (s .c) l (s .within), z, s .word, t .word, t .inside))
+    after : t .c < s .c → s .c ≡ t .c
+    after l = absurd (omega (arith, head-next clauses (t .c) (s .c) l (s .within), z, s .word, t .word, t .inside))
 
     either : (a b : ℕ) → (a ≡ b → ⊥) → (a < b) ⊎ (b < a)
     either zero zero n = absurd (n refl)
@@ -48,10 +48,10 @@ same-clause clauses p q i j s t z = ⊎-elim (λ e. e) apart (same-or-not (s .c)
     either (suc a) (suc b) n = ⊎-elim (λ l. inl (omega (arith, l))) (λ l. inr (omega (arith, l))) (either a b (λ e. n (ap suc e)))
 
     apart : (s .c ≡ t .c → ⊥) → s .c ≡ t .c
-    apart n = ⊎-elim (before 0) (after 0) (either (s .c) (t .c) n)
+    apart n = ⊎-elim before after (either (s .c) (t .c) n)
 
 -- a word names one variable
-pub same-offset : (clauses : List (List ℤ)) (p q i j : ℕ) (s : Spot clauses p i) (t : Spot clauses q j) → i ≡ j → s .k ≡ t .k
+same-offset : (clauses : List (List ℤ)) (p q i j : ℕ) (s : Spot clauses p i) (t : Spot clauses q j) → i ≡ j → s .k ≡ t .k
 same-offset clauses p q i j s t z =
     let e = ap (headOf clauses) (same-clause clauses p q i j s t z) in omega (arith, e, z, s .word, t .word)
 
@@ -62,7 +62,7 @@ same-place clauses p q i j s t z =
     ∙ ap (λ (k : ℕ). placeOf (getD (clauseAt clauses (t .c)) k (pos 0))) (same-offset clauses p q i j s t z)
     ∙ t .names
 
-pub head-mono : (clauses : List (List ℤ)) (c d : ℕ) → c ≤ d → d < length clauses → headOf clauses c ≤ headOf clauses d
+head-mono : (clauses : List (List ℤ)) (c d : ℕ) → c ≤ d → d < length clauses → headOf clauses c ≤ headOf clauses d
 head-mono clauses c d l h = ⊎-elim (λ e. rw e (omega arith)) (λ b. omega (arith, head-next clauses c d b h)) (eq-or-lt-of-le l)
 
 -- the word of a count names no variable

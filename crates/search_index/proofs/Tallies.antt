@@ -8,35 +8,35 @@ use native.Mathlib.Omega.{arith}
 use native.Mathlib.Nat.{eq-or-lt-of-le}
 use lib.Dec.{eqb}
 use lib.ListN.{length, getD}
-use borrow.Author.Tests.{eq-eqb, ne-eqb}
 use Rattle.search_index.specs.Index.{limit, told, weightWords, falsesAt, Up, one, falsesBelow, Tallied, Put}
 use Rattle.search_index.proofs.Spots.{same-or-not}
+use Rattle.search_index.proofs.WeightCode.{bit-one, bit-zero}
 
 bit-low : (b : Bool) → cond b 1 0 ≤ 1
 bit-low true = omega arith
 bit-low false = omega arith
 
-pub one-low : (w : ℕ) → one w ≤ 1
+one-low : (w : ℕ) → one w ≤ 1
 unfolding one
 one-low w = bit-low (eqb (told w) 1)
 
-pub one-false : (w : ℕ) → told w ≡ 1 → one w ≡ 1
+one-false : (w : ℕ) → told w ≡ 1 → one w ≡ 1
 unfolding one
-one-false w e = rw (eq-eqb (told w) 1 e) refl
+one-false w e = bit-one (told w) e
 
-pub one-other : (w : ℕ) → (told w ≡ 1 → ⊥) → one w ≡ 0
+one-other : (w : ℕ) → (told w ≡ 1 → ⊥) → one w ≡ 0
 unfolding one
-one-other w n = rw (ne-eqb (told w) 1 n) refl
+one-other w n = bit-zero (told w) n
 
 told-none : told 0 ≡ 0
 unfolding told
 told-none = refl
 
-pub one-none : one 0 ≡ 0
+one-none : one 0 ≡ 0
 unfolding one told
 one-none = refl
 
-pub falses-high : (n : ℕ) (f : ℕ → ℕ) → falsesBelow n f ≤ n
+falses-high : (n : ℕ) (f : ℕ → ℕ) → falsesBelow n f ≤ n
 unfolding falsesBelow
 falses-high zero f = omega arith
 falses-high (suc n) f = omega (arith, one-low (f n), falses-high n f)

@@ -15,7 +15,7 @@ use Rattle.search_index.specs.Index.{Indexed}
 use Rattle.search_index.specs.Index.{Gains, Watched, unwatched, watched, Due}
 use Rattle.search_index.proofs.Spots.{same-or-not}
 use Rattle.search_index.proofs.Words.{clauses-few, head-high}
-use Rattle.search_index.proofs.Weighing.{weight-away, status-away}
+use Rattle.search_index.proofs.Weighing.{Away, weight-away, status-away}
 use Rattle.search_index.proofs.Tallies.{tally-put, put-asks}
 
 -- every word of a literal is among the words
@@ -23,7 +23,7 @@ pub word-in : (clauses : List (List ℤ)) (p i : ℕ) → Spot clauses p i → i
 word-in clauses p i s = omega (arith, s .word, s .inside, head-high clauses (s .c) (s .within))
 
 -- a clause with two words that name one variable
-pub twice : (clauses : List (List ℤ)) (p i j : ℕ) (s : Spot clauses p i) (t : Spot clauses p j) → t .c ≡ s .c → j < i
+twice : (clauses : List (List ℤ)) (p i j : ℕ) (s : Spot clauses p i) (t : Spot clauses p j) → t .c ≡ s .c → j < i
     → Apart (clauseAt clauses (s .c)) → ⊥
 twice clauses p i j s t e l a =
     a (t .k) (s .k) before (s .inside) (ap (λ c. placeOf (getD (clauseAt clauses c) (t .k) (pos 0))) (sym e) ∙ t .names ∙ sym (s .names))
@@ -32,7 +32,7 @@ twice clauses p i j s t e l a =
     before = omega (arith, s .word, t .word, ap (headOf clauses) e, l)
 
 -- what stands for a clause stands for it still where a value changes that it does not name
-stands-away : (values : List ℕ) (p b : ℕ) (clause : List ℤ) (w : ℕ) → ((k : ℕ) → k < length clause → placeOf (getD clause k (pos 0)) ≡ p → ⊥)
+stands-away : (values : List ℕ) (p b : ℕ) (clause : List ℤ) (w : ℕ) → Away p clause
     → Stands (set values p b) clause w → Stands values clause w
 stands-away values p b clause w h (weighed a e) = weighed a (e ∙ weight-away values p b clause h)
 stands-away values p b clause w h (looked e) = looked (e ∙ ap (λ s. mixed + s) (status-away values p b clause h))

@@ -23,7 +23,7 @@ use Rattle.search_index.proofs.Weighing.{literal-byte, weight-high, wei
 pub is-count : (z : ℤ) (n : ℕ) → z ≡ pos n → z ≡ pos (countOf z)
 is-count z n e = rw e refl
 
-pub weight-from : (values : List ℕ) (clause : List ℤ) (k : ℕ) → k < length clause
+weight-from : (values : List ℕ) (clause : List ℤ) (k : ℕ) → k < length clause
     → weightOf values (drop k clause) ≡ literalWeight (literal values (getD clause k (pos 0))) + weightOf values (drop (suc k) clause)
 unfolding weightOf
 weight-from values clause k l = rw (drop-cons clause k (pos 0) l) refl
@@ -66,7 +66,7 @@ module _ (values : List ℕ) (list : List ℤ) (fine : Fine (length values) list
     pub word-within : i < length list
     word-within = omega (arith, l, g .ends, high (length values) list fine head h)
 
-    pub word-ranged : InRange (length values) (getD list i (pos 0))
+    word-ranged : InRange (length values) (getD list i (pos 0))
     word-ranged = rw word-at (literal-ranged (length values) clause (i - suc head)
         (clause-ranged (length values) (clausesOf list) (h .c) (ranged (length values) list fine) (h .within)) inside)
 

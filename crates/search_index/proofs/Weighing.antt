@@ -14,6 +14,7 @@ use Rattle.search_rules.specs.Rules.{Truth, falsified, satisfied, unassigned, t
 use Rattle.search_rules.specs.Rules.{conflict, openOf, sameLiteral, only, unitOf, firstUnit}
 use Rattle.search_rules.proofs.Booleans.{bool-false}
 use Rattle.search_rules.proofs.Assignments.{same-true}
+use Rattle.search_scan.proofs.Words.{default}
 use Rattle.search_scan.specs.Seen.{Sight, conflicting, unit, neither, seen}
 use Rattle.search_index.specs.Index.{limit, Apart, literalWeight, byteSays, weightOf, statusCode, statusOf, mixed, told, Stands}
 use Rattle.search_index.specs.Index.{weighed, looked}
@@ -22,14 +23,14 @@ use Rattle.search_index.specs.Index.{weighed, looked}
 abbrev pub Away : ℕ → List ℤ → Type 0
 Away p clause = (k : ℕ) → k < length clause → placeOf (getD clause k (pos 0)) ≡ p → ⊥
 
-pub literal-away : (values : List ℕ) (p b : ℕ) (l : ℤ) → (placeOf l ≡ p → ⊥) → literal (set values p b) l ≡ literal values l
+literal-away : (values : List ℕ) (p b : ℕ) (l : ℤ) → (placeOf l ≡ p → ⊥) → literal (set values p b) l ≡ literal values l
 unfolding literal placeOf
 literal-away values p b (pos n) h = ap truthOf (getD-set-other values p (pred n) b 2 h)
 literal-away values p b (negsuc n) h = ap (λ (x : ℕ). negated (truthOf x)) (getD-set-other values p n b 2 h)
 
 -- a clause that does not name the variable keeps its weight
 pub weight-away : (values : List ℕ) (p b : ℕ) (clause : List ℤ)
-    → ((k : ℕ) → k < length clause → placeOf (getD clause k (pos 0)) ≡ p → ⊥) → weightOf (set values p b) clause ≡ weightOf values clause
+    → Away p clause → weightOf (set values p b) clause ≡ weightOf values clause
 unfolding weightOf
 weight-away values p b [] h = refl
 weight-away values p b (l ∷ clause) h =
@@ -102,17 +103,12 @@ seen-alike us vs clause a = seen-one us clause ∙ rw (a .falses, a .trues, a .o
 
 -- a clause that does not name the variable keeps its status
 pub status-away : (values : List ℕ) (p b : ℕ) (clause : List ℤ)
-    → ((k : ℕ) → k < length clause → placeOf (getD clause k (pos 0)) ≡ p → ⊥) → statusOf (set values p b) clause ≡ statusOf values clause
+    → Away p clause → statusOf (set values p b) clause ≡ statusOf values clause
 unfolding statusOf
 status-away values p b clause h =
     rw (seen-alike _ _ clause (alike (set values p b) values clause (λ k l. literal-away values p b _ (h k l)))) refl
 
 -- what the values say of a literal is what its variable's byte says
-default : (vs : List ℕ) (i d e : ℕ) → i < length vs → getD vs i d ≡ getD vs i e
-default [] i d e h = absurd (omega arith)
-default (x ∷ vs) zero d e h = refl
-default (x ∷ vs) (suc i) d e h = default vs i d e (omega arith)
-
 byte-read : (values : List ℕ) (p i : ℕ) → p < length values → i ≡ p → getD values i 2 ≡ getD values p 0
 byte-read values p i h e = rw e (default values p 2 0 h)
 
@@ -121,7 +117,7 @@ unfolding literal placeOf byteSays
 literal-byte values p (pos n) h e = ap truthOf (byte-read values p (pred n) h e)
 literal-byte values p (negsuc n) h e = ap (λ (x : ℕ). negated (truthOf x)) (byte-read values p n h e)
 
-pub literal-set : (values : List ℕ) (p was : ℕ) (l : ℤ) → p < length values → placeOf l ≡ p → literal (set values p was) l ≡ byteSays was l
+literal-set : (values : List ℕ) (p was : ℕ) (l : ℤ) → p < length values → placeOf l ≡ p → literal (set values p was) l ≡ byteSays was l
 unfolding literal placeOf byteSays
 literal-set values p was (pos n) h e = ap truthOf (ap (λ (i : ℕ). getD (set values p was) i 2) e ∙ getD-set-same values p was 2 h)
 literal-set values p was (negsuc n) h e =

@@ -18,6 +18,7 @@ use Rattle.search_index.specs.Index.{limit, literalWeight, byteWeight, b
 use Rattle.search_index.specs.Index.{weightWords, Up}
 use Rattle.search_index.specs.Index.{one, Raised, Noted, Put}
 use Rattle.search_index.proofs.Spots.{same-or-not}
+use Rattle.search_index.proofs.Weighing.{literal-weight-high}
 
 -- the status of what stands for a clause that names a variable twice
 pub told-above : (w : ℕ) → mixed ≤ w → w - mixed ≡ told w
@@ -40,15 +41,9 @@ weighs-false (suc zero) p q = absurd (p refl)
 weighs-false (suc (suc zero)) p q = absurd (q refl)
 weighs-false (suc (suc (suc n))) p q = refl
 
-low : (t : Truth) → literalWeight t ≤ 2
-unfolding literalWeight
-low falsified = omega arith
-low satisfied = omega arith
-low unassigned = omega arith
-
 pub byte-low : (x : ℕ) → byteWeight x ≤ 2
 unfolding byteWeight
-byte-low x = low (truthOf x)
+byte-low x = literal-weight-high (truthOf x)
 
 -- the weight of a literal and of its opposite
 opposites : (t : Truth) → literalWeight (negated t) + literalWeight t ≡ 2
@@ -79,9 +74,6 @@ bit-one s e = rw (eq-eqb s 1 e) refl
 
 pub bit-zero : (s : ℕ) → (s ≡ 1 → ⊥) → bit s ≡ 0
 bit-zero s n = rw (ne-eqb s 1 n) refl
-
-pub recount-same : (falses old new : ℕ) → old ≡ new → falses + bit old ≡ falses + bit new
-recount-same falses old new e = ap (λ (s : ℕ). falses + bit s) e
 
 pub recount-more : (falses old new : ℕ) → (old ≡ new → ⊥) → new ≡ 1 → (falses + 1) + bit old ≡ falses + bit new
 recount-more falses old new n e = omega (arith, bit-zero old (λ q. n (q ∙ sym e)), bit-one new e)
@@ -184,11 +176,14 @@ module _ (weights : List ℕ) (c w : ℕ) (l : length weights ≡ weightWords) (
   up-kept b k u =
       (at-other (16384 + b) (λ q. absurd (omega (arith, q, h))) ∙ u .0, omega (arith, at-other 17409 (λ q. absurd (omega (arith, q, h))), u .1))
 
-  pub note-asks : (old : ℕ) → old ≡ told (getD weights c 0) → one (getD weights c 0) ≤ falsesAt weights → falsesAt weights ≤ limit
-      → (falsesAt (set weights c w) ≤ limit) × (old ≡ 1 → 1 ≤ falsesAt (set weights c w))
+  pub note-asks : (old new : ℕ) → old ≡ told (getD weights c 0) → one (getD weights c 0) ≤ falsesAt weights → falsesAt weights ≤ limit
+      → (new ≡ old → ⊥) → (falsesAt (set weights c w) ≤ limit) × (old ≡ 1 → 1 ≤ falsesAt (set weights c w)) × (old ≡ new → ⊥)
   unfolding one
-  note-asks old e a b =
-      (omega (arith, falses-kept, b), λ q. omega (arith, falses-kept, a, bit-one (told (getD weights c 0)) (sym e ∙ q)))
+  note-asks old new e a b n = (
+    omega (arith, falses-kept, b),
+    (λ q. omega (arith, falses-kept, a, bit-one (told (getD weights c 0)) (sym e ∙ q))),
+    (λ q. n (sym q)),
+  )
 
   pub put-noted : (weights' : List ℕ) (old new : ℕ) → old ≡ told (getD weights c 0) → new ≡ told w → Noted (set weights c w) c old new weights'
       → Put weights c w weights'

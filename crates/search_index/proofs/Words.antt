@@ -1,6 +1,6 @@
 -- Where the clauses and their literals stand in a list of words.
 use mathlib.Core.Path.{_≡_, refl, sym, _∙_, ap}
-use mathlib.Core.List.{List, [], _∷_, _++_}
+use mathlib.Core.List.{List, [], _∷_, _++_, append-nil}
 use Prim.Native.Nat.{ℕ, zero, suc, _+_, _<_, _≤_}
 use native.Mathlib.Omega.{arith}
 use lib.IntN.{ℤ, pos, natAbs}
@@ -25,6 +25,11 @@ pub words-are : (v : ℕ) (list : List ℤ) → Fine v list → list ≡ wordsOf
 unfolding Fine
 words-are v list h = sym (words-cut v (length list) list h)
 
+pub head-zero : (clauses : List (List ℤ)) → headOf clauses 0 ≡ 0
+unfolding headOf
+head-zero [] = refl
+head-zero (clause ∷ clauses) = refl
+
 -- from the head of a clause on
 pub at-head : (clauses : List (List ℤ)) (c : ℕ) → c < length clauses
     → drop (headOf clauses c) (wordsOf clauses) ≡ pos (length (clauseAt clauses c)) ∷
@@ -34,10 +39,6 @@ at-head [] c l = absurd (omega arith)
 at-head (clause ∷ clauses) zero l =
     ap (λ (r : List ℤ). pos (length clause) ∷ (clause ++ r))
     (sym (drop-append-add clause (wordsOf clauses) (headOf clauses 0) ∙ rw (head-zero clauses) refl))
-  where
-    head-zero : (cs : List (List ℤ)) → headOf cs 0 ≡ 0
-    head-zero [] = refl
-    head-zero (c ∷ cs) = refl
 at-head (clause ∷ clauses) (suc c) l =
     drop-append-add clause (wordsOf clauses) (headOf clauses c) ∙ at-head clauses c (omega arith)
     ∙ ap (λ (r : List ℤ). pos (length (clauseAt clauses c)) ∷ (clauseAt clauses c ++ r))
@@ -99,10 +100,6 @@ literal-ranged v (x ∷ clause) (suc k) h l = literal-ranged v clause k (h .1) (
 pub one-words : (clause : List ℤ) → wordsOf (clause ∷ []) ≡ pos (length clause) ∷ clause
 unfolding wordsOf
 one-words clause = ap (λ (r : List ℤ). pos (length clause) ∷ r) (append-nil clause)
-  where
-    append-nil : (xs : List ℤ) → xs ++ [] ≡ xs
-    append-nil [] = refl
-    append-nil (x ∷ xs) = ap (λ (r : List ℤ). x ∷ r) (append-nil xs)
 
 pub part-is : (clauses : List (List ℤ)) (c : ℕ) → c < length clauses
     → take (suc (length (clauseAt clauses c))) (drop (headOf clauses c) (wordsOf clauses)) ≡ wordsOf (clauseAt clauses c ∷ [])

@@ -1,7 +1,7 @@
 -- The index of a clause list: where its clauses stand, the chains of the words that name a variable, the weights of the clauses.
 -- No public contract reaches this file: nothing here needs belief.
 use mathlib.Core.Path.{_≡_}
-use mathlib.Core.Bool.{true, false, cond}
+use mathlib.Core.Bool.{cond}
 use mathlib.Core.List.{List, [], _∷_}
 use Prim.Native.Nat.{ℕ, zero, suc, _+_, _-_, _*_, _/_, _<_, _≤_}
 use lib.Dec.{eqb, leb}
@@ -198,7 +198,7 @@ pub record Put (weights : List ℕ) (c w : ℕ) (weights' : List ℕ) : Type 0 w
   pub kept : (b : ℕ) → b < blocks → Up weights b → Up weights' b
   pub counted : falsesAt weights' + one (getD weights c 0) ≡ falsesAt weights + one w
 
--- there is no unit clause before r, and one at r where r is below m
+-- from `low` on there is no unit clause before r, and one at r where r is below m
 pub record Stopped (weights : List ℕ) (low m r : ℕ) : Type 0 where
   pub passed : (c : ℕ) → low ≤ c → c < r → told (getD weights c 0) ≡ 2 → ⊥
   pub found : r < m → told (getD weights r 0) ≡ 2

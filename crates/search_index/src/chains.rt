@@ -26,7 +26,7 @@ pub fn blank_chains() -> [u16; COUNT + 1]
     [0u16; COUNT + 1]
 }
 
-fn wide(x: u16) -> usize
+pub fn wide(x: u16) -> usize
     ensures { λ r. ⌜ r ≡ x ⌝ }
 {
     x as usize

@@ -4,7 +4,7 @@ ghost use mathlib.Core.Path.{_≡_};
 ghost use mathlib.Core.Bool.{cond};
 ghost use mathlib.Core.List.{[], _∷_};
 ghost use mathlib.Core.Logic.{_⊎_};
-ghost use Prim.Native.Nat.{ℕ, _+_, _*_, _<_, _≤_};
+ghost use Prim.Native.Nat.{ℕ, _+_, _<_, _≤_};
 ghost use lib.Dec.{eqb};
 ghost use lib.IntN.{natAbs};
 ghost use lib.ListN.{length, getD};
@@ -16,6 +16,7 @@ ghost use Rattle.search_index.specs.Index.{limit, blocks, weightWords, R
 ghost use Rattle.search_index.specs.Index.{Gains, byteSays, weightOf, statusOf, mixed, told, falsesAt, one, Tallied, Noted, Put};
 ghost use Rattle.search_index.specs.Index.{Stopped, Same};
 use crate::chains::LIMIT;
+use crate::chains::wide;
 use search_scan::Seen;
 use search_scan::scan;
 
@@ -35,12 +36,6 @@ pub fn blank_weights() -> [u16; LOW + 1]
     ensures { λ r. ⌜ (length r ≡ weightWords) × ((k : ℕ) → getD r k 0 ≡ 0) ⌝ }
 {
     [0u16; LOW + 1]
-}
-
-fn wide(x: u16) -> usize
-    ensures { λ r. ⌜ r ≡ x ⌝ }
-{
-    x as usize
 }
 
 // The weight of the literal that says that its variable, which has this byte, is true: false 0, open 1, true 2.
@@ -134,7 +129,7 @@ pub fn look_up(list: &[i32], values: &[u8], head: usize) -> u16
 }
 
 // The status that a weight tells: 1 false, 2 unit, 3 neither; 0 stands for no clause.
-pub fn status(w: u16) -> u16
+fn status(w: u16) -> u16
     ensures { λ r. ⌜ r ≡ told w ⌝ }
 {
     if w >= MIXED {
@@ -148,12 +143,9 @@ pub fn status(w: u16) -> u16
 
 // The number of false clauses where a clause of one status gets another.
 fn recount(falses: u16, old: u16, new: u16) -> u16
-    requires { ⌜ (falses ≤ limit) × (old ≡ 1 → 1 ≤ falses) ⌝ }
+    requires { ⌜ (falses ≤ limit) × (old ≡ 1 → 1 ≤ falses) × (old ≡ new → ⊥) ⌝ }
     ensures { λ r. ⌜ r + cond (eqb old 1) 1 0 ≡ falses + cond (eqb new 1) 1 0 ⌝ }
 {
-    if old == new {
-        return falses;
-    }
     if new == 1 {
         return falses + 1;
     }
@@ -177,7 +169,7 @@ fn raise(weights: &mut [u16], b: usize)
 // The block of clause c and the number of false clauses follow its status.
 fn note_status(weights: &mut [u16], c: usize, old: u16, new: u16)
     requires { ⌜ (length (now weights) ≡ weightWords) × (c < limit) ⌝ }
-    requires { ⌜ (falsesAt (now weights) ≤ limit) × (old ≡ 1 → 1 ≤ falsesAt (now weights)) ⌝ }
+    requires { ⌜ (falsesAt (now weights) ≤ limit) × (old ≡ 1 → 1 ≤ falsesAt (now weights)) × (old ≡ new → ⊥) ⌝ }
     ensures { λ r. ⌜ Noted (now (weights .entry)) c old new (now (weights .exit)) ⌝ }
 {
     if new == 2 {

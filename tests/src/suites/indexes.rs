@@ -10,9 +10,9 @@ use reference::search::{cut, Answer, End, Steps};
 /// The most words that an index is made for.
 pub const LIMIT: usize = 16_384;
 
-/// About as many steps of a call go by before the index is made.
+/// So many steps of a call's run go by before the index is made.
 fn first_steps(words: usize) -> u64 {
-    4 + 16_384 / (words as u64 + 1)
+    4 + LIMIT as u64 / (words as u64 + 1)
 }
 
 /// What is met by the index, and past the limit: calls, ends, and kinds of steps, by the index only after the first steps.

@@ -93,6 +93,8 @@ fn compare(source: &mut Source, long: &Long, number: u64) -> Result<(Answer, usi
         last = want.map_err(|number| format!("refused {number}: {}", asked()))?;
     }
     let asked = || format!("case {number}, {name}, {words} words, in one run of {} steps", MOST - left);
+    ours.values[..*v as usize].fill(7);
+    ours.trail[..*v as usize].fill(-7);
     let got = library::search(&ours.list, *v, &mut ours.values, &mut ours.trail, MOST - left);
     agree(got, Ok(last), asked)?;
     same(&ours, &theirs, asked)?;

@@ -131,7 +131,7 @@ fn program(name: &str, stated: usize) -> Command {
 pub fn run(_: &Run) -> Outcome {
     let mut depths = [0; CALLS.len()];
     let deepest = sheets();
-    // the lists of the deepest are too long for an index, or too short for one within the steps that are waited for
+    // the lists of most of the deepest are too long for an index, or too short for one within the steps that are waited for
     let indexed = ("by an index", gates_of(400));
     for (name, sheet) in deepest.iter().chain([&indexed]) {
         let bytes = sheet.bytes();

@@ -10,7 +10,7 @@ use crate::{Outcome, Run};
 use reference::random::Source;
 use reference::random_list::{knotted, padded, turning, Padding};
 use reference::random_state::{counters, Call};
-use reference::search::{search, Answer, End, Steps};
+use reference::search::{search, Answer, End, Steps, CHOSEN, TRUE};
 
 pub fn run(run: &Run) -> Outcome {
     (0..3).try_for_each(|more| by_hand(LIMIT + more - 1))?;
@@ -37,25 +37,27 @@ fn by_hand(words: usize) -> Result<(), String> {
         list.splice(..2, [2, 1, 1]);
     }
     // true up to the last unit, and false by choice after it
-    let values = (1..=v).map(|variable| if variable <= units { 1 } else { 3 }).collect();
-    searched(&list, values, Steps::new(units as u64, (v - units) as u64, 0), "units")?;
+    let trail = (1..=v).map(|variable| if variable <= units { variable } else { -variable }).collect();
+    searched(&list, trail, Steps::new(units as u64, (v - units) as u64, 0), "units")?;
     let mut list = vec![words as i32 - 1];
     list.extend((1..words as i32).map(|place| (place - 1) % v + 1));
-    let values = (1..=v).map(|variable| if variable == v { 1 } else { 3 }).collect();
-    searched(&list, values, Steps::new(1, v as u64 - 1, 0), "each variable")?;
+    let trail = (1..=v).map(|variable| if variable == v { variable } else { -variable }).collect();
+    searched(&list, trail, Steps::new(1, v as u64 - 1, 0), "each variable")?;
     let mut list = vec![17; words];
     list[0] = words as i32 - 1;
-    let values = (1..=40).map(|variable| if variable == 17 { 1 } else { 3 }).collect();
-    searched(&list, values, Steps::new(1, 39, 0), "a single literal")
+    let trail = [17].into_iter().chain((1..=40).filter(|&variable| variable != 17).map(|variable| -variable)).collect();
+    searched(&list, trail, Steps::new(1, 39, 0), "a single literal")
 }
 
-/// That a list is found with these values after these steps.
-fn searched(list: &[i32], want: Vec<u8>, steps: Steps, what: &str) -> Result<(), String> {
+/// That a list is found with this trail after these steps: what is false there is so by choice.
+fn searched(list: &[i32], want: Vec<i32>, steps: Steps, what: &str) -> Result<(), String> {
+    let mut set = vec![CHOSEN; want.len()];
+    want.iter().filter(|&&literal| literal > 0).for_each(|&literal| set[literal as usize - 1] = TRUE);
     let (mut values, mut trail) = (vec![7; want.len()], vec![-7; want.len()]);
     let got = library::search(list, want.len() as u32, &mut values, &mut trail, 1_000_000);
     let asked = || format!("by hand, {what}, {} words", list.len());
     agree(got, Ok(Answer { end: End::Found, steps }), asked)?;
-    agree(values, want, asked)
+    agree((values, trail), (set, want), asked)
 }
 
 /// A list with many steps, or one of suite `search`; as it is, some words longer, up to the limit, past it.
@@ -106,6 +108,8 @@ fn searches(case: &Case, tally: &mut Tally) -> Result<bool, String> {
         agree((&ours.values, &ours.trail), (&theirs.values, &theirs.trail), asked)?;
         if is_short(case, stop) {
             let (mut values, mut trail) = (ours.values.clone(), ours.trail.clone());
+            values[..v].fill(7);
+            trail[..v].fill(-7);
             agree(search(&case.padded, case.v, &mut values, &mut trail, stop), got, || format!("padded, {}", asked()))?;
             agree((values, trail), (ours.values, ours.trail), asked)?;
         }

@@ -28,8 +28,8 @@ note-status-requires : tie.Need-note-status-requires
 note-status-requires c κs =
     let s = c .before .before .before .before .before .before in (
       (length-set (s .args .weights .now) (s .args .c) (s .args .w) ∙ s .pre .0 .0, s .pre .0 .1),
-      note-asks (s .args .weights .now) _ (s .args .w) (s .pre .0 .0) (s .pre .0 .1) _ (c .before .before .before .status .ensures)
-          (s .pre .1 .0) (s .pre .1 .1),
+      note-asks (s .args .weights .now) _ (s .args .w) (s .pre .0 .0) (s .pre .0 .1) _ _ (c .before .before .before .status .ensures)
+          (s .pre .1 .0) (s .pre .1 .1) (c .before .if1 .taken),
     )
 
 same-length : tie.Need-same-length
