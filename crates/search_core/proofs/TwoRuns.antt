@@ -41,10 +41,6 @@ module _ (clauses : List (List ℤ)) (v few budget : ℕ) (within : few ≤ budg
   early (wasFound t' s) e n d = subst (λ y. Ended v y r values trail) (sym (whole ∙ ap (again clauses v (budget - few)) e)) d
   early (wasSpent t' s) e n d = absurd (n (d .end-is))
 
-  -- where the first part is the whole
-  pub all-done : few ≡ budget → Ended v (run clauses v few t state) r values trail → Ended v (run clauses v budget t state) r values trail
-  all-done e d = subst (λ n. Ended v (run clauses v n t state) r values trail) e d
-
   -- where it ended, that is the end
   pub ended-early : (r .end ≡ Spent → ⊥) → Ended v (run clauses v few t state) r values trail → Ended v (run clauses v budget t state) r values trail
   ended-early n d = early (run clauses v few t state) refl n d

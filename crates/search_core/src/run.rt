@@ -208,8 +208,12 @@ fn run_indexed(
     go(list, values, trail, start, budget, &chains, &mut weights)
 }
 
-// How many of a budget's steps scan the list: all where it is too long for an index or has too many variables, else the first few. Before an
-// index pays, the scan has done some steps, and read as many words as the longest list has that is indexed.
+// Up to so many words the first steps of a run scan the list.
+const SHORT: usize = 4096;
+
+// How many of a budget's steps scan the list: all where it is too long for an index or has too many variables, and where the budget is as small
+// as an index costs; else the first few of a short list, and none of a longer one. An index costs about as much as four steps that scan, and what
+// it costs to clear its arrays.
 fn scanned_steps(words: usize, v: usize, budget: u64) -> u64
     ensures { λ r. ⌜ (r ≤ budget) × (r < budget → (v ≤ limit) × (words ≤ limit)) ⌝ }
 {
@@ -220,8 +224,11 @@ fn scanned_steps(words: usize, v: usize, budget: u64) -> u64
         return budget;
     }
     let few = (4 + LIMIT / (words + 1)) as u64;
-    if budget < few {
+    if budget <= few {
         return budget;
+    }
+    if words > SHORT {
+        return 0;
     }
     few
 }
@@ -238,10 +245,13 @@ pub fn run(list: &[i32], values: &mut [u8], trail: &mut [i32], start: Position, 
         r (now (values .exit)) (now (trail .exit))) ⌝ }
 {
     let few = scanned_steps(list.len(), values.len(), budget);
-    let ran = run_scanned(list, values, trail, start, few);
     if few == budget {
-        return ran;
+        return run_scanned(list, values, trail, start, budget);
     }
+    if few == 0 {
+        return run_indexed(list, values, trail, start, budget);
+    }
+    let ran = run_scanned(list, values, trail, start, few);
     let end = ran.end;
     let position = ran.position;
     match end {

@@ -10,7 +10,8 @@ use reference::search::{cut, Answer, End, Steps};
 /// The most words that an index is made for.
 pub const LIMIT: usize = 16_384;
 
-/// So many steps of a call's run go by before the index is made.
+/// After so many steps of a call's run the index is made, or was made at its start: over lists of more than 4,096 words, where the budget is
+/// larger.
 fn first_steps(words: usize) -> u64 {
     4 + LIMIT as u64 / (words as u64 + 1)
 }

@@ -27,5 +27,10 @@ returns-3 c = search needs
 returns-4 : tie.Need-returns-4
 returns-4 c = search needs
 
+returns-5 : tie.Need-returns-5
+returns-5 c = search needs
+
 pub scanned-steps-spec : {M : Type 1} → statement M
-scanned-steps-spec = tie.close (tie.spec returns returns-2 add-few div-few add-few-2 returns-3 returns-4)
+scanned-steps-spec =
+    tie.close
+    (tie.spec returns returns-2 add-few div-few add-few-2 returns-3 returns-4 returns-5)
