@@ -1,9 +1,9 @@
--- `search_index::weights::raise` meets its contract. Assumes nothing.
+-- `search_index::blocks::raise` meets its contract. Assumes nothing.
 use native.Mathlib.Omega.{arith}
 use Rattle.search_index.proofs.WeightCode.{raise-high, raise-low}
 use borrow.Author.Needs.{needs}
-use Rattle.search_index.proofs.weights.raise.Statement.{statement}
-use Rattle.search_index.proofs.weights.raise.Tie as tie
+use Rattle.search_index.proofs.blocks.raise.Statement.{statement}
+use Rattle.search_index.proofs.blocks.raise.Tie as tie
 
 add-weights : tie.Need-add-weights
 add-weights c = search needs

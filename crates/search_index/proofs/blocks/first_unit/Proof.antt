@@ -1,12 +1,12 @@
--- `search_index::weights::first_unit` meets its contract. Assumes nothing.
+-- `search_index::blocks::first_unit` meets its contract. Assumes nothing.
 use mathlib.Core.Path.{_∙_}
 use Prim.Native.Nat.{_/_}
 use native.Mathlib.Omega.{arith}
 use lib.ListN.{length-set}
 use borrow.Author.Needs.{needs}
 use Rattle.search_index.proofs.Flags.{begins-there}
-use Rattle.search_index.proofs.weights.first_unit.Statement.{statement}
-use Rattle.search_index.proofs.weights.first_unit.Tie as tie
+use Rattle.search_index.proofs.blocks.first_unit.Statement.{statement}
+use Rattle.search_index.proofs.blocks.first_unit.Tie as tie
 
 walk-blocks-requires : tie.Need-walk-blocks-requires
 walk-blocks-requires c κs = search needs

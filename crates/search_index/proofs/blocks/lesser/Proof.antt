@@ -1,9 +1,9 @@
--- `search_index::weights::lesser` meets its contract. Assumes nothing.
+-- `search_index::blocks::lesser` meets its contract. Assumes nothing.
 use mathlib.Core.Path.{refl}
 use mathlib.Core.Logic.{inl, inr}
 use native.Mathlib.Omega.{arith}
-use Rattle.search_index.proofs.weights.lesser.Statement.{statement}
-use Rattle.search_index.proofs.weights.lesser.Tie as tie
+use Rattle.search_index.proofs.blocks.lesser.Statement.{statement}
+use Rattle.search_index.proofs.blocks.lesser.Tie as tie
 
 returns : tie.Need-returns
 returns c = (omega arith, omega arith, inl refl)

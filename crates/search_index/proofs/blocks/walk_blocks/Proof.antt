@@ -1,12 +1,12 @@
--- `search_index::weights::walk_blocks` meets its contract. Assumes nothing.
+-- `search_index::blocks::walk_blocks` meets its contract. Assumes nothing.
 use mathlib.Core.Path.{refl}
 use mathlib.Core.Logic.{⊎-elim}
 use Prim.Native.Nat.{_-_}
 use native.Mathlib.Omega.{arith}
 use borrow.Author.Needs.{needs}
 use Rattle.search_index.proofs.Flags.{Searched, search-start, search-end, long-enough, search-down, search-found, search-lowered}
-use Rattle.search_index.proofs.weights.walk_blocks.Statement.{statement}
-use Rattle.search_index.proofs.weights.walk_blocks.Tie as tie
+use Rattle.search_index.proofs.blocks.walk_blocks.Statement.{statement}
+use Rattle.search_index.proofs.blocks.walk_blocks.Tie as tie
 
 abbrev Inv-loop : tie.InvT-loop
 Inv-loop weights₀ m b₀ at₀ weights b at = Searched weights₀ m weights b at

@@ -1,8 +1,8 @@
--- `search_index::weights::recount` meets its contract. Assumes nothing.
+-- `search_index::blocks::recount` meets its contract. Assumes nothing.
 use native.Mathlib.Omega.{arith}
 use Rattle.search_index.proofs.WeightCode.{recount-more, recount-less, recount-none}
-use Rattle.search_index.proofs.weights.recount.Statement.{statement}
-use Rattle.search_index.proofs.weights.recount.Tie as tie
+use Rattle.search_index.proofs.blocks.recount.Statement.{statement}
+use Rattle.search_index.proofs.blocks.recount.Tie as tie
 
 add-result : tie.Need-add-result
 add-result c = omega (arith, c .before .pre .0)

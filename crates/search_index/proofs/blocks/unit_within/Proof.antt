@@ -1,4 +1,4 @@
--- `search_index::weights::unit_within` meets its contract. Assumes nothing.
+-- `search_index::blocks::unit_within` meets its contract. Assumes nothing.
 use mathlib.Core.Path.{_≡_, sym, _∙_, ap}
 use mathlib.Core.Logic.{⊎-elim}
 use Prim.Native.Nat.{ℕ, _-_, _<_, _≤_}
@@ -7,8 +7,8 @@ use native.Mathlib.Nat.{eq-or-lt-of-le}
 use lib.ListN.{getD}
 use borrow.Author.Needs.{needs}
 use Rattle.search_index.specs.Index.{told}
-use Rattle.search_index.proofs.weights.unit_within.Statement.{statement}
-use Rattle.search_index.proofs.weights.unit_within.Tie as tie
+use Rattle.search_index.proofs.blocks.unit_within.Statement.{statement}
+use Rattle.search_index.proofs.blocks.unit_within.Tie as tie
 
 abbrev Inv-loop : tie.InvT-loop
 Inv-loop weights from end c₀ c = (from ≤ c) × (c ≤ end) × ((d : ℕ) → from ≤ d → d < c → told (getD weights d 0) ≡ 2 → ⊥)

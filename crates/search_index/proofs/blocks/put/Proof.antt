@@ -1,10 +1,10 @@
--- `search_index::weights::put` meets its contract. Assumes nothing.
+-- `search_index::blocks::put` meets its contract. Assumes nothing.
 use mathlib.Core.Path.{sym, _∙_}
 use lib.ListN.{length-set}
 use Rattle.search_index.proofs.WeightCode.{note-asks, put-noted, put-same}
 use borrow.Author.Needs.{needs}
-use Rattle.search_index.proofs.weights.put.Statement.{statement}
-use Rattle.search_index.proofs.weights.put.Tie as tie
+use Rattle.search_index.proofs.blocks.put.Statement.{statement}
+use Rattle.search_index.proofs.blocks.put.Tie as tie
 
 mul-status : tie.Need-mul-status
 mul-status c = search needs

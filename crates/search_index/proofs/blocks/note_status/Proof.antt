@@ -1,11 +1,11 @@
--- `search_index::weights::note_status` meets its contract. Assumes nothing.
+-- `search_index::blocks::note_status` meets its contract. Assumes nothing.
 use mathlib.Core.Path.{_∙_}
 use mathlib.Core.Logic.{⊎-elim}
 use native.Mathlib.Omega.{arith}
 use lib.ListN.{length-set}
 use Rattle.search_index.proofs.WeightCode.{Follows, follow, leave, noted}
-use Rattle.search_index.proofs.weights.note_status.Statement.{statement}
-use Rattle.search_index.proofs.weights.note_status.Tie as tie
+use Rattle.search_index.proofs.blocks.note_status.Statement.{statement}
+use Rattle.search_index.proofs.blocks.note_status.Tie as tie
 
 raise-requires : tie.Need-raise-requires
 raise-requires c κs = let p = c .before .before .before .pre .0 in (p .0, omega (arith, p .1))
