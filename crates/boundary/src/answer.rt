@@ -1,6 +1,6 @@
 // The answers, in numbers.
 
-// Whether an instance satisfies marks and formula: 1 yes, 0 no.
+// Whether an instance is within the scopes and satisfies marks and formula: 1 yes, 0 no.
 #[repr(C)]
 pub struct CheckAnswer {
     pub refusal: u32,

@@ -75,4 +75,6 @@ fn main() {
     every(b"k1");
     every(b"k3");
     every(b"closure_8");
+    both(b"k1_up_to_2");
+    every(b"k1_up_to_2");
 }

@@ -1,7 +1,7 @@
 -- Rows and cells of relations, from the bytes of their declarations.
-use mathlib.Core.Path.{_≡_, refl, ap, _∙_}
+use mathlib.Core.Path.{_≡_, refl, sym, ap, ap₂, _∙_}
 use mathlib.Core.Logic.{⊎-elim}
-use mathlib.Core.Bool.{Bool, true, false, cond}
+use mathlib.Core.Bool.{Bool, true, false, cond, false≢true}
 use mathlib.Core.List.{List}
 use Prim.Native.Nat.{ℕ, zero, suc, _+_, _*_, _≤_, _<_}
 use native.Mathlib.Nat.{eq-or-lt-of-le, mul-le-mul}
@@ -10,15 +10,19 @@ use native.Mathlib.Omega.{arith}
 use lib.ListN.{length, getD, set, replicate, length-set}
 use lib.Seq.{getD-set-same, getD-set-other}
 use borrow.Author.Tests.{eq-eqb, ne-eqb}
-use Rattle.sheet_rules.specs.Blocks.{Sheet, scope, columns, firstSort, secondSort}
+use Rattle.sheet_rules.specs.Blocks.{Sheet, sheetOf, sortCount, scope, isBounded, columns, firstSort, secondSort}
 use Rattle.sheet_rules.specs.Facts.{Facts}
-use Rattle.relational.specs.Cells.{isSet, rowCount, rowLength, cellsOf, firstCell}
+use Rattle.sheet_rules.specs.declared.Layout.{Layout}
+use Rattle.sheet_rules.specs.Reading.{accepted, reading}
+use Rattle.sheet_rules.proofs.Acceptance.{accepted-facts}
+use Rattle.relational.specs.Cells.{isSet, rowCount, rowLength, cellsOf, membersOf, firstMember, memberCount, firstCell}
+use Rattle.relational.proofs.Scopes.{bounded-there}
 
 module _ (sheet : Sheet) (r : ℕ) {k : ℕ} (ek : k ≡ columns sheet r) where
-  set-is : k ≡ 1 → isSet sheet r ≡ true
+  pub set-is : k ≡ 1 → isSet sheet r ≡ true
   set-is h = rw (← ek) (eq-eqb k 1 h)
 
-  relation-is : (k ≡ 1 → ⊥) → isSet sheet r ≡ false
+  pub relation-is : (k ≡ 1 → ⊥) → isSet sheet r ≡ false
   relation-is h = rw (← ek) (ne-eqb k 1 h)
 
   pub set-rows : k ≡ 1 → 1 ≡ rowCount sheet r
@@ -48,10 +52,55 @@ module _ (sheet : Sheet) (facts : Facts sheet) where
       most true = facts .scope-few (firstSort sheet r)
       most false = facts .scope-few (secondSort sheet r)
 
-  pub first-most : (r : ℕ) → firstCell sheet r ≤ 64 * r
+  members-most : (k : ℕ) → membersOf sheet k ≤ 8
+  members-most k = most (isBounded sheet k)
+    where
+      most : (b : Bool) → cond b (scope sheet k) 0 ≤ 8
+      most true = facts .scope-few k
+      most false = omega arith
+
+  pub first-member-most : (k : ℕ) → firstMember sheet k ≤ 8 * k
+  unfolding firstMember
+  first-member-most zero = omega arith
+  first-member-most (suc k) = omega (arith, first-member-most k, members-most k)
+
+  pub first-most : (r : ℕ) → firstCell sheet r ≤ 64 + 64 * r
   unfolding firstCell
-  first-most zero = omega arith
+  first-most zero = omega (arith, first-member-most (sortCount sheet), facts .counts .few-sorts)
   first-most (suc r) = omega (arith, first-most r, mul-le-mul (rows-most r) (length-most r))
+
+pub sort-low : (s : List ℕ) {l : Layout} → reading s ≡ accepted l → (k : ℕ) {b : Bool} → b ≡ isBounded (sheetOf s) k
+    → b ≡ true → k < 8
+sort-low s {l} taken k e t = omega (
+  arith,
+  bounded-there (sheetOf s) k (sym e ∙ t),
+  accepted-facts s l taken .counts .few-sorts,
+)
+
+-- the membership cells of the sorts before one
+pub member-none : (sheet : Sheet) → 0 ≡ firstMember sheet 0
+unfolding firstMember
+member-none sheet = refl
+
+pub member-more : (sheet : Sheet) (k : ℕ) {n a : ℕ} → n ≡ firstMember sheet k → a ≡ membersOf sheet k
+    → n + a ≡ firstMember sheet (k + 1)
+unfolding firstMember
+member-more sheet k {n} {a} e f = rw (add-one k) (ap₂ _+_ e f)
+
+pub bounded-members : (sheet : Sheet) (k : ℕ) {b : Bool} {n : ℕ} → b ≡ isBounded sheet k → b ≡ true → n ≡ scope sheet k
+    → n ≡ membersOf sheet k
+bounded-members sheet k {n} e t q = go (isBounded sheet k) (sym e ∙ t)
+  where
+    go : (b : Bool) → b ≡ true → n ≡ cond b (scope sheet k) 0
+    go true t = q
+    go false t = absurd (false≢true t)
+
+pub full-members : (sheet : Sheet) (k : ℕ) {b : Bool} → b ≡ isBounded sheet k → b ≡ false → 0 ≡ membersOf sheet k
+full-members sheet k e t = go (isBounded sheet k) (sym e ∙ t)
+  where
+    go : (b : Bool) → b ≡ false → 0 ≡ cond b (scope sheet k) 0
+    go false t = refl
+    go true t = absurd (false≢true (sym t))
 
 -- the cells of a relation stand before those of the next
 pub relation-ends : (sheet : Sheet) (r n : ℕ) → r < n → firstCell sheet r + cellsOf sheet r ≤ firstCell sheet n
@@ -66,9 +115,9 @@ pub record Stored (sheet : Sheet) (n : ℕ) (starts : List ℕ) (r : ℕ) : Type
   pub next : n ≡ firstCell sheet r
   pub first : (q : ℕ) → q < r → getD starts q 0 ≡ firstCell sheet q
 
-pub stored-none : (sheet : Sheet) → Stored sheet 0 (replicate 16 0) 0
+pub stored-none : (sheet : Sheet) (n : ℕ) → n ≡ memberCount sheet → Stored sheet n (replicate 16 0) 0
 unfolding firstCell
-stored-none sheet = record { long = refl; next = refl; first = λ q l. absurd (omega arith) }
+stored-none sheet n e = record { long = refl; next = e; first = λ q l. absurd (omega arith) }
 
 pub stored-more : {sheet : Sheet} {starts : List ℕ} {n r a b : ℕ} → r < 16 → a ≡ rowCount sheet r → b ≡ rowLength sheet r
     → Stored sheet n starts r → Stored sheet (n + a * b) (set starts r n) (r + 1)

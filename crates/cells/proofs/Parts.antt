@@ -11,7 +11,7 @@ use borrow.Author.Tests.{eqb-true}
 use Rattle.prelude.proofs.Laws.{and-left, and-right}
 use Rattle.sheet_rules.specs.declared.Layout.{Layout}
 use Rattle.sheet_rules.specs.Blocks.{lengthAt, blockAt, after, variablesHead, relationsHead, nodesHead, blocksEnd, sheetOf}
-use Rattle.sheet_rules.specs.Blocks.{relationCount, nodeCount}
+use Rattle.sheet_rules.specs.Blocks.{sortCount, relationCount, nodeCount}
 use Rattle.sheet_rules.specs.Reading.{accepted, reading}
 use Rattle.sheet_rules.proofs.Acceptance.{conditions, accepted-facts, accepted-layout}
 
@@ -64,6 +64,9 @@ module _ (s : List ℕ) (l : Layout) (taken : reading s ≡ accepted l) where
       }
 
   -- the counts of the layout are those of the sheet
+  pub sorts-counted : l .sorts .count ≡ sortCount (sheetOf s)
+  sorts-counted = ap (λ k. k .sorts .count) (accepted-layout s l taken)
+
   pub relations-counted : l .relations .count ≡ relationCount (sheetOf s)
   relations-counted = ap (λ k. k .relations .count) (accepted-layout s l taken)
 

@@ -10,13 +10,13 @@ use Rattle.sheet_rules.specs.Blocks.{sheetOf}
 use Rattle.sheet_rules.specs.Tables.{table, shapeStep, freeStep, visitsStep}
 use Rattle.sheet_rules.specs.Reading.{counted, scoped, declared, nodesFine, shaped, rooted, walkable, reading}
 use Rattle.relational.specs.Trees.{symbolOf, treeStep, closure}
-use Rattle.relational.specs.Cells.{firstCell}
+use Rattle.relational.specs.Cells.{firstMember, firstCell}
 use Rattle.relational.specs.Matrices.{Matrix, rounds}
 use Rattle.clauses_rules.specs.Builder as b
 use Rattle.clauses_rules.specs.Builder.{return}
 use Rattle.clauses_rules.specs.Gates.{remaining, or, inputClauses, gatesClauses}
 use Rattle.clauses_rules.specs.Translation.{afterRounds, translate, translateUnary}
-use Rattle.clauses_rules.specs.Whole.{series, markClauses, rootWalk, clauses, words, variableTotal}
+use Rattle.clauses_rules.specs.Whole.{memberClauses, series, markClauses, rootWalk, clauses, words, variableTotal}
 use Rattle.clauses.specs.Answers.{fits, countAnswer}
 
 -- K6: "closure at scope 1: the matrix itself"
@@ -29,12 +29,14 @@ abbrev pub equal-itself : List ℕ
 equal-itself = 1 ∷ 0 ∷ 1 ∷ 2 ∷ 0 ∷ 0 ∷ 0 ∷ 4 ∷ 1 ∷ 0 ∷ 0 ∷ 0 ∷ 0 ∷ 6 ∷ 1 ∷ 0 ∷ 0 ∷ 20 ∷ 0 ∷ 0 ∷ []
 
 pub equal-itself-clauses : clauses (sheetOf equal-itself) ≡ (positive 1 ∷ []) ∷ (positive 1 ∷ []) ∷ []
-unfolding clauses markClauses rootWalk series translate table treeStep symbolOf firstCell b.each or remaining any
+unfolding clauses memberClauses markClauses rootWalk series translate table treeStep symbolOf firstMember firstCell
+    b.each or remaining any
     inputClauses gatesClauses
 equal-itself-clauses = refl
 
 pub equal-itself-answer : countAnswer equal-itself ≡ fits 3 2 4
 unfolding countAnswer reading counted scoped declared nodesFine shaped rooted walkable each rowOf shapeStep freeStep visitsStep
-    variableTotal words wordsOf clauses markClauses rootWalk series translate table treeStep symbolOf firstCell
+    variableTotal words wordsOf clauses memberClauses markClauses rootWalk series translate table treeStep symbolOf
+    firstMember firstCell
     b.each or remaining any inputClauses gatesClauses
 equal-itself-answer = refl

@@ -10,6 +10,7 @@ use lib.ListN.{getD, take, set, replicate, length-set, length-replicate, List·g
 use lib.Seq.{take-suc-set}
 use Rattle.literal.specs.Literals.{Literal, positive, literalOf, positiveWord}
 use Rattle.literal.proofs.Words.{positive-is}
+use Rattle.relational.specs.Cells.{mostCells}
 use Rattle.relational.specs.Matrices.{upto}
 use Rattle.relational.proofs.Places.{upto-suc, upto-at, length-map-from}
 use Rattle.clauses_rules.specs.Translation.{absent}
@@ -20,13 +21,13 @@ use Rattle.clauses.specs.Translating.{CellWords}
 abbrev cell-literal : ℕ → Literal
 cell-literal i = positive (2 + i)
 
-pub words-none : CellWords 0 (replicate 1024 (negsuc 0))
-words-none = record { room = length-replicate 1024 (negsuc 0); cells = refl }
+pub words-none : CellWords 0 (replicate mostCells (negsuc 0))
+words-none = record { room = length-replicate mostCells (negsuc 0); cells = refl }
 
-pub word-is : (i : ℕ) (w : ℤ) → i < 1024 → w ≡ positiveWord (2 + i) → literalOf w ≡ positive (2 + i)
+pub word-is : (i : ℕ) (w : ℤ) → i < mostCells → w ≡ positiveWord (2 + i) → literalOf w ≡ positive (2 + i)
 word-is i w h e = ap literalOf (e ∙ positive-is (2 + i) (omega arith))
 
-pub words-more : {i : ℕ} {ws : List ℤ} (w : ℤ) → CellWords i ws → i < 1024 → literalOf w ≡ positive (2 + i)
+pub words-more : {i : ℕ} {ws : List ℤ} (w : ℤ) → CellWords i ws → i < mostCells → literalOf w ≡ positive (2 + i)
     → CellWords (i + 1) (set ws i w)
 words-more {i} {ws} w h l e =
     rw (add-one i)

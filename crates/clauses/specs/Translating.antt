@@ -10,6 +10,7 @@ use lib.ListN.{length, take}
 use Rattle.prelude.specs.Stores.{putAll}
 use Rattle.literal.specs.Literals.{positive}
 use Rattle.sheet_rules.specs.Blocks.{Sheet}
+use Rattle.relational.specs.Cells.{mostCells}
 use Rattle.relational.specs.Matrices.{upto}
 use Rattle.clauses_rules.specs.Whole.{words, variableTotal, clauseTotal, wordTotal}
 use Rattle.clauses_emission.specs.declared.Tape.{Tape}
@@ -18,7 +19,7 @@ use Rattle.clauses.specs.Answers.{Answer, fits, refused}
 
 -- the first n words are the literals of n cells
 pub record CellWords (n : ℕ) (ws : List ℤ) : Type 0 where
-  pub room : length ws ≡ 1024
+  pub room : length ws ≡ mostCells
   pub cells : literalsOf (take n ws) ≡ map (λ (i : ℕ). positive (2 + i)) (upto n)
 
 -- within the limit of variables, all is as defined; past it, the definition is past it too

@@ -1,10 +1,10 @@
 -- Words against the literals that they are, and the range of literals.
-use mathlib.Core.Path.{_≡_, refl, ap, _∙_}
+use mathlib.Core.Path.{_≡_, refl, sym, ap, _∙_}
 use mathlib.Core.List.{List, [], _∷_, map}
 use Prim.Native.Nat.{ℕ, zero, suc, _≤_, _<_}
 use native.Mathlib.Omega.{arith}
 use lib.IntN.{ℤ, pos, negsuc, negℤ, natAbs}
-use lib.ListN.{length, getD}
+use lib.ListN.{length, getD, List·getD-map}
 use mir.Syntax.{w32}
 use mir.Val.{SFits}
 use Rattle.literal.specs.Literals.{Literal, positive, negative, opposite, literalOf, oppositeWord}
@@ -69,3 +69,13 @@ pub literal-at : (ws : List ℤ) (k : ℕ) → k < length ws → getD (literalsO
 literal-at [] k h = absurd (omega arith)
 literal-at (w ∷ ws) zero h = refl
 literal-at (w ∷ ws) (suc k) h = literal-at ws k (omega arith)
+
+-- within a list the default is not read
+pub getD-any : {A : Type 0} (l : List A) (i : ℕ) (d e : A) → i < length l → getD l i d ≡ getD l i e
+getD-any [] i d e h = absurd (omega arith)
+getD-any (x ∷ l) zero d e h = refl
+getD-any (x ∷ l) (suc i) d e h = getD-any l i d e (omega arith)
+
+-- the literal at a place, past the end -1
+pub literal-of : (ws : List ℤ) (i : ℕ) → literalOf (getD ws i (negsuc 0)) ≡ getD (literalsOf ws) i absent
+literal-of ws i = sym (List·getD-map literalOf ws i (negsuc 0))

@@ -68,8 +68,8 @@ pub record Room (tape : Tape) (others : List ℤ) : Type 0 where
 pub record Bounded (tape : Tape) : Type 0 where
   pub first : 2 ≤ tape .next
   pub last : tape .next ≤ 16002
-  pub clauses : tape .clauses ≤ 20000 + 2017 * tape .next
-  pub words : tape .words ≤ 20000 + 8066 * tape .next
+  pub clauses : tape .clauses ≤ 30000 + 2017 * tape .next
+  pub words : tape .words ≤ 30000 + 8066 * tape .next
 
 abbrev pub Within : ℕ → Type 0
 Within next = next ≤ 16001

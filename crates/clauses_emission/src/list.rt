@@ -2,8 +2,8 @@
 ghost use mathlib.Core.Path.{_≡_};
 ghost use mathlib.Core.List.{[], _∷_};
 ghost use Prim.Native.Nat.{suc, _≤_};
-ghost use lib.IntN.{pos};
-ghost use lib.ListN.{length, set};
+ghost use lib.IntN.{pos, negsuc};
+ghost use lib.ListN.{length, getD, set};
 ghost use Rattle.prelude.specs.Stores.{putAll};
 ghost use Rattle.literal.specs.Literals.{literalOf};
 ghost use Rattle.clauses_emission.specs.Emission.{literalsOf, mostInputs, Appends, Room};
@@ -58,4 +58,11 @@ pub fn emit_clause(list: &mut [i32], tape: Tape, first: i32, others: &[i32]) -> 
         clauses: tape.clauses + 1,
         words: at + 2 + others.len(),
     }
+}
+
+// The word at i; past the end it counts as -1.
+pub fn word_at(given: &[i32], i: usize) -> i32
+    ensures { λ r. ⌜ r ≡ getD (now (given .entry)) i (negsuc 0) ⌝ }
+{
+    if i < given.len() { given[i] } else { -1 }
 }

@@ -1,12 +1,12 @@
 -- Lists of words, and arrays filled cell by cell.
-use mathlib.Core.Path.{_≡_, refl, sym, ap, _∙_}
-use mathlib.Core.List.{List, [], _∷_, map}
-use Prim.Native.Nat.{ℕ, zero, suc, _+_, _≤_, _<_}
+use mathlib.Core.Path.{_≡_, sym, ap, _∙_}
+use mathlib.Core.List.{List, map}
+use Prim.Native.Nat.{ℕ, _+_, _≤_, _<_}
 use native.Mathlib.Omega.{arith}
 use native.Mathlib.Decide.{ℕ-discrete, decLt}
 use lib.IntN.{ℤ, pos, negsuc}
 use lib.ListN.{length, getD, set, take, replicate, length-set, length-map, getD-replicate, length-replicate}
-use lib.ListN.{List·getD-eq-default, List·getD-map}
+use lib.ListN.{List·getD-eq-default}
 use lib.Seq.{getD-set-same, getD-set-other, getD-take, length-take-le, ext-getD}
 use Rattle.literal.specs.Literals.{Literal, literalOf}
 use Rattle.relational.specs.Matrices.{upto}
@@ -14,18 +14,8 @@ use Rattle.relational.proofs.Places.{upto-at, length-map-from}
 use Rattle.clauses_rules.specs.Translation.{absent}
 use Rattle.clauses_emission.specs.Emission.{Inside, literalsOf}
 use Rattle.clauses_matrix.specs.Matrices.{Cells, cellsOf}
-use Rattle.clauses_emission.proofs.Ranges.{literal-at, inside-absent}
+use Rattle.clauses_emission.proofs.Ranges.{literal-of, literal-at, inside-absent}
 use Rattle.clauses_kinds.specs.Leaves.{Filled}
-
--- within a list the default is not read
-pub getD-any : {A : Type 0} (l : List A) (i : ℕ) (d e : A) → i < length l → getD l i d ≡ getD l i e
-getD-any [] i d e h = absurd (omega arith)
-getD-any (x ∷ l) zero d e h = refl
-getD-any (x ∷ l) (suc i) d e h = getD-any l i d e (omega arith)
-
--- the literal at a place, past the end -1
-pub literal-of : (ws : List ℤ) (i : ℕ) → literalOf (getD ws i (negsuc 0)) ≡ getD (literalsOf ws) i absent
-literal-of ws i = sym (List·getD-map literalOf ws i (negsuc 0))
 
 module _ (f : ℕ → Literal) where
   pub filled-none : Filled f 0 (replicate 64 (negsuc 0))

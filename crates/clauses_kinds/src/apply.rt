@@ -3,14 +3,21 @@ ghost use mathlib.Core.Path.{_≡_};
 ghost use Rattle.literal.specs.Literals.{literalOf};
 ghost use Rattle.relational.specs.Trees.{Binary, Unary, Comparison, Test, Connective, Quantifier};
 ghost use Rattle.relational.specs.Trees.{binary-symbol, unary-symbol, comparison-symbol, test-symbol, connective-symbol};
-ghost use Rattle.relational.specs.Trees.{quantifier-symbol, symbolOf};
+ghost use Rattle.relational.specs.Trees.{quantifier-symbol, symbolOf, intersection, for-some};
+ghost use Rattle.relational.specs.Meaning.{Environment};
+ghost use Rattle.sheet_rules.specs.Blocks.{sheetOf};
+ghost use Rattle.sheet_rules.specs.Reading.{accepted, reading};
 ghost use Rattle.clauses_rules.specs.Translation.{translateBinary, translateUnary, translateComparison};
-ghost use Rattle.clauses_rules.specs.Translation.{translateTest, translateConnective, translateQuantifier};
-ghost use Rattle.clauses_emission.specs.Emission.{Inside, Bounded, EmitsLiteral, EmitsTwo};
-ghost use Rattle.clauses_matrix.specs.Matrices.{matrixOf, Operand, EmitsBinary, EmitsUnary, EmitsTest};
+ghost use Rattle.clauses_rules.specs.Translation.{translateTest, translateConnective, translateQuantifier, range};
+ghost use Rattle.clauses_emission.specs.Emission.{Inside, literalsOf, Bounded, EmitsLiteral, EmitsTwo};
+ghost use Rattle.clauses_matrix.specs.Matrices.{matrixOf, Operand, EmitsMatrix, EmitsBinary, EmitsUnary, EmitsTest};
+ghost use Rattle.clauses_kinds.specs.Leaves.{Bodies};
+use super::leaves;
 use clauses_emission::Made;
 use clauses_emission::Pairing;
+use clauses_emission::Tape;
 use clauses_emission::gates::pair;
+use clauses_matrix::Literals;
 use clauses_matrix::MadeMatrix;
 use clauses_matrix::operators::closure;
 use clauses_matrix::operators::inverse;
@@ -18,10 +25,10 @@ use clauses_matrix::operators::join;
 use clauses_matrix::operators::matched;
 use clauses_matrix::operators::product;
 use clauses_matrix::truths::all_matched;
-use clauses_matrix::truths::every;
 use clauses_matrix::truths::lone;
 use clauses_matrix::truths::none;
 use clauses_matrix::truths::some;
+use sheet_rules::Layout;
 
 // Kinds 5 to 9: union, intersection, difference, join, product.
 pub fn binary(list: &mut [i32], kind: usize, p: MadeMatrix, q: MadeMatrix) -> MadeMatrix
@@ -111,17 +118,78 @@ pub fn connect(list: &mut [i32], kind: usize, p: Made, q: Made) -> Made
     }
 }
 
-// Kinds 40 and 41, over the literals of the bodies: for all, for some.
-pub fn quantify(list: &mut [i32], kind: usize, p: MadeMatrix) -> Made
+// Kinds 40 and 41, over the literals of the atoms and of the bodies: for all, for some.
+fn quantify(list: &mut [i32], kind: usize, atoms: Literals, p: MadeMatrix) -> Made
     requires { ⌜ Bounded (p .tape) ⌝ }
+    requires { ⌜ Operand (p .tape .next) atoms ⌝ }
     requires { ⌜ Operand (p .tape .next) (p .matrix) ⌝ }
     ensures { λ r. ⌜ ((o : Quantifier) → symbolOf kind ≡ quantifier-symbol o
-        → EmitsTest (translateQuantifier o) (p .matrix) (now (list .entry)) (p .tape) (r .literal) (now (list .exit)) (r .tape)) ⌝ }
+        → EmitsLiteral (translateQuantifier o (matrixOf atoms) (matrixOf (p .matrix)) (p .tape .next))
+        (now (list .entry)) (p .tape) (r .literal) (now (list .exit)) (r .tape)) ⌝ }
 {
     let bodies = p.matrix;
     let tape = p.tape;
     match kind {
-        40 => every(list, tape, bodies),
-        _ => some(list, tape, bodies),
+        40 => all_matched(list, tape, Pairing::Implies, atoms, bodies),
+        _ => some_matched(list, tape, atoms, bodies),
     }
+}
+
+// OR of AND(p, q), cell by cell.
+fn some_matched(list: &mut [i32], tape: Tape, p: Literals, q: Literals) -> Made
+    requires { ⌜ Bounded tape ⌝ }
+    requires { ⌜ Operand (tape .next) p ⌝ }
+    requires { ⌜ Operand (tape .next) q ⌝ }
+    ensures { λ r. ⌜ EmitsLiteral (translateQuantifier for-some (matrixOf p) (matrixOf q) (tape .next))
+        (now (list .entry)) tape (r .literal) (now (list .exit)) (r .tape) ⌝ }
+{
+    let made = matched(list, tape, Pairing::Both, p, q);
+    let both = made.matrix;
+    let after = made.tape;
+    some(list, after, both)
+}
+
+// Kinds 40 and 41 of variable x, over the literals of the bodies.
+pub fn quantify_over(
+    list: &mut [i32],
+    sheet: &[u8],
+    layout: Layout,
+    given: &[i32],
+    kind: usize,
+    x: usize,
+    p: MadeMatrix,
+) -> Made
+    requires { ⌜ reading (now sheet) ≡ accepted layout ⌝ }
+    requires { ⌜ Bodies (now given) p ⌝ }
+    ensures { λ r. ⌜ ((env : Environment) (o : Quantifier) → symbolOf kind ≡ quantifier-symbol o
+        → EmitsLiteral (translateQuantifier o
+        (range (sheetOf (now (sheet .entry))) (literalsOf (now (given .entry))) x env)
+        (matrixOf (p .matrix)) (p .tape .next))
+        (now (list .entry)) (p .tape) (r .literal) (now (list .exit)) (r .tape)) ⌝ }
+{
+    let atoms = leaves::range(sheet, layout, given, x);
+    quantify(list, kind, atoms, p)
+}
+
+// Kind 12 of variable x, over the literals of the bodies: AND with the atoms.
+pub fn comprehend(
+    list: &mut [i32],
+    sheet: &[u8],
+    layout: Layout,
+    given: &[i32],
+    x: usize,
+    p: MadeMatrix,
+) -> MadeMatrix
+    requires { ⌜ reading (now sheet) ≡ accepted layout ⌝ }
+    requires { ⌜ Bodies (now given) p ⌝ }
+    ensures { λ r. ⌜ ((env : Environment)
+        → EmitsMatrix (translateBinary intersection
+        (range (sheetOf (now (sheet .entry))) (literalsOf (now (given .entry))) x env)
+        (matrixOf (p .matrix)) (p .tape .next))
+        (now (list .entry)) (p .tape) (r .matrix) (now (list .exit)) (r .tape)) ⌝ }
+{
+    let atoms = leaves::range(sheet, layout, given, x);
+    let bodies = p.matrix;
+    let tape = p.tape;
+    matched(list, tape, Pairing::Both, atoms, bodies)
 }

@@ -1,27 +1,32 @@
 // The matrices of relations, variables, sorts and identities (document 01, "Clauses").
 ghost use mathlib.Core.Path.{_≡_};
-ghost use mathlib.Core.Bool.{true};
+ghost use mathlib.Core.Bool.{true, cond};
 ghost use mathlib.Core.List.{map};
 ghost use Prim.Native.Nat.{ℕ, _≤_, _<_};
 ghost use lib.Dec.{eqb};
-ghost use lib.IntN.{negsuc};
-ghost use lib.ListN.{getD};
-ghost use Rattle.literal.specs.Literals.{wordOf};
-ghost use Rattle.sheet_rules.specs.Blocks.{relationCount, sheetOf};
+ghost use lib.ListN.{length};
+ghost use Rattle.literal.specs.Literals.{wordOf, literalOf};
+ghost use Rattle.sheet_rules.specs.Blocks.{relationCount, sortOf, sheetOf};
+ghost use Rattle.sheet_rules.specs.Reading.{accepted, reading};
 ghost use Rattle.relational.specs.Trees.{Leaf, leaf-symbol, symbolOf};
 ghost use Rattle.relational.specs.Trees as trees;
 ghost use Rattle.relational.specs.Meaning.{Environment};
-ghost use Rattle.relational.specs.Matrices.{setOf, relationOf, upto, places, Place};
+ghost use Rattle.relational.specs.Cells.{mostCells};
+ghost use Rattle.relational.specs.Matrices.{setOf, upto};
 ghost use Rattle.cells.specs.Private.{Located};
 ghost use Rattle.nodes.specs.Environments.{environment};
-ghost use Rattle.clauses_rules.specs.Translation.{constant};
+ghost use Rattle.clauses_rules.specs.Translation.{constant, absent};
 ghost use Rattle.clauses_matrix.specs.Matrices.{Operand};
-ghost use Rattle.clauses_kinds.specs.Leaves.{Filled, cellFrom, LeafIs, Constants};
+ghost use Rattle.clauses_kinds.specs.Leaves.{Filled, cellFrom, LeafIs, Constants, Diagonal};
 use cells::arity;
+use cells::first_member;
+use cells::is_bounded;
 use cells::row_count;
 use cells::row_length;
 use cells::scope;
 use cells::scope_of_variable;
+use cells::sort_of_variable;
+use clauses_emission::list::word_at;
 use clauses_matrix::Literals;
 use nodes::environments::atom_at;
 use sheet_rules::Layout;
@@ -33,16 +38,9 @@ fn truth(b: bool) -> i32
     if b { 1 } else { -1 }
 }
 
-// The word at i; past the end it counts as -1.
-fn word_at(given: &[i32], i: usize) -> i32
-    ensures { λ r. ⌜ r ≡ getD (now (given .entry)) i (negsuc 0) ⌝ }
-{
-    if i < given.len() { given[i] } else { -1 }
-}
-
 // The words of size cells, from the first on.
 fn copied(given: &[i32], first: usize, size: usize) -> [i32; 64]
-    requires { ⌜ (first ≤ 1024) × (size ≤ 64) ⌝ }
+    requires { ⌜ (first ≤ mostCells) × (size ≤ 64) ⌝ }
     ensures { λ r. ⌜ Filled (cellFrom (now (given .entry)) first) size r ⌝ }
 {
     let mut cells = [-1; 64];
@@ -94,7 +92,7 @@ fn single(n: usize, atom: usize) -> Literals
     }
 }
 
-// All atoms of a sort of n.
+// All atoms of a sort of n that is not bounded.
 fn full(n: usize) -> Literals
     requires { ⌜ n ≤ 8 ⌝ }
     ensures { λ m. ⌜ Constants (setOf n (map (λ (i : ℕ). constant true) (upto n))) m ⌝ }
@@ -113,16 +111,53 @@ fn full(n: usize) -> Literals
     }
 }
 
-// The identity on a sort of n.
-fn identity(n: usize) -> Literals
-    requires { ⌜ n ≤ 8 ⌝ }
-    ensures { λ m. ⌜ Constants (relationOf n n (map (λ (t : Place). constant (eqb (t .0) (t .1))) (places n n))) m ⌝ }
+// The atoms of a sort: of a bounded one the literals of its membership cells (document 02, Change 8).
+fn atoms(sheet: &[u8], layout: Layout, given: &[i32], sort: usize) -> Literals
+    requires { ⌜ reading (now sheet) ≡ accepted layout ⌝ }
+    ensures { λ m. ⌜ ((env : Environment)
+        → LeafIs (sheetOf (now (sheet .entry))) (now (given .entry)) trees.atoms sort env m) ⌝ }
 {
+    let columns = scope(sheet, layout, sort);
+    if is_bounded(sheet, layout, sort) {
+        let cells = copied(given, first_member(sheet, layout, sort), columns);
+        return Literals {
+            arity: 1,
+            rows: 1,
+            columns,
+            cells,
+        };
+    }
+    full(columns)
+}
+
+// The atoms of variable x's sort.
+pub(crate) fn range(sheet: &[u8], layout: Layout, given: &[i32], x: usize) -> Literals
+    requires { ⌜ reading (now sheet) ≡ accepted layout ⌝ }
+    ensures { λ m. ⌜ ((env : Environment)
+        → LeafIs (sheetOf (now (sheet .entry))) (now (given .entry)) trees.atoms
+        (sortOf (sheetOf (now (sheet .entry))) x) env m) ⌝ }
+{
+    atoms(sheet, layout, given, sort_of_variable(sheet, layout, x))
+}
+
+// A literal, or that of false.
+fn kept(test: bool, l: i32) -> i32
+    ensures { λ r. ⌜ literalOf r ≡ cond test (literalOf l) absent ⌝ }
+{
+    if test { l } else { -1 }
+}
+
+// The identity on the atoms of a set.
+fn identity(p: Literals) -> Literals
+    requires { ⌜ (p .columns ≤ 8) × (length (p .cells) ≡ 64) ⌝ }
+    ensures { λ m. ⌜ Diagonal p m ⌝ }
+{
+    let n = p.columns;
     let size = n * n;
     let mut cells = [-1; 64];
     let mut k: usize = 0;
     while k < size {
-        let l = truth(k / n == k % n);
+        let l = kept(k / n == k % n, p.cells[k / n]);
         cells[k] = l;
         k += 1;
     }
@@ -152,8 +187,8 @@ pub fn leaf(
     match kind {
         1 => relation(sheet, layout, given, starts, a),
         2 => single(scope_of_variable(sheet, layout, a), atom_at(env, a)),
-        3 => full(scope(sheet, layout, a)),
-        _ => identity(scope(sheet, layout, a)),
+        3 => atoms(sheet, layout, given, a),
+        _ => identity(atoms(sheet, layout, given, a)),
     }
 }
 

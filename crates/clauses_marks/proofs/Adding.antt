@@ -47,3 +47,6 @@ adds-one first others p = record {
 
 pub small-room : {tape : Tape} (others : List ℤ) → length others ≤ 8 → Small 100000 tape → Room tape others
 small-room others h s = record { few = omega arith; clauses = omega (arith, s .clauses); words = omega (arith, s .words) }
+
+pub small-most : {tape : Tape} {k n : ℕ} → Small k tape → k ≤ n → Small n tape
+small-most s h = record { clauses = omega (arith, s .clauses); words = omega (arith, s .words) }

@@ -32,8 +32,9 @@ series-more n f e = rw (add-one n, e)
 pub series-done : {A : Type 0} {n m : ℕ} (f : ℕ → List A) → n ≤ m → m ≤ n → series n f ≡ series m f
 series-done {A} {n} {m} f p q = ap (λ (k : ℕ). series k f) (omega arith)
 
-pub row-same : {m n : ℕ} {row line : List Literal} → m ≡ n → row ≡ line → rowClauses m row ≡ rowClauses n line
-row-same e f = rw (e, f)
+pub row-same : (m : ℕ) (members : List Literal) {row line : List Literal} → row ≡ line
+    → rowClauses m members row ≡ rowClauses m members line
+row-same m members f = rw f
 
 -- a part of the cells' words: its literals are the cells'
 part-cells : (ws : List ℤ) (start n : ℕ) → start + n ≤ length ws
@@ -66,7 +67,7 @@ module _ {sheet : Sheet} {given : List ℤ} {r i rows n first : ℕ} (t : RowAt 
   row-part : rowPart given (first + i * n) n ≡ take n (drop (first + i * n) given)
   row-part = let e : (first + i * n + n) - (first + i * n) ≡ n = omega arith in rw e
 
-  row-start : first + i * n ≡ cell sheet r i 0
+  pub row-start : first + i * n ≡ cell sheet r i 0
   row-start = rw (t .place, t .width) (omega arith)
 
   pub row-is : literalsOf (rowPart given (first + i * n) n) ≡ rowLiterals sheet (literalsOf given) r i

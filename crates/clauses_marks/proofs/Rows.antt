@@ -102,18 +102,18 @@ paired-all ls k p h l =
     adds-most (adds-as (p .adds) (ap (map pairClause) e)) (omega arith)
 
 -- ---- the clauses of a row by its mark
-module _ (row : List Literal) (mark : ℕ) where
-  pub free-row : mark ≡ 0 → [] ≡ rowClauses mark row
+module _ (members row : List Literal) (mark : ℕ) where
+  pub free-row : mark ≡ 0 → [] ≡ rowClauses mark members row
   free-row e = rw e
 
-  pub lone-row : mark ≡ 1 → map pairClause (pairs row) ≡ rowClauses mark row
+  pub lone-row : mark ≡ 1 → map pairClause (pairs row) ≡ rowClauses mark members row
   lone-row e = rw e
 
-pub one-row : (row : List Literal) (mark : ℕ) → (mark ≡ 0 → ⊥) → (mark ≡ 1 → ⊥)
-    → map pairClause (pairs row) ++ (row ∷ []) ≡ rowClauses mark row
-one-row row zero a b = absurd (a refl)
-one-row row (suc zero) a b = absurd (b refl)
-one-row row (suc (suc m)) a b = refl
+pub one-row : (members row : List Literal) (mark : ℕ) → (mark ≡ 0 → ⊥) → (mark ≡ 1 → ⊥)
+    → map pairClause (pairs row) ++ ((map opposite members ++ row) ∷ []) ≡ rowClauses mark members row
+one-row members row zero a b = absurd (a refl)
+one-row members row (suc zero) a b = absurd (b refl)
+one-row members row (suc (suc m)) a b = refl
 
 -- the whole row: its first literal and the others
 pub whole-row : (ws : List ℤ) → 1 ≤ length ws

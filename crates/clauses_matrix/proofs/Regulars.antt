@@ -66,9 +66,12 @@ regular-connective disjunction = regular-pairing Either
 regular-connective implication = regular-pairing Implies
 regular-connective equivalence = regular-pairing Same
 
-pub regular-quantifier : (o : Quantifier) (ls : List Literal) → Regular (translateQuantifier o ls)
-regular-quantifier for-all = regular-and
-regular-quantifier for-some = regular-or
+pub regular-quantifier : (o : Quantifier) (p q : Matrix Literal) → Regular (translateQuantifier o p q)
+regular-quantifier for-all p q = regular-comparison within p q
+regular-quantifier for-some p q =
+    regular-bind (translateBinary intersection p q) (λ m. translateTest some (m .cells))
+    (regular-binary intersection p q)
+    (λ m. regular-test some (m .cells))
 
 -- a list of steps that make nothing
 pub each-return : {A : Type 0} (xs : List A) (g : ℕ) → each {A = A} {B = A} (λ x. return x) xs g ≡ return xs g

@@ -1,6 +1,5 @@
 // Comparisons, and tests of an expression (document 01, "Clauses", the last list).
 ghost use Rattle.relational.specs.Trees.{some, none, lone};
-ghost use Rattle.clauses_rules.specs.Gates as spec;
 ghost use Rattle.clauses_rules.specs.Translation.{translateTest};
 ghost use Rattle.clauses_emission.specs.Emission.{Bounded, EmitsLiteral};
 ghost use Rattle.clauses_matrix.specs.Matrices.{matrixOf, Operand, EmitsTest, compared};
@@ -38,17 +37,6 @@ pub fn some(list: &mut [i32], tape: Tape, p: Literals) -> Made
     let mut cells = p.cells;
     let n = p.rows * p.columns;
     or(list, tape, &mut cells[..n])
-}
-
-// AND of the cells, as some is OR of them.
-pub fn every(list: &mut [i32], tape: Tape, p: Literals) -> Made
-    requires { ⌜ Bounded tape ⌝ }
-    requires { ⌜ Operand (tape .next) p ⌝ }
-    ensures { λ r. ⌜ EmitsTest spec.and p (now (list .entry)) tape (r .literal) (now (list .exit)) (r .tape) ⌝ }
-{
-    let mut cells = p.cells;
-    let n = p.rows * p.columns;
-    and(list, tape, &mut cells[..n])
 }
 
 pub fn none(list: &mut [i32], tape: Tape, p: Literals) -> Made

@@ -15,5 +15,6 @@ pub mod Order
 pub mod Accepted
 pub mod Listed
 pub mod Series
+pub mod Widened
 pub mod Theorems
 pub mod Cases

@@ -5,11 +5,11 @@ use mathlib.Core.List.{List, [], _∷_, _++_, map}
 use Prim.Native.Nat.{ℕ, zero, suc, _≤_, _<_}
 use native.Mathlib.Omega.{arith}
 use lib.Dec.{leb}
-use lib.ListN.{length, length-map}
+use lib.ListN.{length, length-map, length-append}
 use borrow.Author.Tests.{le-leb}
 use Rattle.prelude.specs.Tests.{all}
 use Rattle.prelude.proofs.Laws.{and-both, all-append, all-map}
-use Rattle.literal.specs.Literals.{Literal, negative, wordOf}
+use Rattle.literal.specs.Literals.{Literal, negative, opposite, wordOf}
 use Rattle.clause_list.specs.ClauseList.{isList}
 use Rattle.clause_list.proofs.Laws.{hasLiteral, words-list}
 use Rattle.sheet_rules.specs.Blocks.{Sheet, relationCount, multiplicity}
@@ -19,7 +19,8 @@ use Rattle.relational.proofs.Places.{length-from}
 use Rattle.clauses_rules.specs.Builder.{Gate}
 use Rattle.clauses_rules.specs.Gates.{Clause, inputClauses, gateClauses, gatesClauses}
 use Rattle.clauses_rules.specs.Translation.{Two, literalAt}
-use Rattle.clauses_rules.specs.Whole.{series, pairClause, rowClauses, rowLiterals, markClauses, cellLiterals, firstGate}
+use Rattle.clauses_rules.specs.Whole.{series, pairClause, rowClauses, rowLiterals, rowMembers, markClauses}
+use Rattle.clauses_rules.specs.Whole.{cellMembers, memberClauses, cellLiterals, firstGate}
 use Rattle.clauses_rules.specs.Whole.{rootWalk, clauses}
 use Rattle.clauses_rules.specs.Whole.{words, variableTotal, wordTotal}
 use Rattle.clauses_rules.proofs.Bytes.{clauses-literals}
@@ -56,12 +57,19 @@ unfolding all
 pairs-some [] = refl
 pairs-some (t ∷ ts) = pairs-some ts
 
-row-some : (m : ℕ) (row : List Literal) → 1 ≤ length row → all isSome (rowClauses m row) ≡ true
+row-some : (m : ℕ) (members row : List Literal) → 1 ≤ length row → all isSome (rowClauses m members row) ≡ true
 unfolding all
-row-some zero row h = refl
-row-some (suc zero) row h = pairs-some (pairs row)
-row-some (suc (suc m)) row h =
-    append-some (map pairClause (pairs row)) (row ∷ []) (pairs-some (pairs row)) (cons-some row [] (le-leb 1 (length row) h) refl)
+row-some zero members row h = refl
+row-some (suc zero) members row h = pairs-some (pairs row)
+row-some (suc (suc m)) members row h =
+    let whole : List Literal = map opposite members ++ row in
+    append-some (map pairClause (pairs row)) (whole ∷ []) (pairs-some (pairs row))
+    (cons-some whole [] (le-leb 1 (length whole) (omega (arith, length-append (map opposite members) row))) refl)
+
+implied-some : (l : Literal) (ms : List Literal) → all isSome (map (λ m. opposite l ∷ m ∷ []) ms) ≡ true
+unfolding all
+implied-some l [] = refl
+implied-some l (m ∷ ms) = implied-some l ms
 
 series-some : (n : ℕ) (f : ℕ → List Clause) → ((i : ℕ) → i < n → all isSome (f i) ≡ true) → all isSome (series n f) ≡ true
 unfolding series all
@@ -83,13 +91,24 @@ module _ (sheet : Sheet) (rows : (r : ℕ) → r < relationCount sheet → 1 ≤
   unfolding markClauses
   marks-some =
       series-some (relationCount sheet) _ λ r l. series-some (rowCount sheet r) _ λ i k.
-      row-some (multiplicity sheet r) (rowLiterals sheet (cellLiterals sheet) r i) (subst (λ (n : ℕ). 1 ≤ n) (sym (row-length r i)) (rows r l))
+      row-some (multiplicity sheet r) (rowMembers sheet (cellLiterals sheet) r i)
+      (rowLiterals sheet (cellLiterals sheet) r i) (subst (λ (n : ℕ). 1 ≤ n) (sym (row-length r i)) (rows r l))
+
+  inside-some : all isSome (memberClauses sheet (cellLiterals sheet)) ≡ true
+  unfolding memberClauses
+  inside-some =
+      series-some (relationCount sheet) _ λ r l. series-some (rowCount sheet r) _ λ i k. series-some (rowLength sheet r)
+      _ λ j m.
+      implied-some (literalAt sheet (cellLiterals sheet) (cell sheet r i j))
+      (cellMembers sheet (cellLiterals sheet) r i j)
 
   clauses-some : all isSome (clauses sheet) ≡ true
   unfolding clauses all
   clauses-some =
-      append-some (markClauses sheet (cellLiterals sheet)) _ marks-some
-      (append-some (gatesClauses (firstGate sheet) (rootWalk sheet .gates)) _ (gates-some (firstGate sheet) (rootWalk sheet .gates)) refl)
+      append-some (memberClauses sheet (cellLiterals sheet)) _ inside-some
+      (append-some (markClauses sheet (cellLiterals sheet)) _ marks-some
+      (append-some (gatesClauses (firstGate sheet) (rootWalk sheet .gates)) _
+      (gates-some (firstGate sheet) (rootWalk sheet .gates)) refl))
 
   words-some : all hasLiteral (map (map wordOf) (clauses sheet)) ≡ true
   words-some = all-map hasLiteral (map wordOf) (clauses sheet) ∙ same-some (clauses sheet) ∙ clauses-some

@@ -1,6 +1,6 @@
 -- The match for the clauses of a sheet, against the boolean evaluation.
 use mathlib.Core.Path.{_≡_, refl, sym, ap, _∙_, subst, subst₂}
-use mathlib.Core.Bool.{Bool, true, false}
+use mathlib.Core.Bool.{Bool, true, false, _&&_}
 use mathlib.Core.List.{List, [], _∷_, _++_, map, append-assoc}
 use Prim.Native.Nat.{ℕ, suc, pred, _+_, _≤_}
 use native.Mathlib.Omega.{arith}
@@ -14,21 +14,22 @@ use Rattle.clause_list.specs.ClauseList.{clausesOf, isTrue}
 use Rattle.clause_list.proofs.Laws.{clauses-words}
 use Rattle.sheet_rules.specs.Blocks.{Sheet}
 use Rattle.relational.specs.Trees.{rootTree}
-use Rattle.relational.specs.Cells.{cellCount, withinScopes}
+use Rattle.relational.specs.Cells.{cellCount, hasCells}
 use Rattle.relational.specs.Matrices.{from, upto}
-use Rattle.relational.specs.Evaluation.{marksHold, truthOfTree, holds}
+use Rattle.relational.specs.Evaluation.{marksHold, cellsInside, truthOfTree, holds}
 use Rattle.relational.proofs.Scopes.{within-size, within-bits}
 use Rattle.clauses_rules.specs.Builder.{return, _<$>_}
 use Rattle.clauses_rules.specs.Gates.{Clause, gatesClauses}
 use Rattle.clauses_rules.specs.Translation.{translateTree}
-use Rattle.clauses_rules.specs.Whole.{cellLiterals, markClauses, rootWalk, clauses, words, variableTotal, readBack}
+use Rattle.clauses_rules.specs.Whole.{cellLiterals, memberClauses, markClauses, rootWalk, clauses, words}
+use Rattle.clauses_rules.specs.Whole.{variableTotal, readBack}
 use Rattle.clauses_rules.specs.Matching.{Assignment, ReadBackOnce}
-use Rattle.clauses_rules.proofs.Values.{satisfied, ClausesIn}
+use Rattle.clauses_rules.proofs.Values.{satisfied, satisfied-append, ClausesIn, clauses-in-append}
 use Rattle.clauses_rules.proofs.Gate.{get-here}
 use Rattle.clauses_rules.proofs.Build.{Means, nothing, more, Mean, One, right-return, right-map}
 use Rattle.clauses_rules.proofs.Walk.{flags, Ready, right-tree}
-use Rattle.clauses_rules.proofs.Rows.{marks-mean}
-use Rattle.clauses_rules.proofs.Ranges.{marks-in}
+use Rattle.clauses_rules.proofs.Rows.{inside-mean, marks-mean}
+use Rattle.clauses_rules.proofs.Ranges.{inside-in, marks-in}
 use Rattle.clauses_rules.proofs.Bytes.{isBit, byteOf, bytes, flags-bytes, bytes-flags, bytes-bits, take-bits, drop-bits, take-flags}
 use Rattle.clauses_rules.proofs.Bytes.{drop-flags, clauses-value}
 use Rattle.clauses_rules.proofs.Parts.{Parts, Demand, Meets, Solves, Stores, partsClauses, partsVariables, start, parts-in}
@@ -57,7 +58,7 @@ module _ (sheet : Sheet) where
       record {
         free = cellCount sheet;
         cells = return (cellLiterals sheet);
-        rules = markClauses sheet;
+        rules = λ ls. memberClauses sheet ls ++ markClauses sheet ls;
         walk = λ ls. (λ l. l ∷ []) <$> translateTree sheet ls (rootTree sheet);
         fixed = λ ls. [];
       }
@@ -66,7 +67,7 @@ module _ (sheet : Sheet) where
   sheetDemand =
       record {
         size = cellCount sheet;
-        marks = λ x. marksHold sheet (bytes x);
+        marks = λ x. cellsInside sheet (bytes x) && marksHold sheet (bytes x);
         agrees = λ x. true;
         facts = λ x. truthOfTree sheet (bytes x) (rootTree sheet) ∷ [];
       }
@@ -84,15 +85,23 @@ module _ (sheet : Sheet) where
       record {
         decode = λ x. x;
         encode = λ x. x;
-        allowed = λ x. marksHold sheet (bytes x);
+        allowed = λ x. cellsInside sheet (bytes x) && marksHold sheet (bytes x);
         right-cells = λ x e. right-return (start x) (cellLiterals sheet) (Mean x) (start-cells x e);
-        right-rules = λ x a ls e f o h. marks-mean sheet (bytes x) ls a (ready x a ls o h);
+        right-rules = λ x a ls e f o h.
+            satisfied-append a (memberClauses sheet ls) (markClauses sheet ls)
+            ∙ rw (
+              inside-mean sheet (bytes x) ls a (ready x a ls o h),
+              marks-mean sheet (bytes x) ls a (ready x a ls o h),
+            );
         right-walk = λ x a ls o h.
             right-map a (λ l. l ∷ []) (translateTree sheet ls (rootTree sheet)) (Means (truthOfTree sheet (bytes x) (rootTree sheet)))
             (Mean (truthOfTree sheet (bytes x) (rootTree sheet) ∷ []))
             (right-tree sheet (bytes x) ls (rootTree sheet) a (ready x a ls o h)) λ b e l m. more m nothing;
         right-fixed = λ x a ls o h. refl;
-        rules-in = λ n ls f h. marks-in sheet ls n (omega (arith, f)) h;
+        rules-in = λ n ls f h.
+            clauses-in-append n (memberClauses sheet ls) (markClauses sheet ls)
+            (inside-in sheet ls n (omega (arith, f)) h)
+            (marks-in sheet ls n (omega (arith, f)) h);
         fixed-in = λ n ls f h. tt;
         into = λ x e h. (e, h, refl);
         onto = λ x e h. (e, h, refl);
@@ -102,11 +111,15 @@ module _ (sheet : Sheet) where
   whole : ℕ → List Clause
   whole g =
       let r = translateTree sheet (cellLiterals sheet) (rootTree sheet) g in
-      (positive 1 ∷ []) ∷ (markClauses sheet (cellLiterals sheet) ++ (gatesClauses g (r .gates) ++ ((r .value ∷ []) ∷ [])))
+      (positive 1 ∷ []) ∷ (memberClauses sheet (cellLiterals sheet)
+      ++ (markClauses sheet (cellLiterals sheet) ++ (gatesClauses g (r .gates) ++ ((r .value ∷ []) ∷ []))))
 
   clauses-are : clauses sheet ≡ partsClauses sheetParts
   unfolding clauses rootWalk gatesClauses whole
-  clauses-are = ap whole (two (cellCount sheet))
+  clauses-are =
+      ap whole (two (cellCount sheet))
+      ∙ ap (λ (cs : List Clause). (positive 1 ∷ []) ∷ cs)
+      (sym (append-assoc (memberClauses sheet (cellLiterals sheet)) (markClauses sheet (cellLiterals sheet)) _))
 
   variables-are : variableTotal sheet ≡ partsVariables sheetParts
   unfolding variableTotal rootWalk
@@ -166,33 +179,40 @@ module _ (sheet : Sheet) where
 
   -- ---- instances, in bytes and in bits
   pub record Instance (i : List ℕ) : Type 0 where
-    pub within : withinScopes sheet i ≡ true
+    pub within : hasCells sheet i ≡ true
     pub holds : holds sheet i ≡ true
 
   instance-of : (x : List Bool) → Meets sheetDemand x → Instance (bytes x)
-  unfolding withinScopes holds all
+  unfolding hasCells holds all
   instance-of x m =
+      let inside : Bool = cellsInside sheet (bytes x) in
+      let marked : Bool = marksHold sheet (bytes x) in
+      let true-root : Bool = truthOfTree sheet (bytes x) (rootTree sheet) in
       record {
         within =
             and-both (eqb (length (bytes x)) (cellCount sheet)) (all isBit (bytes x))
             (eq-eqb (length (bytes x)) (cellCount sheet) (length-map x byteOf ∙ m .size)) (bytes-bits x);
         holds =
-            and-both (marksHold sheet (bytes x)) (truthOfTree sheet (bytes x) (rootTree sheet)) (m .marks)
-            (and-left (truthOfTree sheet (bytes x) (rootTree sheet)) true (m .facts));
+            and-both inside (marked && true-root) (and-left inside marked (m .marks))
+            (and-both marked true-root (and-right inside marked (m .marks)) (and-left true-root true (m .facts)));
       }
 
   meets-of : (i : List ℕ) → Instance i → Meets sheetDemand (flags i)
   unfolding holds all
   meets-of i h =
       let b : all isBit i ≡ true = within-bits sheet i (h .within) in
+      let inside : Bool = cellsInside sheet i in
+      let marked : Bool = marksHold sheet i in
+      let true-root : Bool = truthOfTree sheet i (rootTree sheet) in
+      let rest : (marked && true-root) ≡ true = and-right inside (marked && true-root) (h .holds) in
       record {
         size = length-map i (λ (b : ℕ). eqb b 1) ∙ within-size sheet i (h .within);
-        marks = rw (bytes-flags i b) (and-left (marksHold sheet i) (truthOfTree sheet i (rootTree sheet)) (h .holds));
+        marks = rw (bytes-flags i b) (and-both inside marked (and-left inside (marked && true-root) (h .holds))
+            (and-left marked true-root rest));
         agrees = refl;
         facts =
             rw (bytes-flags i b)
-            (and-both (truthOfTree sheet i (rootTree sheet)) true
-            (and-right (marksHold sheet i) (truthOfTree sheet i (rootTree sheet)) (h .holds)) refl);
+            (and-both true-root true (and-right marked true-root rest) refl);
       }
 
   -- ---- the match

@@ -9,8 +9,7 @@ use Rattle.prelude.specs.Tests.{all, any}
 use Rattle.prelude.proofs.Laws.{all-map}
 use Rattle.literal.specs.Literals.{Literal}
 use Rattle.relational.specs.Trees.{Binary, union, intersection, difference, join, product, Unary, inverse, closure, Comparison, equal}
-use Rattle.relational.specs.Trees.{within, Connective, conjunction, disjunction, implication, equivalence, Quantifier, for-all}
-use Rattle.relational.specs.Trees.{for-some}
+use Rattle.relational.specs.Trees.{within, Connective, conjunction, disjunction, implication, equivalence}
 use Rattle.relational.specs.Matrices.{upto, Place, places, rounds, Matrix, setOf, relationOf, size, sameSize, joinColumns, joinPlaces}
 use Rattle.relational.specs.Matrices.{joinSize, productPlaces, productSize, matched, middles, crossed, inverted}
 use Rattle.relational.specs.Evaluation as e
@@ -18,7 +17,6 @@ use Rattle.clauses_rules.specs.Builder.{Builder, _>>=_, _<$>_, each}
 use Rattle.clauses_rules.specs.Gates.{or, and}
 use Rattle.clauses_rules.specs.Translation.{Two, absent, either, both, without, implies, same, joinCells, translateBinary, roundOf}
 use Rattle.clauses_rules.specs.Translation.{afterRounds, translateUnary, translateComparison, translateConnective}
-use Rattle.clauses_rules.specs.Translation.{translateQuantifier}
 use Rattle.clauses_rules.proofs.Build.{Extends, extends-refl, Right, Means, Pairwise, nothing, more, Mean, One, means-extends}
 use Rattle.clauses_rules.proofs.Build.{mean-extends, right-return, right-map, right-bind, right-each, right-list}
 use Rattle.clauses_rules.proofs.Connect as c
@@ -224,8 +222,3 @@ right-connective conjunction a o x y p q g h = right-both a o (p, q) (x, y) reco
 right-connective disjunction a o x y p q g h = right-either a o (p, q) (x, y) record { left = g; right = h }
 right-connective implication a o x y p q g h = right-implies a o (p, q) (x, y) record { left = g; right = h }
 right-connective equivalence a o x y p q g h = right-same a o (p, q) (x, y) record { left = g; right = h }
-
-pub right-quantifier : (k : Quantifier) (a : List Bool) → One a → {ms : List Bool} {ls : List Literal} → Mean ms a ls
-    → Right a (translateQuantifier k ls (length a)) (Means (e.truthQuantifier k ms))
-right-quantifier for-all a o h = right-and a o h
-right-quantifier for-some a o h = right-or a o h

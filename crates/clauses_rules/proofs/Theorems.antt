@@ -88,10 +88,17 @@ module _ (s : List ℕ) (layout : Layout) (taken : reading s ≡ accepted layout
   pub match : Match (sheetOf s)
   match =
       record {
-        once = λ i h. exactly-one (sheetOf s) i record { within = h .within; holds = accepted-holds s layout taken i .1 (h .satisfies) };
+        once = λ i h. exactly-one (sheetOf s) i record {
+          within = h .within .bytes;
+          holds = accepted-holds s layout taken i .1 (
+            h .within .of-atoms,
+            h .satisfies,
+          );
+        };
         reads = λ a h.
             let r = reads-instance (sheetOf s) a h in
-            record { within = r .within; satisfies = accepted-holds s layout taken (readBack (sheetOf s) a) .0 (r .holds) };
+            let t = accepted-holds s layout taken (readBack (sheetOf s) a) .0 (r .holds) in
+            record { within = record { bytes = r .within; of-atoms = t .0 }; satisfies = t .1 };
       }
 
   -- no satisfying assignment exactly when no instance satisfies
@@ -112,8 +119,8 @@ module _ (s : List ℕ) (layout : Layout) (taken : reading s ≡ accepted layout
   pub before-reads : (a b : List ℕ) → Assignment (sheetOf s) a → Assignment (sheetOf s) b → Before a b
       → Before (readBack (sheetOf s) a) (readBack (sheetOf s) b)
   before-reads a b p q h =
-      let i = match .reads a p .within in
-      let j = match .reads b q .within in
+      let i = match .reads a p .within .bytes in
+      let j = match .reads b q .within .bytes in
       ⊎-elim (λ x. x)
       (⊎-elim (λ x. absurd (before-irreflexive b (rw (same-reads a b p q x) at h)))
       (λ x. absurd (before-irreflexive a (before-transitive a b a h (read-back-before (sheetOf s) b a q p x)))))

@@ -1,30 +1,33 @@
 -- The walk is right: for every tree and environment its literals mean the values of the evaluation.
 use mathlib.Core.Path.{_≡_, refl, subst}
-use mathlib.Core.Bool.{Bool, true, false, not}
+use mathlib.Core.Bool.{Bool, true, false, not, cond}
 use mathlib.Core.List.{List, [], _∷_, map}
 use Prim.Native.Nat.{ℕ, zero, suc}
 use lib.Dec.{eqb}
 use lib.ListN.{length, getD}
 use Rattle.literal.specs.Literals.{Literal, opposite}
-use Rattle.sheet_rules.specs.Blocks.{Sheet, byte, scope, sortOf}
-use Rattle.relational.specs.Trees.{Leaf, relation, variable, atoms, identity, Expression, leaf, binary, unary, comprehension, Formula}
+use Rattle.sheet_rules.specs.Blocks.{Sheet, byte, scope, isBounded, sortOf}
+use Rattle.relational.specs.Trees.{Leaf, relation, variable, atoms, identity, intersection, Expression, leaf, binary}
+use Rattle.relational.specs.Trees.{unary, comprehension, Formula}
 use Rattle.relational.specs.Trees.{comparison, test, negation, connective, quantified, Tree, expression, formula, broken}
-use Rattle.relational.specs.Cells.{firstCell, cellsOf}
+use Rattle.relational.specs.Cells.{memberCell, firstCell, cellsOf}
 use Rattle.relational.specs.Meaning.{Environment, bind}
-use Rattle.relational.specs.Matrices.{from, upto, places, Place, Matrix, setOf, leafMatrix}
-use Rattle.relational.specs.Evaluation.{flagAt, valueLeaf, atomsOf, valueOf, truthOf, truthOfTree, valueBinary, valueUnary, truthComparison}
-use Rattle.relational.specs.Evaluation.{truthTest, truthConnective, truthQuantifier}
+use Rattle.relational.specs.Matrices.{from, upto, places, Place, Matrix, member, leafMatrix}
+use Rattle.relational.specs.Evaluation as v
+use Rattle.relational.specs.Evaluation.{memberAt, flagAt, valueLeaf, atomsOf, valueOf, truthOf, truthOfTree}
+use Rattle.relational.specs.Evaluation.{valueBinary, valueUnary, truthComparison}
+use Rattle.relational.specs.Evaluation.{truthTest, truthConnective}
 use Rattle.clauses_rules.specs.Builder.{Builder, _>>=_, each}
 use Rattle.clauses_rules.specs.Translation.{constant, absent, literalAt, translate, translateFormula, translateTree, translateBinary}
 use Rattle.clauses_rules.specs.Translation.{translateUnary, translateComparison, translateTest, translateConnective}
-use Rattle.clauses_rules.specs.Translation.{translateQuantifier}
+use Rattle.clauses_rules.specs.Translation.{translateQuantifier, range, bodies}
 use Rattle.clauses_rules.proofs.Build.{Extends, Right, Means, Mean, One, means-extends, mean-extends, right-return, right-map}
 use Rattle.clauses_rules.proofs.Build.{right-bind}
 use Rattle.clauses_rules.proofs.Build.{right-two, right-list}
 use Rattle.clauses_rules.proofs.Connect.{means-opposite, means-at}
 use Rattle.clauses_rules.proofs.Operators.{MeansMatrix, matrix-extends, pairwise-maps, right-binary, right-unary, right-comparison}
-use Rattle.clauses_rules.proofs.Operators.{right-connective, right-quantifier}
-use Rattle.clauses_rules.proofs.Counts.{right-test}
+use Rattle.clauses_rules.proofs.Operators.{right-connective}
+use Rattle.clauses_rules.proofs.Counts.{right-test, right-quantifier}
 
 -- an instance as flags: a byte 1 is true
 abbrev pub flags : List ℕ → List Bool
@@ -51,6 +54,26 @@ module _ (sheet : Sheet) (instance : List ℕ) (cells : List Literal) where
   pub means-cell : {a : List Bool} → Ready a → (i : ℕ) → Means (flagAt sheet instance i) a (literalAt sheet cells i)
   means-cell {a} r i = subst (λ (m : Bool). Means m a (literalAt sheet cells i)) (flag-at instance i) (means-at (r .one) (r .given) i)
 
+  -- the literal of an atom that a sort can have
+  pub means-member : {a : List Bool} → Ready a → (k i : ℕ)
+      → Means (memberAt sheet instance k i) a (member sheet (literalAt sheet cells) constant k i)
+  means-member {a} r k i = go (isBounded sheet k)
+    where
+      go : (b : Bool) → Means (cond b (flagAt sheet instance (memberCell sheet k i)) true) a
+          (cond b (literalAt sheet cells (memberCell sheet k i)) (constant true))
+      go true = means-cell r (memberCell sheet k i)
+      go false = r .one
+
+  means-diagonal : {a : List Bool} → Ready a → (k : ℕ) (t : Place)
+      → Means (cond (eqb (t .0) (t .1)) (memberAt sheet instance k (t .0)) false) a
+      (cond (eqb (t .0) (t .1)) (member sheet (literalAt sheet cells) constant k (t .0)) (constant false))
+  means-diagonal {a} r k t = go (eqb (t .0) (t .1))
+    where
+      go : (b : Bool) → Means (cond b (memberAt sheet instance k (t .0)) false) a
+          (cond b (member sheet (literalAt sheet cells) constant k (t .0)) (constant false))
+      go true = means-member r k (t .0)
+      go false = means-constant (r .one) false
+
   means-leaf : (l : Leaf) (k : ℕ) (env : Environment) {a : List Bool} → Ready a
       → MeansMatrix (valueLeaf sheet instance l k env) a (leafMatrix sheet (literalAt sheet cells) constant l k env)
   means-leaf relation k env r =
@@ -58,11 +81,11 @@ module _ (sheet : Sheet) (instance : List ℕ) (cells : List Literal) where
   means-leaf variable k env r =
       record { sizes = refl; cells = pairwise-maps _ _ (λ (i : ℕ). means-constant (r .one) (eqb i (env k))) (atomsOf sheet instance k) }
   means-leaf atoms k env r =
-      record { sizes = refl; cells = pairwise-maps _ _ (λ (i : ℕ). means-constant (r .one) true) (upto (scope sheet k)) }
+      record { sizes = refl; cells = pairwise-maps _ _ (λ (i : ℕ). means-member r k i) (upto (scope sheet k)) }
   means-leaf identity k env r =
       record {
         sizes = refl;
-        cells = pairwise-maps _ _ (λ (t : Place). means-constant (r .one) (eqb (t .0) (t .1))) (places (scope sheet k) (scope sheet k));
+        cells = pairwise-maps _ _ (λ (t : Place). means-diagonal r k t) (places (scope sheet k) (scope sheet k));
       }
 
   -- two operands, then a step over both
@@ -103,11 +126,16 @@ module _ (sheet : Sheet) (instance : List ℕ) (cells : List Literal) where
         (MeansMatrix (valueOf sheet instance t env)) (MeansMatrix (valueUnary k (valueOf sheet instance t env)))
         (right-translate t env a r) λ b e p g. right-unary k b (means-extends e (r .one)) (valueOf sheet instance t env) p g
     right-translate (comprehension x f) env a r =
-        right-map a (setOf (scope sheet (sortOf sheet x))) (each (λ v. translateFormula sheet cells f (bind env x v)) (atomsOf sheet instance x))
-        (Mean (map (λ v. truthOf sheet instance f (bind env x v)) (atomsOf sheet instance x))) _
+        right-bind a (each (λ v. translateFormula sheet cells f (bind env x v)) (atomsOf sheet instance x))
+        (λ ls. translateBinary intersection (range sheet cells x env) (bodies sheet cells x ls))
+        (Mean (map (λ v. truthOf sheet instance f (bind env x v)) (atomsOf sheet instance x)))
+        (MeansMatrix (valueOf sheet instance (comprehension x f) env))
         (right-bodies (λ v. translateFormula sheet cells f (bind env x v)) (λ v. truthOf sheet instance f (bind env x v)) a
         (λ v b e. right-translate-formula f (bind env x v) b (ready-extends e r)) (atomsOf sheet instance x))
-        λ b e ls q. record { sizes = refl; cells = q }
+        λ b e ls q. right-binary intersection b (means-extends e (r .one)) (v.range sheet instance x env)
+        (v.bodies sheet instance x (λ w. truthOf sheet instance f (bind env x w))) (range sheet cells x env)
+        (bodies sheet cells x ls)
+        (means-leaf atoms (sortOf sheet x) env (ready-extends e r)) record { sizes = refl; cells = q }
 
     pub right-translate-formula : (f : Formula) (env : Environment) (a : List Bool) → Ready a
         → Right a (translateFormula sheet cells f env (length a)) (Means (truthOf sheet instance f env))
@@ -131,12 +159,16 @@ module _ (sheet : Sheet) (instance : List ℕ) (cells : List Literal) where
         (right-translate-formula f env a r) (λ b z. right-translate-formula g env b z)
         λ b o p q m n. right-connective k b o (truthOf sheet instance f env) (truthOf sheet instance g env) p q m n
     right-translate-formula (quantified k x f) env a r =
-        right-bind a (each (λ v. translateFormula sheet cells f (bind env x v)) (atomsOf sheet instance x)) (translateQuantifier k)
+        right-bind a (each (λ v. translateFormula sheet cells f (bind env x v)) (atomsOf sheet instance x))
+        (λ ls. translateQuantifier k (range sheet cells x env) (bodies sheet cells x ls))
         (Mean (map (λ v. truthOf sheet instance f (bind env x v)) (atomsOf sheet instance x)))
-        (Means (truthQuantifier k (map (λ v. truthOf sheet instance f (bind env x v)) (atomsOf sheet instance x))))
+        (Means (truthOf sheet instance (quantified k x f) env))
         (right-bodies (λ v. translateFormula sheet cells f (bind env x v)) (λ v. truthOf sheet instance f (bind env x v)) a
         (λ v b e. right-translate-formula f (bind env x v) b (ready-extends e r)) (atomsOf sheet instance x))
-        λ b e ls q. right-quantifier k b (means-extends e (r .one)) q
+        λ b e ls q. right-quantifier k b (means-extends e (r .one)) (v.range sheet instance x env)
+        (v.bodies sheet instance x (λ w. truthOf sheet instance f (bind env x w))) (range sheet cells x env)
+        (bodies sheet cells x ls)
+        (means-leaf atoms (sortOf sheet x) env (ready-extends e r)) record { sizes = refl; cells = q }
 
   pub right-tree : (t : Tree) (a : List Bool) → Ready a
       → Right a (translateTree sheet cells t (length a)) (Means (truthOfTree sheet instance t))

@@ -7,13 +7,14 @@ use Prim.Native.Nat.{ℕ, zero, suc}
 use lib.ListN.{getD}
 use Rattle.literal.specs.Literals.{Literal, positive, negative, opposite}
 use Rattle.sheet_rules.specs.Blocks.{Sheet, scope, sortOf}
-use Rattle.relational.specs.Trees.{Binary, union, intersection, difference, join, product, Unary, inverse, closure, Comparison, equal}
-use Rattle.relational.specs.Trees.{within, Test, some, none, lone, Connective, conjunction, disjunction, implication, equivalence}
-use Rattle.relational.specs.Trees.{Quantifier, for-all, for-some, Expression, leaf, binary, unary, comprehension, Formula, comparison, test}
-use Rattle.relational.specs.Trees.{negation, connective, quantified, Tree, expression, formula, broken}
+use Rattle.relational.specs.Trees.{atoms, Binary, union, intersection, difference, join, product, Unary, inverse}
+use Rattle.relational.specs.Trees.{closure, Comparison, equal, within, Test, some, none, lone, Connective, conjunction}
+use Rattle.relational.specs.Trees.{disjunction, implication, equivalence, Quantifier, for-all, for-some, Expression}
+use Rattle.relational.specs.Trees.{leaf, binary, unary, comprehension, Formula, comparison, test, negation, connective}
+use Rattle.relational.specs.Trees.{quantified, Tree, expression, formula, broken}
 use Rattle.relational.specs.Meaning.{Environment, bind}
-use Rattle.relational.specs.Matrices.{upto, rounds, pairs, Matrix, setOf, leafMatrix, sameSize, joinPlaces, joinSize, productSize, matched}
-use Rattle.relational.specs.Matrices.{middles, crossed, inverted}
+use Rattle.relational.specs.Matrices.{upto, rounds, pairs, Matrix, setOf, leafMatrix, sameSize, joinPlaces, joinSize}
+use Rattle.relational.specs.Matrices.{productSize, matched, middles, crossed, inverted}
 use Rattle.clauses_rules.specs.Builder.{Builder, return, _>>=_, _<$>_, each}
 use Rattle.clauses_rules.specs.Gates.{or, and, iff}
 
@@ -95,15 +96,26 @@ translateConnective disjunction = either
 translateConnective implication = implies
 translateConnective equivalence = same
 
--- "Kind 40 is AND over atoms, 41 OR"
-abbrev pub translateQuantifier : Quantifier → List Literal → Builder Literal
-translateQuantifier for-all = and
-translateQuantifier for-some = or
+-- "Kind 40 is AND over atoms, 41 OR"; over a limited sort "AND of OR(-member, body)", "OR of AND(member, body)"
+-- (document 02, Change 8). Of a full sort each member's literal is 1, and what is left is the body's, with no gate.
+abbrev pub translateQuantifier : Quantifier → Matrix Literal → Matrix Literal → Builder Literal
+translateQuantifier for-all members bodies = translateComparison within members bodies
+translateQuantifier for-some members bodies = do
+  both ← translateBinary intersection members bodies
+  translateTest some (both .cells)
 
--- ---- the walk, over the literals of the cells: "kind 12 puts the body's literal in the cell", "Not is the opposite literal"
+-- ---- the walk, over the literals of the cells: "kind 12 puts the body's literal in the cell" (over a bounded
+-- sort "AND(member, body)"), "Not is the opposite literal"
 module _ (sheet : Sheet) (cells : List Literal) where
   abbrev pub literalAt : ℕ → Literal
   literalAt i = getD cells i absent
+
+  -- the atoms of variable x's sort; and the bodies' literals, atom by atom, as a set of it
+  abbrev pub range : ℕ → Environment → Matrix Literal
+  range x env = leafMatrix sheet literalAt constant atoms (sortOf sheet x) env
+
+  abbrev pub bodies : ℕ → List Literal → Matrix Literal
+  bodies x ls = setOf (scope sheet (sortOf sheet x)) ls
 
   unfoldable mutual
     pub translate : Expression → Environment → Builder (Matrix Literal)
@@ -115,8 +127,9 @@ module _ (sheet : Sheet) (cells : List Literal) where
     translate (unary o e) env = do
       p ← translate e env
       translateUnary o p
-    translate (comprehension x f) env =
-        setOf (scope sheet (sortOf sheet x)) <$> each (λ v. translateFormula f (bind env x v)) (upto (scope sheet (sortOf sheet x)))
+    translate (comprehension x f) env = do
+      ls ← each (λ v. translateFormula f (bind env x v)) (upto (scope sheet (sortOf sheet x)))
+      translateBinary intersection (range x env) (bodies x ls)
 
     pub translateFormula : Formula → Environment → Builder Literal
     translateFormula (comparison o e f) env = do
@@ -133,7 +146,7 @@ module _ (sheet : Sheet) (cells : List Literal) where
       translateConnective o (p, q)
     translateFormula (quantified k x f) env = do
       ls ← each (λ v. translateFormula f (bind env x v)) (upto (scope sheet (sortOf sheet x)))
-      translateQuantifier k ls
+      translateQuantifier k (range x env) (bodies x ls)
 
   -- the root's walk: no variable is free in it, so that any atoms do
   abbrev pub translateTree : Tree → Builder Literal

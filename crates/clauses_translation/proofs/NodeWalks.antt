@@ -5,7 +5,8 @@ use Prim.Native.Nat.{ℕ, _≤_}
 use lib.IntN.{ℤ}
 use Rattle.literal.specs.Literals.{Literal, opposite}
 use Rattle.sheet_rules.specs.Blocks.{Sheet, scope, sortOf}
-use Rattle.relational.specs.Trees.{Leaf, Binary, Unary, Comparison, Test, Connective, Quantifier, leaf-symbol, binary-symbol, unary-symbol}
+use Rattle.relational.specs.Trees.{Leaf, Binary, intersection, Unary, Comparison, Test, Connective, Quantifier}
+use Rattle.relational.specs.Trees.{leaf-symbol, binary-symbol, unary-symbol}
 use Rattle.relational.specs.Trees.{comparison-symbol, test-symbol, connective-symbol, quantifier-symbol, symbolOf}
 use Rattle.relational.specs.Matrices.{setOf}
 use Rattle.nodes.specs.declared.forms.Node.{Node}
@@ -18,13 +19,13 @@ use Rattle.nodes.proofs.ExpressionViews.{at-leaf, at-binary, at-unary, at-compr
 use Rattle.nodes.proofs.FormulaViews.{at-comparison, at-test, at-negation, at-connective, at-quantifier}
 use Rattle.clauses_rules.specs.Builder.{_<$>_}
 use Rattle.clauses_rules.specs.Translation.{translateBinary, translateUnary, translateComparison, translateTest, translateConnective}
-use Rattle.clauses_rules.specs.Translation.{translateQuantifier, translate, absent}
+use Rattle.clauses_rules.specs.Translation.{translateQuantifier, range, translate, absent}
 use Rattle.clauses_emission.specs.declared.Tape.{Tape}
 use Rattle.clauses_emission.specs.Emission.{Inside, AllInside, literalsOf, Bounded, Over, Emits}
 use Rattle.clauses_emission.proofs.Steps.{regular-map, emits-return, emits-bind, emits-map, emits-as}
 use Rattle.clauses_emission.proofs.Ranges.{inside-opposite, inside-absent}
 use Rattle.clauses_matrix.specs.declared.Literals.{Literals}
-use Rattle.clauses_matrix.specs.Matrices.{matrixOf, Operand, EmitsBinary, EmitsUnary}
+use Rattle.clauses_matrix.specs.Matrices.{matrixOf, Operand, EmitsMatrix, EmitsBinary, EmitsUnary}
 use Rattle.clauses_matrix.proofs.Regulars.{regular-binary, regular-unary, regular-comparison, regular-test, regular-connective}
 use Rattle.clauses_matrix.proofs.Regulars.{regular-quantifier}
 use Rattle.clauses_kinds.specs.Leaves.{LeafIs}
@@ -80,14 +81,24 @@ module _ {sheet : Sheet} (given : List ℤ) (env : List ℕ) {v : ℕ} {node : N
       (λ e. regular-expression sheet (literalsOf given) e (environment env)) translateUnary (λ o e. refl) regular-unary
       λ e t. at-unary (again h e t) p
 
-  pub comprehension-walks : {new : List ℤ} {after : Tape} {m : Literals} → node .expression ≡ form.Comprehension
-      → WalksBodies sheet given env (node .b) old before (node .a) m new after → WalksExpression sheet given env v old before m new after
+  pub comprehension-walks : {new out : List ℤ} {after end : Tape} {m z : Literals}
+      → node .expression ≡ form.Comprehension
+      → WalksBodies sheet given env (node .b) old before (node .a) m new after
+      → EmitsMatrix (translateBinary intersection (range sheet (literalsOf given) (node .a) (environment env))
+      (matrixOf m) (after .next))
+      new after z out end → WalksExpression sheet given env v old before z out end
   unfolding translate
-  comprehension-walks p w =
+  comprehension-walks p w c =
       record {
         walks = λ e t.
             let b = at-comprehension (again h e t) p in
-            rw (b .is) (w .walks (b .body .it) (b .body .is));
+            let n : ℕ = scope sheet (sortOf sheet (node .a)) in
+            let atoms = range sheet (literalsOf given) (node .a) (environment env) in
+            let s = bodyWalks sheet (literalsOf given) (b .body .it) (environment env) (node .a) in
+            let rs = regular-map (setOf n) s (regular-bodies sheet (literalsOf given) (b .body .it) (environment env) (node .a)) in
+            rw (b .is)
+            (emits-bind (setOf n <$> s) (translateBinary intersection atoms) rs (regular-binary intersection atoms)
+            (w .walks (b .body .it) (b .body .is)) c);
       }
 
 -- ---- formulas
@@ -144,7 +155,9 @@ module _ {sheet : Sheet} (given : List ℤ) (env : List ℕ) {v : ℕ} {node : N
   pub quantifier-walks : {new out : List ℤ} {after end : Tape} {m : Literals} {z : Literal} → node .formula ≡ claim.Quantifier
       → WalksBodies sheet given env (node .b) old before (node .a) m new after
       → ((o : Quantifier) → symbolOf (node .kind) ≡ quantifier-symbol o
-      → Emits (translateQuantifier o (matrixOf m .cells) (after .next)) new after z out end (λ n. Inside n z))
+      → Emits (translateQuantifier o (range sheet (literalsOf given) (node .a) (environment env)) (matrixOf m)
+      (after .next))
+      new after z out end (λ n. Inside n z))
       → WalksFormula sheet given env v old before z out end
   unfolding translate
   quantifier-walks p w c =
@@ -154,7 +167,8 @@ module _ {sheet : Sheet} (given : List ℤ) (env : List ℕ) {v : ℕ} {node : N
             let n : ℕ = scope sheet (sortOf sheet (node .a)) in
             let s = bodyWalks sheet (literalsOf given) (b .body .it) (environment env) (node .a) in
             let rs = regular-map (setOf n) s (regular-bodies sheet (literalsOf given) (b .body .it) (environment env) (node .a)) in
+            let atoms = range sheet (literalsOf given) (node .a) (environment env) in
             rw (b .is)
-            (emits-bind (setOf n <$> s) (λ m. translateQuantifier (b .it) (m .cells)) rs (λ m. regular-quantifier (b .it) (m .cells))
+            (emits-bind (setOf n <$> s) (translateQuantifier (b .it) atoms) rs (regular-quantifier (b .it) atoms)
             (w .walks (b .body .it) (b .body .is)) (c (b .it) (b .symbol)));
       }

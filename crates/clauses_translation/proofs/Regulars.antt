@@ -2,14 +2,13 @@
 use mathlib.Core.List.{List}
 use Prim.Native.Nat.{ℕ}
 use Rattle.literal.specs.Literals.{Literal, opposite}
-use Rattle.sheet_rules.specs.Blocks.{Sheet, scope, sortOf}
-use Rattle.relational.specs.Trees.{Expression, leaf, binary, unary, comprehension}
+use Rattle.sheet_rules.specs.Blocks.{Sheet}
+use Rattle.relational.specs.Trees.{intersection, Expression, leaf, binary, unary, comprehension}
 use Rattle.relational.specs.Trees.{Formula, comparison, test, negation, connective, quantified}
 use Rattle.relational.specs.Meaning.{Environment, bind}
-use Rattle.relational.specs.Matrices.{setOf}
 use Rattle.clauses_rules.specs.Builder.{_>>=_}
 use Rattle.clauses_rules.specs.Translation.{translateBinary, translateUnary, translateComparison, translateTest, translateConnective}
-use Rattle.clauses_rules.specs.Translation.{translateQuantifier, translate, translateFormula}
+use Rattle.clauses_rules.specs.Translation.{translateQuantifier, range, bodies, translate, translateFormula}
 use Rattle.clauses_emission.proofs.Steps.{Regular, regular-return, regular-map, regular-bind, regular-each}
 use Rattle.clauses_matrix.proofs.Regulars.{regular-binary, regular-unary, regular-comparison, regular-test, regular-connective}
 use Rattle.clauses_matrix.proofs.Regulars.{regular-quantifier}
@@ -28,8 +27,10 @@ module _ (sheet : Sheet) (cells : List Literal) where
     regular-expression (unary o e) env =
         regular-bind (translate sheet cells e env) (translateUnary o) (regular-expression e env) λ p. regular-unary o p
     regular-expression (comprehension x f) env =
-        regular-map (setOf (scope sheet (sortOf sheet x))) (bodyWalks sheet cells f env x)
+        regular-bind (bodyWalks sheet cells f env x)
+        (λ ls. translateBinary intersection (range sheet cells x env) (bodies sheet cells x ls))
         (regular-each (λ v. translateFormula sheet cells f (bind env x v)) (λ v. regular-formula f (bind env x v)) _)
+        λ ls. regular-binary intersection (range sheet cells x env) (bodies sheet cells x ls)
 
     pub regular-formula : (f : Formula) (env : Environment) → Regular (translateFormula sheet cells f env)
     regular-formula (comparison o e f) env =
@@ -47,9 +48,10 @@ module _ (sheet : Sheet) (cells : List Literal) where
         λ p. regular-bind (translateFormula sheet cells g env) (λ q. translateConnective o (p, q)) (regular-formula g env)
         λ q. regular-connective o (p, q)
     regular-formula (quantified k x f) env =
-        regular-bind (bodyWalks sheet cells f env x) (translateQuantifier k)
+        regular-bind (bodyWalks sheet cells f env x)
+        (λ ls. translateQuantifier k (range sheet cells x env) (bodies sheet cells x ls))
         (regular-each (λ v. translateFormula sheet cells f (bind env x v)) (λ v. regular-formula f (bind env x v)) _)
-        λ ls. regular-quantifier k ls
+        λ ls. regular-quantifier k (range sheet cells x env) (bodies sheet cells x ls)
 
   pub regular-bodies : (f : Formula) (env : Environment) (x : ℕ) → Regular (bodyWalks sheet cells f env x)
   regular-bodies f env x =

@@ -12,8 +12,9 @@ use clauses_emission::Tape;
 use clauses_emission::gates::negate;
 use clauses_kinds::apply::binary;
 use clauses_kinds::apply::compare;
+use clauses_kinds::apply::comprehend;
 use clauses_kinds::apply::connect;
-use clauses_kinds::apply::quantify;
+use clauses_kinds::apply::quantify_over;
 use clauses_kinds::apply::test;
 use clauses_kinds::apply::unary;
 use clauses_kinds::leaves::leaf;
@@ -67,7 +68,8 @@ fn expression(
             unary(list, kind, p)
         }
         ExpressionForm::Comprehension => {
-            bodies(list, tape, sheet, layout, given, starts, env, b, a)
+            let row = bodies(list, tape, sheet, layout, given, starts, env, b, a);
+            comprehend(list, sheet, layout, given, a, row)
         }
     }
 }
@@ -116,7 +118,7 @@ pub fn formula(
         }
         FormulaForm::Quantifier => {
             let row = bodies(list, tape, sheet, layout, given, starts, env, b, a);
-            quantify(list, kind, row)
+            quantify_over(list, sheet, layout, given, kind, a, row)
         }
     }
 }

@@ -2,6 +2,7 @@
 ghost use mathlib.Core.Path.{_≡_};
 ghost use Prim.Native.Nat.{_≤_};
 ghost use lib.ListN.{length, take};
+use cells::MOST_CELLS;
 use console_finder::print_answer;
 use console_finder::print_text;
 use console_finder::read_sheet;
@@ -30,7 +31,7 @@ fn print_cases(
     v: u32,
     values: &mut [u8; 16000],
     trail: &mut [i32; 16000],
-    instance: &mut [u8; 1024],
+    instance: &mut [u8; MOST_CELLS],
     text: &mut [u8; 2048],
 ) -> bool {
     let mut at = Position {
@@ -60,7 +61,7 @@ fn print_cases(
 fn list_cases(input: &[u8], list: &[i32], v: u32, text: &mut [u8; 2048]) -> bool {
     let mut values = [2u8; 16000];
     let mut trail = [0i32; 16000];
-    let mut instance = [0u8; 1024];
+    let mut instance = [0u8; MOST_CELLS];
     print_cases(input, list, v, &mut values, &mut trail, &mut instance, text)
 }
 

@@ -2,6 +2,7 @@
 // `console_finder_on` and `console_every` read and print with the same functions.
 ghost use Prim.Native.Nat.{_≤_};
 ghost use Rattle.io.specs.Counts.{Counts};
+use cells::MOST_CELLS;
 use console::Input;
 use report::finder::find_text;
 
@@ -37,7 +38,7 @@ fn answer(input: &[u8]) -> bool {
     let mut list = [0i32; WORDS];
     let mut values = [0u8; 16000];
     let mut trail = [0i32; 16000];
-    let mut instance = [0u8; 1024];
+    let mut instance = [0u8; MOST_CELLS];
     let mut text = [0u8; 2048];
     let k = find_text(
         input,

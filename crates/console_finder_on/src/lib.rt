@@ -1,5 +1,6 @@
 // The program of `./find --on`: the finder, with a search that goes on until it ends. It shows the steps done on standard error.
 ghost use Prim.Native.Nat.{_≤_};
+use cells::MOST_CELLS;
 use console_finder::print_answer;
 use console_finder::read_sheet;
 use onward::find_on_text;
@@ -9,7 +10,7 @@ fn answer(input: &[u8]) -> bool {
     let mut list = [0i32; 16384];
     let mut values = [0u8; 16000];
     let mut trail = [0i32; 16000];
-    let mut instance = [0u8; 1024];
+    let mut instance = [0u8; MOST_CELLS];
     let mut text = [0u8; 2048];
     let k = find_on_text(
         input,

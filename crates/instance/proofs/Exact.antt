@@ -7,8 +7,8 @@ use native.Mathlib.Omega.{arith}
 use Rattle.sheet_rules.specs.Blocks.{sheetOf}
 use Rattle.sheet_rules.specs.Reading as sheets
 use Rattle.sheet_rules.specs.Reading.{reading}
-use Rattle.relational.specs.Cells.{withinScopes}
-use Rattle.relational.specs.Meaning.{Satisfies}
+use Rattle.relational.specs.Cells.{hasCells}
+use Rattle.relational.specs.Meaning.{WithinScopes, Satisfies}
 use Rattle.instance.specs.Answers.{Answer, yes, no, refused, Answers, CheckAnswers}
 
 one-answer : (judged : sheets.Answer) (within : Bool) (statement : Type 0) (a b : Answer) → Answers judged within statement a
@@ -26,4 +26,5 @@ one-answer (sheets.accepted layout) true statement (refused n) b p q =
 pub unique : (sheet instance : List ℕ) (a b : Answer) → CheckAnswers sheet instance a → CheckAnswers sheet instance b → a ≡ b
 unfolding CheckAnswers
 unique sheet instance a b p q =
-    one-answer (reading sheet) (withinScopes (sheetOf sheet) instance) (Satisfies (sheetOf sheet) instance) a b p q
+    one-answer (reading sheet) (hasCells (sheetOf sheet) instance)
+    (WithinScopes (sheetOf sheet) instance × Satisfies (sheetOf sheet) instance) a b p q

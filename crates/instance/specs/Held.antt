@@ -5,13 +5,13 @@ use Prim.Native.Nat.{ℕ}
 use Rattle.sheet_rules.specs.Blocks.{Sheet, sheetOf}
 use Rattle.sheet_rules.specs.Reading as sheets
 use Rattle.sheet_rules.specs.Reading.{reading}
-use Rattle.relational.specs.Cells.{withinScopes}
+use Rattle.relational.specs.Cells.{hasCells}
 use Rattle.relational.specs.Evaluation.{holds}
 use Rattle.instance.specs.Answers.{Answer, yes, no, refused}
 
 -- of an accepted sheet
 unfoldable pub heldAnswer : Sheet → List ℕ → Answer
-heldAnswer sheet instance = cond (withinScopes sheet instance) (cond (holds sheet instance) yes no) (refused 11)
+heldAnswer sheet instance = cond (hasCells sheet instance) (cond (holds sheet instance) yes no) (refused 11)
 
 abbrev pub checkAfter : sheets.Answer → Sheet → List ℕ → Answer
 checkAfter (sheets.refused n) sheet instance = refused n

@@ -1,4 +1,5 @@
-// The check of an instance: does it satisfy the marks and the formula of a sheet (document 01, "Kinds and meanings")?
+// The check of an instance: is it within the scopes of a sheet, and does it satisfy marks and formula (document 01,
+// "Kinds and meanings")?
 // Its steps are in `instance_evaluation` and `instance_matrix`, in the order of section 2.2 of source document 001.
 ghost use mathlib.Core.Path.{_≡_};
 ghost use Rattle.sheet_rules.specs.Reading.{accepted, reading};
@@ -36,7 +37,7 @@ fn check_accepted(sheet: &[u8], layout: Layout, instance: &[u8]) -> Check
     }
 }
 
-// Whether the instance satisfies the marks and the formula of the sheet: what the answer means, and which it is.
+// Whether the instance is within the scopes and satisfies marks and formula: what the answer means, and which it is.
 pub fn check(sheet: &[u8], instance: &[u8]) -> Check
     ensures { λ r. ⌜ CheckAnswers (now (sheet .entry)) (now (instance .entry)) (answerOf r) ⌝ }
     ensures { λ r. ⌜ answerOf r ≡ checkAnswer (now (sheet .entry)) (now (instance .entry)) ⌝ }

@@ -29,11 +29,15 @@ module _ (sheet : Sheet) (r : ℕ) where
       → sized arity rows columns (flagsFrom instance first (rows * columns)) ≡ valueLeaf sheet instance relation r env
   relation-leaf instance env ef ea er ec = λ i. sized (ea i) (er i) (ec i) (flagsFrom instance (ef i) (er i * ec i))
 
-  -- row i of it, read as a set
+  -- row i of it: where it starts, and its cells read as a set
+  pub row-start : (i : ℕ) {first columns : ℕ} → first ≡ firstCell sheet r → columns ≡ rowLength sheet r
+      → first + i * columns ≡ cell sheet r i 0
+  row-start i ef ec = rw (ef, ec) (omega arith)
+
   pub row-cells : (instance : List ℕ) (i : ℕ) {first columns : ℕ} → first ≡ firstCell sheet r → columns ≡ rowLength sheet r
       → flagsFrom instance (first + i * columns) (1 * columns) ≡ rowCells sheet instance r i
   row-cells instance i {first} {columns} ef ec =
-      let place : first + i * columns ≡ cell sheet r i 0 = rw (ef, ec) (omega arith) in
+      let place : first + i * columns ≡ cell sheet r i 0 = row-start i ef ec in
       let one : 1 * columns ≡ rowLength sheet r = rw ec (omega arith) in
       λ j. flagsFrom instance (place j) (one j)
 
@@ -49,5 +53,5 @@ module _ {s starts : List ℕ} {l : Layout} (h : Located s l starts) where
     pub few : r < 16
     few = omega (arith, facts-of .counts .few-relations)
 
-    pub first-few : getD starts r 0 ≤ 960
+    pub first-few : getD starts r 0 ≤ 1024
     first-few = omega (arith, h .cells .first r there, first-most (sheetOf s) facts-of r, few)

@@ -5,13 +5,13 @@ use mathlib.Core.List.{List}
 use Prim.Native.Nat.{ℕ}
 use lib.ListN.{replicate}
 use Rattle.sheet_rules.specs.Blocks.{Sheet}
-use Rattle.relational.specs.Trees.{Leaf, Binary, Unary, Comparison, Test, Connective, Quantifier}
+use Rattle.relational.specs.Trees.{Leaf, Binary, intersection, Unary, Comparison, Test, Connective, Quantifier}
 use Rattle.relational.specs.Trees.{leaf-symbol, binary-symbol, unary-symbol, comparison-symbol, test-symbol, connective-symbol}
 use Rattle.relational.specs.Trees.{quantifier-symbol, symbolOf, Tree, expression, formula, broken}
 use Rattle.relational.specs.Matrices.{Matrix}
 use Rattle.relational.specs.Meaning.{Environment}
 use Rattle.relational.specs.Evaluation.{valueBinary, valueUnary, truthComparison, truthTest, truthConnective, truthQuantifier}
-use Rattle.relational.specs.Evaluation.{valueOf, valueLeaf, truthOfTree}
+use Rattle.relational.specs.Evaluation.{valueOf, valueLeaf, range, truthOfTree}
 use Rattle.nodes.specs.declared.forms.Node.{Node}
 use Rattle.nodes.specs.declared.forms.ExpressionForm.the-variants as form
 use Rattle.nodes.specs.declared.forms.FormulaForm.the-variants as claim
@@ -23,6 +23,7 @@ use Rattle.nodes.proofs.ExpressionViews.{at-leaf, at-binary, at-unary, at-compr
 use Rattle.nodes.proofs.FormulaViews.{at-comparison, at-test, at-negation, at-connective, at-quantifier}
 use Rattle.instance_matrix.specs.declared.Value.{Value}
 use Rattle.instance_matrix.specs.Values.{Gives, matrixOf}
+use Rattle.instance_matrix.proofs.Results.{gives-as}
 use Rattle.instance_evaluation.specs.Walking.{valueOfTree, truthInTree, bodiesOf}
 
 -- ---- 2.2.1 to 2.2.5: expressions
@@ -51,10 +52,14 @@ module _ {sheet : Sheet} {v : ℕ} {node : Node} (h : Reached sheet v node IsExp
         let b = at-unary h e in
         rw (h .tree .is, b .is) (rw (i .is, b .left .is) at (g (b .it) (b .symbol)))
 
-    pub comprehension-value : {r : Value} → node .expression ≡ form.Comprehension
-        → Gives r (bodiesOf sheet instance env (treeAt sheet (node .b)) (node .a)) → Gives r (value v)
+    pub comprehension-value : {p r : Value} → node .expression ≡ form.Comprehension
+        → Gives p (bodiesOf sheet instance env (treeAt sheet (node .b)) (node .a))
+        → Gives r (valueBinary intersection (range sheet instance (node .a) env) (matrixOf p)) → Gives r (value v)
     unfolding valueOfTree truthInTree valueOf
-    comprehension-value e g = let b = at-comprehension h e in rw (h .tree .is, b .is) (rw (b .body .is) at g)
+    comprehension-value {r} e i g =
+        let b = at-comprehension h e in
+        let bound = ap (λ (m : Matrix Bool). valueBinary intersection (range sheet instance (node .a) env) m) (i .is) in
+        rw (h .tree .is, b .is) (rw (b .body .is) at (gives-as r _ _ bound g))
 
 -- ---- 2.2.6: formulas
 module _ {sheet : Sheet} {v : ℕ} {node : Node} (h : Reached sheet v node IsFormula) where
@@ -94,12 +99,13 @@ module _ {sheet : Sheet} {v : ℕ} {node : Node} (h : Reached sheet v node IsFor
 
     pub quantifier-truth : {p : Value} {r : Bool} → node .formula ≡ claim.Quantifier
         → Gives p (bodiesOf sheet instance env (treeAt sheet (node .b)) (node .a))
-        → ((o : Quantifier) → symbolOf (node .kind) ≡ quantifier-symbol o → r ≡ truthQuantifier o (matrixOf p .cells)) → r ≡ truth v
+        → ((o : Quantifier) → symbolOf (node .kind) ≡ quantifier-symbol o
+        → r ≡ truthQuantifier o (range sheet instance (node .a) env) (matrixOf p)) → r ≡ truth v
     unfolding truthInTree valueOf
     quantifier-truth e i g =
         let b = at-quantifier h e in
-        rw (h .tree .is, b .is)
-        (rw (b .body .is) at (g (b .it) (b .symbol) ∙ ap (λ (m : Matrix Bool). truthQuantifier (b .it) (m .cells)) (i .is)))
+        let bound = ap (λ (m : Matrix Bool). truthQuantifier (b .it) (range sheet instance (node .a) env) m) (i .is) in
+        rw (h .tree .is, b .is) (rw (b .body .is) at (g (b .it) (b .symbol) ∙ bound))
 
 -- the walk of the root starts with atom 0 for each variable
 pub root-truth : (sheet : Sheet) (instance : List ℕ) (t : Tree)

@@ -9,13 +9,12 @@ ghost use Rattle.relational.specs.Evaluation.{valueLeaf};
 ghost use Rattle.cells.specs.Private.{Located};
 ghost use Rattle.instance_matrix.specs.Values.{Gives};
 ghost use Rattle.nodes.specs.Environments.{environment};
+use super::members::atoms;
 use cells::arity;
 use cells::row_count;
 use cells::row_length;
-use cells::scope;
 use cells::scope_of_variable;
 use instance_matrix::Value;
-use instance_matrix::basic::full;
 use instance_matrix::basic::given;
 use instance_matrix::basic::identity;
 use instance_matrix::basic::single;
@@ -53,7 +52,7 @@ pub(crate) fn leaf(
     match kind {
         1 => relation(sheet, layout, instance, starts, a),
         2 => single(scope_of_variable(sheet, layout, a), atom_at(env, a)),
-        3 => full(scope(sheet, layout, a)),
-        _ => identity(scope(sheet, layout, a)),
+        3 => atoms(sheet, layout, instance, a),
+        _ => identity(atoms(sheet, layout, instance, a)),
     }
 }

@@ -2,9 +2,13 @@
 ghost use mathlib.Core.Path.{_≡_};
 ghost use Prim.Native.Nat.{_<_};
 ghost use Rattle.sheet_rules.specs.Blocks.{sheetOf, relationCount};
+ghost use Rattle.sheet_rules.specs.Reading.{accepted, reading};
 ghost use Rattle.cells.specs.Private.{Located};
 ghost use Rattle.relational.specs.Evaluation as spec;
 ghost use Rattle.instance_evaluation.specs.Walking.{rowsHold};
+use super::members::is_member;
+use cells::arity;
+use cells::first_sort;
 use cells::multiplicity;
 use cells::row_count;
 use cells::row_length;
@@ -12,6 +16,19 @@ use instance_matrix::basic::given;
 use instance_matrix::marks::row_holds;
 use prelude::both;
 use sheet_rules::Layout;
+
+// Whether row i of relation r is bound: "Mark 2 .. binds only rows of members"; "A set's row is bound as before."
+// (document 02, Change 8).
+fn row_bound(sheet: &[u8], layout: Layout, instance: &[u8], r: usize, i: usize) -> bool
+    requires { ⌜ reading (now sheet) ≡ accepted layout ⌝ }
+    requires { ⌜ (r < 256) × (i < 8) ⌝ }
+    ensures { λ b. ⌜ b ≡ spec.rowBound (sheetOf (now (sheet .entry))) (now (instance .entry)) r i ⌝ }
+{
+    if arity(sheet, layout, r) == 1 {
+        return true;
+    }
+    is_member(sheet, layout, instance, first_sort(sheet, layout, r), i)
+}
 
 // The rows of relation r.
 fn rows_hold(sheet: &[u8], layout: Layout, instance: &[u8], starts: &[usize], r: usize) -> bool
@@ -27,7 +44,8 @@ fn rows_hold(sheet: &[u8], layout: Layout, instance: &[u8], starts: &[usize], r:
     let mut i: usize = 0;
     while i < rows {
         let row = given(instance, first + i * columns, 1, 1, columns);
-        fine = both(fine, row_holds(mark, row));
+        let bound = row_bound(sheet, layout, instance, r, i);
+        fine = both(fine, row_holds(mark, bound, row));
         i += 1;
     }
     fine

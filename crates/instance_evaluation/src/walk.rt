@@ -6,6 +6,8 @@ ghost use Rattle.cells.specs.Private.{Located};
 ghost use Rattle.instance_matrix.specs.Values.{Gives};
 ghost use Rattle.nodes.specs.Nodes.{IsExpression, IsFormula};
 ghost use Rattle.instance_evaluation.specs.Walking.{valueAt, truthAt, bodiesAt};
+use super::binders::comprehend;
+use super::binders::quantify_over;
 use super::leaves::leaf;
 use cells::scope_of_variable;
 use instance_matrix::Value;
@@ -13,7 +15,6 @@ use instance_matrix::operators::binary;
 use instance_matrix::operators::unary;
 use instance_matrix::truths::compare;
 use instance_matrix::truths::connect;
-use instance_matrix::truths::quantify;
 use instance_matrix::truths::test;
 use nodes::environments::bind;
 use nodes::forms::ExpressionForm;
@@ -54,7 +55,10 @@ fn expression(
             unary(kind, p)
         }
         // 2.2.6 comprehension: a binder, as the quantifiers
-        ExpressionForm::Comprehension => bodies(sheet, layout, instance, starts, env, b, a),
+        ExpressionForm::Comprehension => {
+            let row = bodies(sheet, layout, instance, starts, env, b, a);
+            comprehend(sheet, layout, instance, a, row)
+        }
     }
 }
 
@@ -98,7 +102,7 @@ pub(crate) fn formula(
         // 2.2.6 all and some
         FormulaForm::Quantifier => {
             let row = bodies(sheet, layout, instance, starts, env, b, a);
-            quantify(kind, row)
+            quantify_over(sheet, layout, instance, kind, a, row)
         }
     }
 }

@@ -5,15 +5,14 @@ use mathlib.Core.List.{List, [], _∷_, _++_, map}
 use Prim.Native.Nat.{ℕ, zero, suc, _+_, _≤_, _<_}
 use native.Mathlib.Numerals.{add-one}
 use native.Mathlib.Omega.{arith}
-use lib.Dec.{eqb, eqb·suc-suc}
+use lib.Dec.{leb}
 use lib.ListN.{length, getD, take}
 use lib.Seq.{take-suc}
-use borrow.Author.Tests.{ne-eqb}
 use Rattle.prelude.specs.Tests.{all, any}
 use Rattle.prelude.proofs.Laws.{all-append, any-append}
 use Rattle.relational.specs.Matrices.{upto}
 use Rattle.sheet_rules.specs.Blocks.{Sheet}
-use Rattle.relational.specs.Evaluation.{count, rowHolds}
+use Rattle.relational.specs.Evaluation.{count, implies, rowHolds}
 use Rattle.relational.proofs.Places.{upto-suc}
 use Rattle.instance_matrix.specs.Values.{counted}
 
@@ -71,20 +70,10 @@ count-take xs k total more l e h =
     h ∙ ap (λ (n : ℕ). counted n (getD xs k false)) e ∙ sym (count-last (take k xs) (getD xs k false))
     ∙ ap count (sym step)
 
-count-few : (xs : List Bool) → count xs ≤ length xs
-count-few [] = omega arith
-count-few (true ∷ xs) = omega (arith, count-few xs)
-count-few (false ∷ xs) = omega (arith, count-few xs)
-
-pub count-all : (xs : List Bool) → eqb (count xs) (length xs) ≡ all (λ (b : Bool). b) xs
-unfolding all
-count-all [] = refl
-count-all (true ∷ xs) = eqb·suc-suc (count xs) (length xs) ∙ count-all xs
-count-all (false ∷ xs) = ne-eqb (count xs) (suc (length xs)) (λ e. omega (arith, count-few xs))
-
 -- ---- 2.1.2 marks: one that is neither 0 nor 1
-pub exact-row : (sheet : Sheet) (instance : List ℕ) (mark : ℕ) (cells : List Bool) → (mark ≡ 0 → ⊥) → (mark ≡ 1 → ⊥)
-    → rowHolds sheet instance mark cells ≡ eqb (count cells) 1
-exact-row sheet instance zero cells h g = absurd (h refl)
-exact-row sheet instance (suc zero) cells h g = absurd (g refl)
-exact-row sheet instance (suc (suc m)) cells h g = refl
+pub exact-row : (sheet : Sheet) (instance : List ℕ) (mark : ℕ) (bound : Bool) (cells : List Bool) → (mark ≡ 0 → ⊥)
+    → (mark ≡ 1 → ⊥)
+    → rowHolds sheet instance mark bound cells ≡ (leb (count cells) 1 && implies (bound, leb 1 (count cells)))
+exact-row sheet instance zero bound cells h g = absurd (h refl)
+exact-row sheet instance (suc zero) bound cells h g = absurd (g refl)
+exact-row sheet instance (suc (suc m)) bound cells h g = refl

@@ -3,7 +3,7 @@ use mathlib.Core.Path.{_≡_, refl, sym, ap, ap₂, _∙_, subst}
 use mathlib.Core.Logic.{inl, inr}
 use mathlib.Core.Bool.{Bool, true, false, cond}
 use mathlib.Core.List.{List, map}
-use Prim.Native.Nat.{ℕ, _+_, _*_, _/_, _%_, _≤_}
+use Prim.Native.Nat.{ℕ, _+_, _*_, _/_, _%_, _≤_, _<_}
 use native.Mathlib.Omega.{arith}
 use lib.Dec.{eqb}
 use lib.ListN.{getD, take}
@@ -11,14 +11,14 @@ use borrow.Author.Tests.{eq-eqb, ne-eqb}
 use Rattle.prelude.specs.Tests.{any}
 use Rattle.sheet_rules.specs.Blocks.{byte}
 use Rattle.relational.specs.Trees.{join, product, inverse}
-use Rattle.relational.specs.Matrices.{Matrix, upto, Place, places, setOf, relationOf, sameSize, joinColumns, matched, middles, crossed}
+use Rattle.relational.specs.Matrices.{Matrix, upto, Place, places, setOf, relationOf, sameSize, cellAt, joinColumns}
+use Rattle.relational.specs.Matrices.{matched, middles, crossed}
 use Rattle.relational.specs.Evaluation.{both, joinCells, valueBinary, valueUnary}
-use Rattle.relational.proofs.Places.{map-map, length-map-from, from-at}
+use Rattle.relational.proofs.Places.{map-map, length-map-from, from-at, upto-at, row-below, square}
 use Rattle.instance_matrix.specs.declared.Value.{Value}
 use Rattle.instance_matrix.specs.declared.flags.Pairing.{Pairing}
 use Rattle.instance_matrix.specs.Values.{matrixOf, sized, flagsFrom, SetOrRelation, Fine, Gives, paired}
 use Rattle.instance_matrix.proofs.Filling.{Filled, filled-list, filled-upto, filled-places, cells-of}
-use Rattle.relational.proofs.Places.{square}
 
 abbrev pub value : ℕ → ℕ → ℕ → List Bool → Value
 value arity rows columns cells = record { arity = arity; rows = rows; columns = columns; cells = cells }
@@ -66,6 +66,37 @@ places-law r c g cells k e hr hc u =
     let w : Filled cells (λ j. g (j / c, j % c)) (r * c) = subst (λ (m : ℕ). Filled cells (λ j. g (j / c, j % c)) m) e u in
     gives 2 r c cells (λ j. g (j / c, j % c)) (map g (places r c)) hr hc (inr refl) w
     (filled-places cells r c g w (square hr hc))
+
+-- the identity on the atoms of a set
+module _ (p : Value) (fp : Fine p) (n : ℕ) (f : ℕ → Bool) (e : matrixOf p ≡ setOf n (map f (upto n))) where
+  wide : p .columns ≡ n
+  wide = ap (λ (m : Matrix Bool). m .columns) e
+
+  atom-at : (i : ℕ) → i < p .columns → getD (p .cells) i false ≡ f i
+  atom-at i l =
+      ap (λ (x : ℕ → Bool). x i) (sym (cells-of p fp)) ∙ ap (λ (m : Matrix Bool). cellAt false m i) e
+      ∙ upto-at f false n i (omega (arith, wide))
+
+  abbrev onDiagonal : Place → Bool
+  onDiagonal t = cond (eqb (t .0) (t .1)) (f (t .0)) false
+
+  pub identity-law : (cells : List Bool) (k : ℕ) → k ≡ p .columns * p .columns
+      → Filled cells (λ j. cond (eqb (j / p .columns) (j % p .columns)) (getD (p .cells) (j / p .columns) false) false)
+      k
+      → Gives (value 2 (p .columns) (p .columns) cells) (relationOf n n (map onDiagonal (places n n)))
+  identity-law cells k ek u =
+      let c : ℕ = p .columns in
+      let w : Filled cells (λ j. onDiagonal (j / c, j % c)) k
+      = record {
+        long = u .long;
+        done = λ j l.
+            u .done j l
+            ∙ ap (λ (b : Bool). cond (eqb (j / c) (j % c)) b false)
+            (atom-at (j / c) (row-below c c j (omega (arith, ek))));
+        rest = u .rest;
+      } in
+      gives-as _ _ _ (ap (λ (m : ℕ). relationOf m m (map onDiagonal (places m m))) wide)
+      (places-law c c onDiagonal cells k ek (fp .few-columns) (fp .few-columns) w)
 
 -- ---- two operands
 module _ (p q : Value) (fp : Fine p) (fq : Fine q) where

@@ -1,8 +1,10 @@
 // 2.2.1 Basic expressions: what a relation, a variable, a sort and an identity stand for; union, intersection, difference.
-ghost use mathlib.Core.Bool.{true, false};
+ghost use mathlib.Core.Path.{_≡_};
+ghost use mathlib.Core.Bool.{Bool, true, false, cond};
 ghost use mathlib.Core.List.{map};
 ghost use Prim.Native.Nat.{ℕ, _*_, _≤_};
 ghost use lib.Dec.{eqb};
+ghost use Rattle.relational.specs.Cells.{mostCells};
 ghost use Rattle.relational.specs.Matrices as matrices;
 ghost use Rattle.relational.specs.Matrices.{setOf, relationOf, upto, places, Place};
 ghost use Rattle.instance_matrix.specs.Values.{matrixOf, Fine, Gives, SetOrRelation, sized, flagsFrom, paired};
@@ -10,11 +12,12 @@ use super::Value;
 use super::flags::Pairing;
 use super::flags::pair;
 use super::size;
+use prelude::choose;
 use sheet::bytes::byte;
 
 // Kind 1, a relation, or a row of one: its cells from the first on, true where the byte is 1.
 pub fn given(instance: &[u8], first: usize, arity: usize, rows: usize, columns: usize) -> Value
-    requires { ⌜ (first ≤ 1024) × ((rows ≤ 8) × (columns ≤ 8)) ⌝ }
+    requires { ⌜ (first ≤ mostCells) × ((rows ≤ 8) × (columns ≤ 8)) ⌝ }
     requires { ⌜ SetOrRelation arity rows ⌝ }
     ensures { λ r. ⌜ Gives r (sized arity rows columns (flagsFrom (now (instance .entry)) first (rows * columns))) ⌝ }
 {
@@ -52,7 +55,7 @@ pub fn single(n: usize, atom: usize) -> Value
     }
 }
 
-// Kind 3, a sort of n: all its atoms.
+// Kind 3, a sort of n that is not bounded: all its atoms. (Of a bounded one, `given` reads its membership cells.)
 pub fn full(n: usize) -> Value
     requires { ⌜ n ≤ 8 ⌝ }
     ensures { λ r. ⌜ Gives r (setOf n (map (λ (i : ℕ). true) (upto n))) ⌝ }
@@ -71,16 +74,18 @@ pub fn full(n: usize) -> Value
     }
 }
 
-// Kind 4: the identity on a sort of n.
-pub fn identity(n: usize) -> Value
-    requires { ⌜ n ≤ 8 ⌝ }
-    ensures { λ r. ⌜ Gives r (relationOf n n (map (λ (t : Place). eqb (t .0) (t .1)) (places n n))) ⌝ }
+// Kind 4: the identity on the atoms of a set.
+pub fn identity(p: Value) -> Value
+    requires { ⌜ Fine p ⌝ }
+    ensures { λ r. ⌜ ((n : ℕ) (f : ℕ → Bool) → matrixOf p ≡ setOf n (map f (upto n))
+        → Gives r (relationOf n n (map (λ (t : Place). cond (eqb (t .0) (t .1)) (f (t .0)) false) (places n n)))) ⌝ }
 {
+    let n = p.columns;
     let count = size(n, n);
     let mut cells = [false; 64];
     let mut k: usize = 0;
     while k < count {
-        cells[k] = k / n == k % n;
+        cells[k] = choose(k / n == k % n, p.cells[k / n], false);
         k += 1;
     }
     Value {

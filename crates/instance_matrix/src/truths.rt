@@ -10,6 +10,7 @@ ghost use Rattle.relational.specs.Evaluation as spec;
 ghost use Rattle.relational.specs.Evaluation.{truthConnective};
 ghost use Rattle.instance_matrix.specs.Values.{matrixOf, Fine, counted, paired};
 use super::Value;
+use super::basic::matched;
 use super::flags::Pairing;
 use super::flags::pair;
 use super::size;
@@ -91,14 +92,15 @@ pub fn connect(kind: usize, a: bool, b: bool) -> bool
     }
 }
 
-// Kinds 40 and 41, over the truths of the bodies: for all, for some.
-pub fn quantify(kind: usize, p: Value) -> bool
-    requires { ⌜ Fine p ⌝ }
-    ensures { λ r. ⌜ ((o : Quantifier) → symbolOf kind ≡ quantifier-symbol o → r ≡ spec.truthQuantifier o (matrixOf p .cells)) ⌝ }
+// Kinds 40 and 41, over the atoms and the set of those for which the body holds: for all, for some.
+pub fn quantify(kind: usize, atoms: Value, bodies: Value) -> bool
+    requires { ⌜ Fine atoms ⌝ }
+    requires { ⌜ Fine bodies ⌝ }
+    ensures { λ r. ⌜ ((o : Quantifier) → symbolOf kind ≡ quantifier-symbol o
+        → r ≡ spec.truthQuantifier o (matrixOf atoms) (matrixOf bodies)) ⌝ }
 {
-    let n = count(p);
     match kind {
-        40 => n == size(p.rows, p.columns),
-        _ => 1 <= n,
+        40 => all_matched(Pairing::Implies, atoms, bodies),
+        _ => 1 <= count(matched(Pairing::Both, atoms, bodies)),
     }
 }

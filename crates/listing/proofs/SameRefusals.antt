@@ -14,7 +14,7 @@ use Rattle.sheet_rules.specs.declared.Layout.{Layout}
 use Rattle.sheet_rules.specs.Blocks.{sheetOf, relationCount}
 use Rattle.sheet_rules.specs.Reading.{accepted, reading}
 use Rattle.sheet_rules.proofs.Acceptance.{accepted-facts}
-use Rattle.relational.specs.Cells.{cellCount}
+use Rattle.relational.specs.Cells.{mostCells, cellCount}
 use Rattle.cells.proofs.Layouts.{first-most}
 use Rattle.clauses.specs.Answers as count
 use Rattle.clauses.specs.Answers.{countAnswer, writeAfter, writeAnswer}
@@ -31,7 +31,7 @@ use Rattle.listing.specs.Laws.{FinderSlices, SameRefusals}
 use Rattle.listing.proofs.Beginning.{long-refused, short-writes, begun-writes}
 
 -- at most 16 relations of 64 cells
-few-cells : (s : List ℕ) (l : Layout) → reading s ≡ accepted l → cellCount (sheetOf s) ≤ 1024
+few-cells : (s : List ℕ) (l : Layout) → reading s ≡ accepted l → cellCount (sheetOf s) ≤ mostCells
 few-cells s l e =
     let f = accepted-facts s l e in
     omega (arith, first-most (sheetOf s) f (relationCount (sheetOf s)), f .counts .few-relations)

@@ -15,7 +15,7 @@ use Rattle.search.specs.Answers.{found}
 use Rattle.solve_rules.specs.Answers.{copied, refused, hasValues, readBackAfter, readBackAnswer, instanceAfter}
 use Rattle.solve_rules.specs.Demand3.{FitsLimits, ReadsBack}
 use Rattle.solve_rules.proofs.Calls.{counts}
-use Rattle.report.specs.Printed.{relationLines}
+use Rattle.report.specs.Printed.{instanceLines}
 use Rattle.report.proofs.Tells.{lines-of}
 use Rattle.report.proofs.Texts.{as-report}
 use Rattle.listing.specs.Laws.{ShowsRead}
@@ -33,8 +33,9 @@ module _ (s values lent instance : List ℕ) (h : FitsLimits s) (r : ReadsBack s
       all-copied (hasValues (sheetOf s) (variableTotal (sheetOf s)) values) (leb (cellCount (sheetOf s)) (length lent)) _ _
       (sym (ap (λ a. readBackAfter a (sheetOf s) values (length lent)) (counts s h)) ∙ r .answer)
 
-  lines-read : relationLines (sheetOf s) (instanceAfter s values lent) ≡ relationLines (sheetOf s) instance
-  lines-read = ap (relationLines (sheetOf s)) (r .copies) ∙ lines-of (sheetOf s) instance (drop (length instance) lent) cells-read
+  lines-read : instanceLines (sheetOf s) (instanceAfter s values lent) ≡ instanceLines (sheetOf s) instance
+  lines-read = ap (instanceLines (sheetOf s)) (r .copies)
+      ∙ lines-of (sheetOf s) instance (drop (length instance) lent) cells-read
 
 pub shows-read : ShowsRead
 shows-read s values lent instance steps h r =

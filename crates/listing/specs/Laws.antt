@@ -5,6 +5,7 @@ use Prim.Native.Nat.{ℕ}
 use lib.ListN.{length}
 use Rattle.text.specs.Texts.{bytesOf, endLine}
 use Rattle.sheet_rules.specs.Blocks.{sheetOf}
+use Rattle.relational.specs.Cells.{mostCells}
 use Rattle.clauses.specs.Answers as count
 use Rattle.search_rules.specs.declared.Steps.{Steps}
 use Rattle.search_rules.specs.Run.{total}
@@ -12,7 +13,7 @@ use Rattle.search.specs.Answers.{found, refused}
 use Rattle.solve_rules.specs.Answers.{instanceAfter}
 use Rattle.solve_rules.specs.Finding.{Slices, finding}
 use Rattle.solve_rules.specs.Demand3.{FitsLimits, ReadsBack}
-use Rattle.report.specs.Printed.{relationLines, answerText, findingText}
+use Rattle.report.specs.Printed.{instanceLines, answerText, findingText}
 use Rattle.listing.specs.Printed.{beginning}
 
 -- slices as long as those of the finder
@@ -20,7 +21,7 @@ pub record FinderSlices (lent : Slices) : Type 0 where
   pub list : length (lent .list) ≡ 16384
   pub values : length (lent .values) ≡ 16000
   pub trail : length (lent .trail) ≡ 16000
-  pub instance : length (lent .instance) ≡ 1024
+  pub instance : length (lent .instance) ≡ mostCells
 
 -- "a refusal is printed as the finder prints it", within any budget
 pub record RefusedAlike (budget : ℕ) (input : List ℕ) (lent : Slices) : Type 0 where
@@ -35,4 +36,4 @@ SameRefusals = (budget : ℕ) (input : List ℕ) (lent : Slices) → FinderSlice
 -- the lines printed of a case are those of the instance that read-back answers, which is the one of `every-case` (demand 3)
 abbrev pub ShowsRead : Type 0
 ShowsRead = (s values lent instance : List ℕ) (steps : Steps) → FitsLimits s → ReadsBack s values lent instance
-    → answerText (found steps) s (instanceAfter s values lent) ≡ endLine (bytesOf "found ") (total steps) ++ relationLines (sheetOf s) instance
+    → answerText (found steps) s (instanceAfter s values lent) ≡ endLine (bytesOf "found ") (total steps) ++ instanceLines (sheetOf s) instance

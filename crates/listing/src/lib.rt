@@ -12,6 +12,7 @@ ghost use Rattle.clauses.specs.Answers.{countAnswer};
 ghost use Rattle.listing.specs.Printed.{finderNumber, beginning, listBegun, begunText, begunOf, bytesIn, standing, isFound, shown};
 use answer::Begun;
 use answer::Piece;
+use cells::MOST_CELLS;
 use clauses::answer::Count;
 use refusal::Refusal;
 use report::finder::put_answer;
@@ -108,7 +109,7 @@ pub fn next_text(
     trail: &mut [i32; 16000],
     position: Position,
     budget: u64,
-    instance: &mut [u8; 1024],
+    instance: &mut [u8; MOST_CELLS],
     text: &mut [u8; 2048],
 ) -> Piece
     ensures { λ r. ⌜ (r .bytes ≤ length (now (text .exit))) × (r .bytes ≡ length (take (r .bytes) (now (text .exit)))) ⌝ }

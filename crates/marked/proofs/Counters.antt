@@ -13,11 +13,11 @@ use Rattle.sheet_rules.specs.Tables as tables
 use Rattle.sheet_rules.specs.Tables.{shapeStep, freeStep, visitsStep}
 use Rattle.sheet_rules.specs.Reading.{counted, scoped, declared, nodesFine, shaped, rooted, walkable, reading}
 use Rattle.relational.specs.Trees.{symbolOf, treeStep}
-use Rattle.relational.specs.Cells.{firstCell}
+use Rattle.relational.specs.Cells.{firstMember, firstCell}
 use Rattle.clauses_rules.specs.Builder as builder
 use Rattle.clauses_rules.specs.Gates.{remaining, or, inputClauses, gatesClauses}
 use Rattle.clauses_rules.specs.Translation.{translate}
-use Rattle.clauses_rules.specs.Whole.{series, markClauses, rootWalk, clauses, words, variableTotal}
+use Rattle.clauses_rules.specs.Whole.{series, memberClauses, markClauses, rootWalk, clauses, words, variableTotal}
 use Rattle.clauses.specs.Answers.{countAnswer, writeAnswer, listAfter}
 use Rattle.search_rules.specs.Rules.{truthOf, negated, literal, isFalsified, isSatisfied, conflict, openOf, sameLiteral, only, unitOf}
 use Rattle.search_rules.specs.Rules.{firstUnit, lowestOpen, wordOf, byteOf, placeOf, valuesOf, trailOf, turn, decide, next}
@@ -25,7 +25,7 @@ use Rattle.search_rules.specs.Run.{tally, total, count, run}
 use Rattle.search.specs.Answers.{Answer, found, none, spent, answerAt, valuesAt, trailAt, outcome}
 use Rattle.solve_rules.specs.Answers.{readBackAnswer, instanceAfter}
 use Rattle.solve_rules.specs.Finding.{Slices, slices, finding}
-use Rattle.report.specs.Printed.{relationLines, findingText}
+use Rattle.report.specs.Printed.{relationLines, memberLines, findingText}
 
 -- two sets r and s over a sort of one atom, and nodes 0 to 3: r, some r, s, some s; then other nodes
 abbrev pub twoSets : List ℕ → List ℕ
@@ -75,8 +75,9 @@ shown row = record { answer = finding (row .sheet) lent (row .budget) .answer; t
 
 pub counters : map shown rows ≡ map (λ row. record { answer = row .answer; text = bytesOf (row .prints) }) rows
 unfolding digits decimal rowOf each all any tables.table shapeStep freeStep visitsStep counted scoped declared nodesFine shaped rooted walkable
-    reading symbolOf treeStep firstCell builder.each remaining or inputClauses gatesClauses translate series markClauses rootWalk clauses words
+    reading symbolOf treeStep firstMember firstCell builder.each remaining or inputClauses gatesClauses translate series
+    memberClauses markClauses rootWalk clauses words
     wordsOf variableTotal countAnswer writeAnswer listAfter cut wellCut isList truthOf negated literal isFalsified isSatisfied conflict openOf
     sameLiteral only unitOf firstUnit lowestOpen wordOf byteOf placeOf valuesOf trailOf turn decide next total count run answerAt valuesAt
-    trailAt outcome readBackAnswer instanceAfter finding relationLines findingText
+    trailAt outcome readBackAnswer instanceAfter finding relationLines memberLines findingText
 counters = refl

@@ -12,14 +12,14 @@ use Rattle.sheet_rules.specs.Tables as tables
 use Rattle.sheet_rules.specs.Tables.{shapeStep, visitsStep}
 use Rattle.sheet_rules.specs.Reading.{counted, scoped, declared, nodesFine, shaped, rooted, walkable, reading}
 use Rattle.relational.specs.Trees.{symbolOf, treeStep}
-use Rattle.relational.specs.Cells.{firstCell, withinScopes}
+use Rattle.relational.specs.Cells.{firstMember, firstCell, hasCells}
 use Rattle.relational.specs.Matrices.{rounds}
-use Rattle.relational.specs.Evaluation.{valueOf, marksHold, holds}
+use Rattle.relational.specs.Evaluation.{valueOf, marksHold, cellsInside, holds}
 use Rattle.instance.specs.Held.{heldAnswer, checkAnswer}
 use Rattle.clauses_rules.specs.Builder as builder
 use Rattle.clauses_rules.specs.Gates.{remaining, or, inputClauses, gatesClauses}
 use Rattle.clauses_rules.specs.Translation.{afterRounds, translate}
-use Rattle.clauses_rules.specs.Whole.{series, markClauses, rootWalk, clauses, words, variableTotal}
+use Rattle.clauses_rules.specs.Whole.{series, memberClauses, markClauses, rootWalk, clauses, words, variableTotal}
 use Rattle.clauses.specs.Answers as count
 use Rattle.clauses.specs.Answers.{countAnswer, writeAnswer, listAfter}
 use Rattle.search_rules.specs.declared.Steps.{Steps}
@@ -38,6 +38,7 @@ use Rattle.solve_rules.specs.Answers as back
 use Rattle.solve_rules.specs.Answers.{readBackAnswer, instanceAfter}
 use Rattle.marked.specs.Table.{neg, k1, k2, k3, k5, k6}
 use Rattle.marked.proofs.Counters.{twoSets}
+use Rattle.marked.proofs.Limits.{k1-bounded, k3-bounded}
 use Rattle.marked.proofs.Smallest.{instances, satisfying}
 
 -- a call by its budget: its answer, the values, the trail and the record that it leaves, and what read-back makes of these values
@@ -132,6 +133,22 @@ k2-calls =
 abbrev k3-calls : List Call
 k3-calls = allOpen 4 1000000 none (tally 4 0 0) ∷ allOpen 4 1000000 none (tally 8 0 0) ∷ []
 
+-- K1 with up to 2 atoms: in the order of the members, then of the set; no instance has a 1 of a non-member
+abbrev k1-bounded-calls : List Call
+k1-bounded-calls =
+    full 1000000 found (tally 5 1 0) (1 ∷ 3 ∷ 1 ∷ 0 ∷ 1 ∷ 1 ∷ [])
+    (pos 1 ∷ pos 6 ∷ neg 2 ∷ neg 4 ∷ pos 5 ∷ pos 3 ∷ []) (0 ∷ 1 ∷ 0 ∷ 1 ∷ [])
+    ∷ full 1000000 found (tally 7 2 1) (1 ∷ 1 ∷ 3 ∷ 1 ∷ 0 ∷ 1 ∷ [])
+    (pos 1 ∷ pos 6 ∷ pos 2 ∷ neg 3 ∷ neg 5 ∷ pos 4 ∷ []) (1 ∷ 0 ∷ 1 ∷ 0 ∷ [])
+    ∷ full 1000000 found (tally 8 3 2) (1 ∷ 1 ∷ 1 ∷ 3 ∷ 1 ∷ 1 ∷ [])
+    (pos 1 ∷ pos 6 ∷ pos 2 ∷ pos 3 ∷ neg 4 ∷ pos 5 ∷ []) (1 ∷ 1 ∷ 0 ∷ 1 ∷ [])
+    ∷ full 1000000 found (tally 8 4 3) (1 ∷ 1 ∷ 1 ∷ 1 ∷ 3 ∷ 1 ∷ [])
+    (pos 1 ∷ pos 6 ∷ pos 2 ∷ pos 3 ∷ pos 4 ∷ neg 5 ∷ []) (1 ∷ 1 ∷ 1 ∷ 0 ∷ [])
+    ∷ full 1000000 found (tally 8 4 4) (1 ∷ 1 ∷ 1 ∷ 1 ∷ 1 ∷ 1 ∷ [])
+    (pos 1 ∷ pos 6 ∷ pos 2 ∷ pos 3 ∷ pos 4 ∷ pos 5 ∷ []) (1 ∷ 1 ∷ 1 ∷ 1 ∷ [])
+    ∷ allOpen 6 1000000 none (tally 8 4 4)
+    ∷ []
+
 -- K5: two choices; the latest is turned first, then the other
 abbrev k5-calls : List Call
 k5-calls =
@@ -166,6 +183,9 @@ rows =
     ∷ row k1 2 k1-small
     ∷ row k2 2 k2-calls
     ∷ row k3 2 k3-calls
+    ∷ row k1-bounded 4 k1-bounded-calls
+    -- K3 with up to 2 atoms
+    ∷ row k3-bounded 4 (allOpen 6 1000000 none (tally 4 0 0) ∷ [])
     ∷ row k5 2 k5-calls
     ∷ row k6 1 k6-calls
     ∷ row neither 2 neither-calls
@@ -216,7 +236,8 @@ inFull c =
 
 pub every-call : map (λ row. shownAfter (countAnswer (row .sheet)) row) rows ≡ map (λ row. map inFull (row .calls)) rows
 unfolding rowOf each all any tables.table shapeStep visitsStep counted scoped declared nodesFine shaped rooted walkable reading
-    symbolOf treeStep firstCell rounds builder.each remaining or inputClauses gatesClauses afterRounds translate series markClauses rootWalk
+    symbolOf treeStep firstMember firstCell rounds builder.each remaining or inputClauses gatesClauses afterRounds
+    translate series memberClauses markClauses rootWalk
     clauses words wordsOf variableTotal countAnswer writeAnswer listAfter cut wellCut isList truthOf negated literal isFalsified isSatisfied
     conflict openOf sameLiteral only unitOf firstUnit lowestOpen wordOf byteOf placeOf valuesOf trailOf turn decide next total run.count
     run.run firstStep followingRun repeats goesWith noState entryOf stateIn takenUp answerAt valuesAt trailAt readBackAnswer instanceAfter
@@ -232,5 +253,5 @@ given (c ∷ calls) =
 -- they are those that the check says yes to, in order and each once
 pub all-given : map (λ row. given (row .calls)) rows ≡ map (λ row. satisfying (row .sheet) (instances (row .cells))) rows
 unfolding rowOf each all tables.table shapeStep visitsStep counted scoped declared nodesFine shaped rooted walkable reading
-    symbolOf treeStep firstCell withinScopes rounds valueOf marksHold holds heldAnswer checkAnswer
+    symbolOf treeStep firstMember firstCell hasCells rounds valueOf marksHold cellsInside holds heldAnswer checkAnswer
 all-given = refl

@@ -17,15 +17,15 @@ use Rattle.sheet_rules.specs.Tables as tables
 use Rattle.sheet_rules.specs.Tables.{shapeStep, freeStep, visitsStep}
 use Rattle.sheet_rules.specs.Reading.{counted, scoped, declared, nodesFine, shaped, rooted, walkable, reading}
 use Rattle.relational.specs.Trees.{symbolOf, treeStep}
-use Rattle.relational.specs.Cells.{firstCell, withinScopes}
+use Rattle.relational.specs.Cells.{firstMember, firstCell, hasCells}
 use Rattle.relational.specs.Evaluation as evaluation
-use Rattle.relational.specs.Evaluation.{valueOf, marksHold, holds}
+use Rattle.relational.specs.Evaluation.{valueOf, marksHold, cellsInside, holds}
 use Rattle.instance.specs.Answers as check
 use Rattle.instance.specs.Held.{heldAnswer, checkAnswer}
 use Rattle.clauses_rules.specs.Builder as builder
 use Rattle.clauses_rules.specs.Gates.{remaining, or, inputClauses, gatesClauses}
 use Rattle.clauses_rules.specs.Translation.{translate}
-use Rattle.clauses_rules.specs.Whole.{series, markClauses, rootWalk, clauses, words, variableTotal}
+use Rattle.clauses_rules.specs.Whole.{series, memberClauses, markClauses, rootWalk, clauses, words, variableTotal}
 use Rattle.clauses.specs.Answers.{countAnswer, writeAnswer, listAfter}
 use Rattle.search_rules.specs.Rules.{truthOf, negated, literal, isFalsified, isSatisfied, conflict, openOf, sameLiteral, only, unitOf}
 use Rattle.search_rules.specs.Rules.{firstUnit, lowestOpen, wordOf, byteOf, placeOf, valuesOf, trailOf, turn, decide, next}
@@ -33,7 +33,7 @@ use Rattle.search_rules.specs.Run.{total, count, run}
 use Rattle.search.specs.Answers.{answerAt, valuesAt, trailAt, outcome}
 use Rattle.solve_rules.specs.Answers.{readBackAnswer, instanceAfter}
 use Rattle.solve_rules.specs.Finding.{Slices, slices, finding}
-use Rattle.report.specs.Printed.{finderBudget, relationLines, findingText}
+use Rattle.report.specs.Printed.{finderBudget, relationLines, memberLines, findingText}
 use Rattle.marked.specs.Table.{k1, k2}
 
 -- three sets r, s and t over a sort of one atom, with "r or s", "r or not s" and "s or t". With r false s is forced and clashes, and r is
@@ -99,11 +99,13 @@ shown row =
 
 pub smallest : map shown rows ≡ map (λ row. record { satisfy = row .first ∷ row .others; left = row .first; text = bytesOf (row .prints) }) rows
 unfolding rowOf each all any digits decimal tables.table shapeStep freeStep visitsStep counted scoped declared nodesFine shaped
-    rooted walkable reading symbolOf treeStep firstCell withinScopes valueOf evaluation.truthOf marksHold holds heldAnswer checkAnswer
-    builder.each remaining or inputClauses gatesClauses translate series markClauses rootWalk clauses words wordsOf variableTotal
+    rooted walkable reading symbolOf treeStep firstMember firstCell hasCells valueOf evaluation.truthOf marksHold
+    cellsInside holds heldAnswer checkAnswer
+    builder.each remaining or inputClauses gatesClauses translate series memberClauses markClauses rootWalk clauses
+    words wordsOf variableTotal
     countAnswer writeAnswer listAfter cut wellCut isList truthOf negated literal isFalsified isSatisfied conflict openOf sameLiteral only
     unitOf firstUnit lowestOpen wordOf byteOf placeOf valuesOf trailOf turn decide next total count run answerAt valuesAt trailAt outcome
-    readBackAnswer instanceAfter finding relationLines findingText
+    readBackAnswer instanceAfter finding relationLines memberLines findingText
 smallest = refl
 
 -- each comes before the next

@@ -9,6 +9,7 @@ use Rattle.prelude.specs.Order.{Each}
 use Rattle.text.specs.Texts.{bytesOf}
 use Rattle.sheet_rules.specs.declared.Layout.{Layout}
 use Rattle.sheet_rules.specs.Reading.{Answer, accepted, refused, reading}
+use Rattle.relational.specs.Cells.{mostCells}
 use Rattle.instance.specs.Answers as check
 use Rattle.instance.specs.Held.{checkAnswer}
 use Rattle.clauses.specs.Answers as count
@@ -33,7 +34,7 @@ lentText = replicate 300 9
 
 -- what the finder lends: "with 16,384 clause words", and room for all variables and cells that there can be
 abbrev pub finderLent : Slices
-finderLent = slices (replicate 16384 (pos 0)) (replicate 16000 0) (replicate 16000 (pos 0)) (replicate 1024 0)
+finderLent = slices (replicate 16384 (pos 0)) (replicate 16000 0) (replicate 16000 (pos 0)) (replicate mostCells 0)
 
 -- the calls that take a sheet, and what `cnf` and the finder print for it
 pub record Calls : Type 0 where

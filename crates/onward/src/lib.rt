@@ -10,6 +10,7 @@ ghost use Rattle.report.specs.Printed.{findingText, slicesAfter};
 ghost use Rattle.report.specs.Tells.{Tells};
 ghost use Rattle.onward.specs.Limits.{mostSteps};
 use begun::take_up;
+use cells::MOST_CELLS;
 use report::finder::put_report;
 use search::answer::Search;
 use solve::find;
@@ -52,7 +53,7 @@ pub fn find_on_text(
     list: &mut [i32; 16384],
     values: &mut [u8; 16000],
     trail: &mut [i32; 16000],
-    instance: &mut [u8; 1024],
+    instance: &mut [u8; MOST_CELLS],
     text: &mut [u8; 2048],
 ) -> usize
     ensures { λ r. ⌜ (r ≤ length (now (text .exit))) × (r ≡ length (take r (now (text .exit)))) ⌝ }

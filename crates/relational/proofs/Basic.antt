@@ -1,18 +1,19 @@
 -- 2.2.1 Basic expressions: what the leaves stand for, and union, intersection, difference from what the operands stand for.
 use mathlib.Core.Path.{_≡_, refl, ap, _∙_, subst}
 use mathlib.Core.Logic.{⊎-elim}
-use mathlib.Core.Bool.{Bool, true, false}
+use mathlib.Core.Bool.{Bool, true, false, cond, false≢true}
 use mathlib.Core.List.{List, map}
 use Prim.Native.Nat.{ℕ, _+_, _*_, _<_}
 use native.Mathlib.Omega.{arith}
 use lib.Dec.{eqb}
 use lib.ListN.{getD}
-use Rattle.sheet_rules.specs.Blocks.{Sheet, byte, scope, sortOf, columns, firstSort, secondSort}
+use Rattle.sheet_rules.specs.Blocks.{Sheet, byte, scope, isBounded, sortOf, columns, firstSort, secondSort}
 use Rattle.relational.specs.Trees.{relation, variable, atoms, identity, union, intersection, difference}
-use Rattle.relational.specs.Cells.{rowLength, firstCell, cell}
-use Rattle.relational.specs.Meaning.{Tuple, one, two, Tuples, Environment, Combined, IsAtom, Given, Denoted}
+use Rattle.relational.specs.Cells.{rowLength, memberCell, firstCell, cell}
+use Rattle.relational.specs.Meaning.{Tuple, one, two, Tuples, Environment, Combined, CanBe, IsAtom, Given}
+use Rattle.relational.specs.Meaning.{Denoted}
 use Rattle.relational.specs.Matrices.{from, upto, Place, places, Matrix, sameSize, matched}
-use Rattle.relational.specs.Evaluation.{either, both, without, valueBinary, flagAt, valueLeaf}
+use Rattle.relational.specs.Evaluation.{either, both, without, valueBinary, flagAt, valueLeaf, memberAt}
 use Rattle.relational.proofs.Places.{length-map-from, from-at, map-map}
 use Rattle.relational.proofs.Flags.{Is, recast, is-or, is-and, is-without, is-eqb}
 use Rattle.relational.proofs.Stands.{Size, line, table, matrixOf, total, Fits, place, place-lt, Stands}
@@ -75,7 +76,16 @@ module _ (sheet : Sheet) (instance : List ℕ) where
           recast (flags-at (firstCell sheet r) (n * m) (i * m + j) (place-lt (table n m) (two i j) h))
           ((λ x. (e, h .0, h .1, rw z x)), λ x. rw (← z) (x .3))
 
-  pub stands-variable : (x : ℕ) (env : Environment) → IsAtom sheet (sortOf sheet x) (env x)
+  -- the flag of an atom that a sort can have
+  pub is-member : (k i : ℕ) → CanBe sheet k i → Is (memberAt sheet instance k i) (IsAtom sheet instance k i)
+  is-member k i l = go (isBounded sheet k)
+    where
+      go : (b : Bool) → Is (cond b (flagAt sheet instance (memberCell sheet k i)) true)
+          (CanBe sheet k i × (b ≡ true → byte instance (memberCell sheet k i) ≡ 1))
+      go true = recast (is-eqb (byte instance (memberCell sheet k i)) 1) ((λ e. (l, λ t. e)), λ x. x .1 refl)
+      go false = ((λ e. (l, λ t. absurd (false≢true t))), λ x. refl)
+
+  pub stands-variable : (x : ℕ) (env : Environment) → CanBe sheet (sortOf sheet x) (env x)
       → Stands (line (scope sheet (sortOf sheet x))) (valueLeaf sheet instance variable x env) (Denoted sheet instance variable x env)
   stands-variable x env low = (
     map (λ (i : ℕ). eqb i (env x)) (upto (scope sheet (sortOf sheet x))),
@@ -91,27 +101,35 @@ module _ (sheet : Sheet) (instance : List ℕ) where
   pub stands-sort : (k : ℕ) (env : Environment)
       → Stands (line (scope sheet k)) (valueLeaf sheet instance atoms k env) (Denoted sheet instance atoms k env)
   stands-sort k env = (
-    map (λ (i : ℕ). true) (upto (scope sheet k)),
+    map (memberAt sheet instance k) (upto (scope sheet k)),
     refl,
-    cells-line (Denoted sheet instance atoms k env) (scope sheet k) (λ i. true) fits (λ i l. ((λ e. l), λ e. refl)),
+    cells-line (Denoted sheet instance atoms k env) (scope sheet k) (memberAt sheet instance k) fits
+        (λ i l. is-member k i l),
   )
     where
       fits : (t : Tuple) → Denoted sheet instance atoms k env t → Fits (line (scope sheet k)) t
-      fits (one i) e = e
+      fits (one i) e = e .0
       fits (two i j) e = absurd e
 
   pub stands-identity : (k : ℕ) (env : Environment)
       → Stands (table (scope sheet k) (scope sheet k)) (valueLeaf sheet instance identity k env) (Denoted sheet instance identity k env)
   stands-identity k env = (
-    map (λ (t : Place). eqb (t .0) (t .1)) (places (scope sheet k) (scope sheet k)),
+    map diagonal (places (scope sheet k) (scope sheet k)),
     refl,
-    cells-table (Denoted sheet instance identity k env) (scope sheet k) (scope sheet k) (λ t. eqb (t .0) (t .1)) fits
-        (λ i j hi hj. recast (is-eqb i j) ((λ e. (hi, e)), λ x. x .1)),
+    cells-table (Denoted sheet instance identity k env) (scope sheet k) (scope sheet k) diagonal fits
+        (λ i j hi hj. on-diagonal (eqb i j) (memberAt sheet instance k i) (is-eqb i j) (is-member k i hi)),
   )
     where
       fits : (t : Tuple) → Denoted sheet instance identity k env t → Fits (table (scope sheet k) (scope sheet k)) t
       fits (one i) e = absurd e
-      fits (two i j) e = (e .0, subst (λ (y : ℕ). y < scope sheet k) (e .1) (e .0))
+      fits (two i j) e = (e .0 .0, subst (λ (y : ℕ). y < scope sheet k) (e .1) (e .0 .0))
+
+      diagonal : Place → Bool
+      diagonal t = cond (eqb (t .0) (t .1)) (memberAt sheet instance k (t .0)) false
+
+      on-diagonal : {P Q : Type 0} (a b : Bool) → Is a P → Is b Q → Is (cond a b false) (Q × P)
+      on-diagonal true b p q = ((λ e. (q .0 e, p .0 refl)), λ x. q .1 (x .0))
+      on-diagonal false b p q = ((λ e. absurd (false≢true e)), λ x. p .1 (x .1))
 
 -- ---- union, intersection, difference: place by place
 abbrev pub cellPair : List Bool → List Bool → ℕ → Bool × Bool

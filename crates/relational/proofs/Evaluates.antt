@@ -1,25 +1,26 @@
 -- 2.2.1 to 2.2.6 The evaluation agrees with the meaning: for every well-shaped tree,
 -- and every environment that gives each variable an atom of its sort.
 use mathlib.Core.Path.{_≡_, refl}
-use mathlib.Core.List.{List, map}
+use mathlib.Core.Logic.{_↔_}
+use mathlib.Core.List.{List}
 use Prim.Native.Nat.{ℕ, _<_}
 use native.Mathlib.Decide.{ℕ-discrete}
 use borrow.Author.Tests.{eq-eqb, ne-eqb}
 use Rattle.shapes.specs.declared.Shape.{Shape}
 use Rattle.sheet_rules.specs.Blocks.{Sheet, scope, variableCount, sortOf}
-use Rattle.relational.specs.Trees.{Expression, comprehension, Formula}
-use Rattle.relational.specs.Meaning.{Tuple, one, two, Environment, bind, IsAtom, Member, Holds}
-use Rattle.relational.specs.Matrices.{upto}
+use Rattle.relational.specs.Trees.{atoms, intersection, Expression, comprehension, Formula}
+use Rattle.relational.specs.Meaning.{Tuple, one, two, Environment, bind, Combined, CanBe, Denoted, Member, Holds}
 use Rattle.relational.specs.Evaluation.{valueOf, truthOf}
-use Rattle.relational.proofs.Flags.{Is, recast, is-not}
-use Rattle.relational.proofs.Stands.{line, Fits, Stands, cells-line}
+use Rattle.relational.proofs.Flags.{Is, is-not}
+use Rattle.relational.proofs.Stands.{line, Stands, stands-same}
 use Rattle.relational.proofs.Basic.{stands-set, stands-relation, stands-variable, stands-sort, stands-identity}
 use Rattle.relational.proofs.Basic.{stands-union, stands-intersection, stands-difference}
 use Rattle.relational.proofs.Joins.{stands-image, stands-preimage, stands-join}
 use Rattle.relational.proofs.Products.{stands-product}
 use Rattle.relational.proofs.Inverses.{stands-inverse}
 use Rattle.relational.proofs.Closures.{stands-closure}
-use Rattle.relational.proofs.Truths.{truth-comparison, truth-test, truth-connective, truth-quantifier}
+use Rattle.relational.proofs.Truths.{truth-comparison, truth-test, truth-connective, Body, stands-body}
+use Rattle.relational.proofs.Truths.{truth-quantifier}
 use Rattle.relational.proofs.Typing.{sizeOf, Shaped, of-set, of-relation, of-variable, of-sort, of-identity, of-union}
 use Rattle.relational.proofs.Typing.{of-intersection, of-difference, of-image, of-preimage, of-join, of-product, of-inverse}
 use Rattle.relational.proofs.Typing.{of-closure, of-comprehension}
@@ -28,9 +29,10 @@ use Rattle.relational.proofs.Typing.{Formed, of-comparison, of-test, of
 module _ (sheet : Sheet) where
   -- the environments that a walk meets
   abbrev pub InRange : Environment → Type 0
-  InRange env = (x : ℕ) → x < variableCount sheet → IsAtom sheet (sortOf sheet x) (env x)
+  InRange env = (x : ℕ) → x < variableCount sheet → CanBe sheet (sortOf sheet x) (env x)
 
-  pub in-range-bind : (env : Environment) (x v : ℕ) → IsAtom sheet (sortOf sheet x) v → InRange env → InRange (bind env x v)
+  pub in-range-bind : (env : Environment) (x v : ℕ) → CanBe sheet (sortOf sheet x) v → InRange env
+      → InRange (bind env x v)
   in-range-bind env x v h r y l = go (ℕ-discrete y x)
     where
       go : Dec (y ≡ x) → bind env x v y < scope sheet (sortOf sheet y)
@@ -40,20 +42,21 @@ module _ (sheet : Sheet) where
 module _ (sheet : Sheet) (instance : List ℕ) where
   -- ---- comprehension: a binder, as the quantifiers of 2.2.6
   stands-comprehension : (x : ℕ) (f : Formula) (env : Environment)
-      → ((v : ℕ) → IsAtom sheet (sortOf sheet x) v → Is (truthOf sheet instance f (bind env x v)) (Holds sheet instance f (bind env x v)))
+      → ((v : ℕ) → CanBe sheet (sortOf sheet x) v
+      → Is (truthOf sheet instance f (bind env x v)) (Holds sheet instance f (bind env x v)))
       → Stands (line (scope sheet (sortOf sheet x))) (valueOf sheet instance (comprehension x f) env)
       (Member sheet instance (comprehension x f) env)
   unfolding valueOf
-  stands-comprehension x f env h = (
-    map (λ (v : ℕ). truthOf sheet instance f (bind env x v)) (upto (scope sheet (sortOf sheet x))),
-    refl,
-    cells-line (Member sheet instance (comprehension x f) env) (scope sheet (sortOf sheet x))
-        (λ v. truthOf sheet instance f (bind env x v)) fits (λ i l. recast (h i l) ((λ e. (l, e)), λ e. e .1)),
-  )
+  stands-comprehension x f env h =
+      stands-same (stands-intersection (stands-sort sheet instance (sortOf sheet x) env)
+      (stands-body (scope sheet (sortOf sheet x)) (λ v. truthOf sheet instance f (bind env x v))
+      (λ v. Holds sheet instance f (bind env x v)) h)) same
     where
-      fits : (t : Tuple) → Member sheet instance (comprehension x f) env t → Fits (line (scope sheet (sortOf sheet x))) t
-      fits (one i) e = e .0
-      fits (two i j) e = absurd e
+      same : (t : Tuple) → Combined intersection (Denoted sheet instance atoms (sortOf sheet x) env)
+          (Body (scope sheet (sortOf sheet x)) (λ v. Holds sheet instance f (bind env x v))) t ↔ Member sheet instance
+          (comprehension x f) env t
+      same (one v) = ((λ e. (e .0, e .1 .1)), λ e. (e .0, (e .0 .0, e .1)))
+      same (two i j) = ((λ e. e .0), λ e. absurd e)
 
   -- ---- all trees
   mutual
@@ -86,5 +89,7 @@ module _ (sheet : Sheet) (instance : List ℕ) where
     evaluates (of-connective {f} {g = h} o p q) env g =
         truth-connective o (truthOf sheet instance f env) (truthOf sheet instance h env) (evaluates p env g) (evaluates q env g)
     evaluates (of-quantified {f} q x l p) env g =
-        truth-quantifier q (λ v. truthOf sheet instance f (bind env x v)) (scope sheet (sortOf sheet x))
-        (λ v. Holds sheet instance f (bind env x v)) (λ v h. evaluates p (bind env x v) (in-range-bind sheet env x v h g))
+        truth-quantifier q (scope sheet (sortOf sheet x)) (stands-sort sheet instance (sortOf sheet x) env)
+        (stands-body (scope sheet (sortOf sheet x)) (λ v. truthOf sheet instance f (bind env x v))
+        (λ v. Holds sheet instance f (bind env x v))
+        (λ v h. evaluates p (bind env x v) (in-range-bind sheet env x v h g)))

@@ -1,22 +1,22 @@
 -- The check of an instance agrees with the meaning of an accepted sheet.
 use mathlib.Core.Path.{_≡_, sym, ap, _∙_}
 use mathlib.Core.Logic.{_↔_}
-use mathlib.Core.Bool.{true, false}
+use mathlib.Core.Bool.{true, false, _&&_}
 use mathlib.Core.List.{List}
 use Prim.Native.Nat.{ℕ, _<_}
 use lib.ListN.{getD}
 use Rattle.prelude.proofs.Laws.{clash}
-use Rattle.sheet_rules.specs.Blocks.{Sheet, variableCount, sortOf, root}
+use Rattle.sheet_rules.specs.Blocks.{Sheet, relationCount, variableCount, sortOf, root}
 use Rattle.shapes.specs.Shapes.{isFormula}
 use Rattle.sheet_rules.specs.Tables.{free}
 use Rattle.sheet_rules.specs.Facts.{Facts}
 use Rattle.relational.specs.Trees.{Formula, formula, rootTree}
-use Rattle.relational.specs.Meaning.{Environment, Holds, IsTrue, Satisfies}
-use Rattle.relational.specs.Evaluation.{truthOf, marksHold, truthOfTree, holds}
-use Rattle.relational.proofs.Flags.{Is, recast, is-and}
+use Rattle.relational.specs.Meaning.{Environment, Holds, OfAtoms, IsTrue, Satisfies}
+use Rattle.relational.specs.Evaluation.{truthOf, marksHold, cellsInside, truthOfTree, holds}
+use Rattle.relational.proofs.Flags.{Is, recast, is-and, is-and-then}
 use Rattle.relational.proofs.Typing.{Formed}
 use Rattle.relational.proofs.Evaluates.{InRange, evaluates}
-use Rattle.relational.proofs.Multiplicities.{evaluates-marks}
+use Rattle.relational.proofs.Multiplicities.{evaluates-marks, evaluates-inside}
 use Rattle.relational.proofs.WellShaped.{root-formed}
 use Rattle.relational.proofs.Free.{freeInFormula, same-truth, declared-formula, free-in-table}
 
@@ -50,10 +50,15 @@ module _ (sheet : Sheet) (s : Facts sheet) where
     evaluates-root : Is (truthOfTree sheet instance (rootTree sheet)) (IsTrue sheet instance (rootTree sheet))
     evaluates-root = rw (root-is .1) (evaluates sheet instance (root-is .2) (λ x. 0) start-in-range)
 
-    pub holds-satisfies : (holds sheet instance ≡ true) ↔ Satisfies sheet instance
+    pub holds-satisfies : (holds sheet instance ≡ true)
+        ↔ (((r : ℕ) → r < relationCount sheet → OfAtoms sheet instance r) × Satisfies sheet instance)
     unfolding holds
     holds-satisfies =
-        recast
-        (is-and (marksHold sheet instance) (truthOfTree sheet instance (rootTree sheet)) (evaluates-marks sheet instance (s .columns-two))
+        is-and-then (cellsInside sheet instance) (marksHold sheet instance && truthOfTree sheet instance
+        (rootTree sheet))
+        (evaluates-inside sheet instance (s .columns-two))
+        λ inside. recast
+        (is-and (marksHold sheet instance) (truthOfTree sheet instance (rootTree sheet))
+        (evaluates-marks sheet instance (s .columns-two) inside)
         evaluates-root)
         ((λ x. record { marks = x .0; root = x .1 }), λ x. (x .marks, x .root))

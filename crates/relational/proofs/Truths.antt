@@ -7,16 +7,17 @@ use Prim.Native.Nat.{ℕ, zero, suc, _<_}
 use native.Mathlib.Omega.{arith}
 use lib.ListN.{getD, length}
 use Rattle.prelude.specs.Tests.{all}
-use Rattle.relational.specs.Trees.{Comparison, equal, within, Test, some, none, lone, Connective}
+use Rattle.relational.specs.Trees.{intersection, Comparison, equal, within, Test, some, none, lone, Connective}
 use Rattle.relational.specs.Trees.{conjunction, disjunction, implication, equivalence, Quantifier, for-all, for-some}
-use Rattle.relational.specs.Meaning.{Tuple, Tuples, Compared, Tested, Connected, Quantified}
-use Rattle.relational.specs.Matrices.{upto, Matrix, matched}
+use Rattle.relational.specs.Meaning.{Atom, Tuple, one, two, Tuples, Combined, Compared, Tested, Connected}
+use Rattle.relational.specs.Meaning.{Quantified}
+use Rattle.relational.specs.Matrices.{upto, Matrix, setOf, matched}
 use Rattle.relational.specs.Evaluation.{implies, same, truthComparison, truthTest, truthConnective, truthQuantifier}
-use Rattle.relational.proofs.Flags.{Is, recast, is-or, is-and, is-implies, is-same, is-any, is-all}
+use Rattle.relational.proofs.Flags.{Is, recast, is-or, is-and, is-implies, is-same, is-all}
 use Rattle.relational.proofs.Counts as counts
 use Rattle.relational.proofs.Stands.{Size, line, table, matrixOf, total, Fits, place, place-lt, place-injective, tuple-at}
-use Rattle.relational.proofs.Stands.{Cells, Stands}
-use Rattle.relational.proofs.Basic.{cellPair, matched-is, Decides}
+use Rattle.relational.proofs.Stands.{Cells, Stands, cells-line}
+use Rattle.relational.proofs.Basic.{cellPair, matched-is, Decides, stands-intersection}
 
 -- ---- comparisons: all pairs of cells together
 module _ {z : Size} {m k : Matrix Bool} {P Q : Tuples} (a : Stands z m P) (b : Stands z k Q) where
@@ -95,8 +96,38 @@ truth-connective disjunction a b p q = is-or a b p q
 truth-connective implication a b p q = is-implies a b p q
 truth-connective equivalence a b p q = is-same a b p q
 
--- ---- quantifiers: over the atoms below n
-pub truth-quantifier : (q : Quantifier) (f : ℕ → Bool) (n : ℕ) (P : ℕ → Type 0) → ((v : ℕ) → v < n → Is (f v) (P v))
-    → Is (truthQuantifier q (map f (upto n))) (Quantified q (λ v. v < n) P)
-truth-quantifier for-all f n P h = is-all (λ (b : Bool). b) f n P h
-truth-quantifier for-some f n P h = is-any (λ (b : Bool). b) f n P h
+-- ---- quantifiers: over the atoms of a set
+-- those for which the body holds, and fit
+abbrev pub Body : ℕ → (Atom → Type 0) → Tuples
+Body n P (one v) = (v < n) × P v
+Body n P (two i j) = ⊥
+
+pub stands-body : (n : ℕ) (f : ℕ → Bool) (P : Atom → Type 0) → ((v : ℕ) → v < n → Is (f v) (P v))
+    → Stands (line n) (setOf n (map f (upto n))) (Body n P)
+stands-body n f P h = (
+  map f (upto n),
+  refl,
+  cells-line (Body n P) n f fits (λ i l. recast (h i l) ((λ e. (l, e)), λ e. e .1)),
+)
+  where
+    fits : (t : Tuple) → Body n P t → Fits (line n) t
+    fits (one i) e = e .0
+    fits (two i j) e = absurd e
+
+pub truth-quantifier : (q : Quantifier) (n : ℕ) {m k : Matrix Bool} {R : Tuples} {P : Atom → Type 0}
+    → Stands (line n) m R → Stands (line n) k (Body n P)
+    → Is (truthQuantifier q m k) (Quantified q (λ v. R (one v)) P)
+truth-quantifier for-all n {R} {P} a b = recast (truth-comparison a b within) ((λ f v r. f (one v) r .1), back)
+  where
+    back : ((v : Atom) → R (one v) → P v) → (t : Tuple) → R t → Body n P t
+    back f (one v) r = (a .2 .fits (one v) r, f v r)
+    back f (two i j) r = absurd (a .2 .fits (two i j) r)
+truth-quantifier for-some n {R} {P} a b = recast (truth-test (stands-intersection a b) some)
+    (forth, λ x. (one (x .0), (x .1, (a .2 .fits (one (x .0)) (x .1), x .2))))
+  where
+    forth : Tested some (Combined intersection R (Body n P)) → (v : Atom) × R (one v) × P v
+    forth x = go (x .0) (x .1 .0) (x .1 .1)
+      where
+        go : (t : Tuple) → R t → Body n P t → (v : Atom) × R (one v) × P v
+        go (one v) r p = (v, r, p .1)
+        go (two i j) r p = absurd p

@@ -6,9 +6,9 @@ use mathlib.Core.List.{List, [], _∷_, _++_, map}
 use Prim.Native.Nat.{ℕ, zero, suc, _+_, _*_, _^_}
 use lib.Dec.{eqb, leb}
 use lib.ListN.{getD}
-use Rattle.sheet_rules.specs.Blocks.{Sheet, scope, sortOf, columns}
+use Rattle.sheet_rules.specs.Blocks.{Sheet, scope, isBounded, sortOf, columns}
 use Rattle.relational.specs.Trees.{Leaf, relation, variable, atoms, identity}
-use Rattle.relational.specs.Cells.{rowCount, rowLength, cellsOf, firstCell}
+use Rattle.relational.specs.Cells.{rowCount, rowLength, cellsOf, memberCell, firstCell}
 use Rattle.relational.specs.Meaning.{Environment}
 
 -- ---- numbers and places in order
@@ -62,6 +62,10 @@ module _ {A : Type 0} where
 
   -- the leaves, from the literal or flag of each cell and of a constant
   module _ (sheet : Sheet) (given : ℕ → A) (constant : Bool → A) where
+    -- atom i of sort k, of a bounded one its membership cell: "Kinds 3 and 4, and all binders, take members only"
+    abbrev pub member : ℕ → ℕ → A
+    member k i = cond (isBounded sheet k) (given (memberCell sheet k i)) (constant true)
+
     abbrev pub leafMatrix : Leaf → ℕ → Environment → Matrix A
     leafMatrix relation r env =
         record {
@@ -72,10 +76,11 @@ module _ {A : Type 0} where
         }
     leafMatrix variable x env =
         setOf (scope sheet (sortOf sheet x)) (map (λ (i : ℕ). constant (eqb i (env x))) (upto (scope sheet (sortOf sheet x))))
-    leafMatrix atoms k env = setOf (scope sheet k) (map (λ (i : ℕ). constant true) (upto (scope sheet k)))
+    leafMatrix atoms k env = setOf (scope sheet k) (map (member k) (upto (scope sheet k)))
     leafMatrix identity k env =
         relationOf (scope sheet k) (scope sheet k)
-        (map (λ (t : Place). constant (eqb (t .0) (t .1))) (places (scope sheet k) (scope sheet k)))
+        (map (λ (t : Place). cond (eqb (t .0) (t .1)) (member k (t .0)) (constant false))
+        (places (scope sheet k) (scope sheet k)))
 
   -- ---- sizes of results
   -- union, intersection, difference, closure: those of p

@@ -1,20 +1,19 @@
 -- What expressions and formulas mean in an instance, in the order of section 2.2 of source document 001, and what satisfies a sheet.
 use mathlib.Core.Path.{_≡_}
 use mathlib.Core.Logic.{_⊎_, _↔_}
-use mathlib.Core.Bool.{cond}
+use mathlib.Core.Bool.{true, cond}
 use mathlib.Core.List.{List}
 use Prim.Native.Nat.{ℕ, zero, suc, _<_}
 use lib.Dec.{eqb}
-use Rattle.sheet_rules.specs.Blocks.{Sheet, byte, scope, sortOf, relationCount, columns, multiplicity, firstSort, secondSort}
-use Rattle.relational.specs.Trees.{Leaf, relation, variable, atoms, identity, Binary, union, intersection, difference, join}
-use Rattle.relational.specs.Trees.{product, Unary}
-use Rattle.relational.specs.Trees.{inverse, closure, Comparison, equal, within, Test, some, none, lone, Connective, conjunction}
-use Rattle.relational.specs.Trees.{disjunction}
-use Rattle.relational.specs.Trees.{implication, equivalence, Quantifier, for-all, for-some, Expression, leaf, binary, unary}
-use Rattle.relational.specs.Trees.{comprehension}
-use Rattle.relational.specs.Trees.{Formula, comparison, test, negation, connective, quantified, Tree, expression, formula}
-use Rattle.relational.specs.Trees.{broken, rootTree}
-use Rattle.relational.specs.Cells.{cell}
+use Rattle.sheet_rules.specs.Blocks.{Sheet, byte, scope, isBounded, sortOf, relationCount, columns, multiplicity}
+use Rattle.sheet_rules.specs.Blocks.{firstSort, secondSort}
+use Rattle.relational.specs.Trees.{Leaf, relation, variable, atoms, identity, Binary, union, intersection}
+use Rattle.relational.specs.Trees.{difference, join, product, Unary, inverse, closure, Comparison, equal, within}
+use Rattle.relational.specs.Trees.{Test, some, none, lone, Connective, conjunction, disjunction, implication}
+use Rattle.relational.specs.Trees.{equivalence, Quantifier, for-all, for-some, Expression, leaf, binary, unary}
+use Rattle.relational.specs.Trees.{comprehension, Formula, comparison, test, negation, connective, quantified}
+use Rattle.relational.specs.Trees.{Tree, expression, formula, broken, rootTree}
+use Rattle.relational.specs.Cells.{memberCell, cell, hasCells}
 
 -- "Every expression in Alloy denotes a relation, i.e. a set of tuples of atoms." Here a tuple has one atom (in a set) or two.
 abbrev pub Atom : Type 0
@@ -87,16 +86,20 @@ Marked (suc zero) P = AtMostOne P
 Marked (suc (suc m)) P = AtMostOne P × ((i : Atom) × P i)
 
 module _ (sheet : Sheet) where
-  -- "All atoms of a sort exist."
-  abbrev pub IsAtom : ℕ → Atom → Type 0
-  IsAtom k i = i < scope sheet k
+  -- i is one of the atoms that sort k can have
+  abbrev pub CanBe : ℕ → Atom → Type 0
+  CanBe k i = i < scope sheet k
 
 module _ (sheet : Sheet) (instance : List ℕ) where
+  -- i is an atom of sort k: "All atoms of a sort exist.", of a bounded sort (Change 8) those whose membership cell is 1
+  abbrev pub IsAtom : ℕ → Atom → Type 0
+  IsAtom k i = CanBe sheet k i × (isBounded sheet k ≡ true → byte instance (memberCell sheet k i) ≡ 1)
+
   -- the tuples of relation r: those whose byte is 1
   abbrev pub Given : ℕ → Tuples
-  Given r (one i) = (columns sheet r ≡ 1) × IsAtom sheet (firstSort sheet r) i × (byte instance (cell sheet r 0 i) ≡ 1)
+  Given r (one i) = (columns sheet r ≡ 1) × CanBe sheet (firstSort sheet r) i × (byte instance (cell sheet r 0 i) ≡ 1)
   Given r (two i j) =
-      (columns sheet r ≡ 2) × IsAtom sheet (firstSort sheet r) i × IsAtom sheet (secondSort sheet r) j
+      (columns sheet r ≡ 2) × CanBe sheet (firstSort sheet r) i × CanBe sheet (secondSort sheet r) j
       × (byte instance (cell sheet r i j) ≡ 1)
 
   -- "1 relation a; 2 variable a (its one atom); 3 all atoms of sort a; 4 identity on sort a"
@@ -104,10 +107,10 @@ module _ (sheet : Sheet) (instance : List ℕ) where
   Denoted relation r env t = Given r t
   Denoted variable x env (one i) = i ≡ env x
   Denoted variable x env (two i j) = ⊥
-  Denoted atoms k env (one i) = IsAtom sheet k i
+  Denoted atoms k env (one i) = IsAtom k i
   Denoted atoms k env (two i j) = ⊥
   Denoted identity k env (one i) = ⊥
-  Denoted identity k env (two i j) = IsAtom sheet k i × (i ≡ j)
+  Denoted identity k env (two i j) = IsAtom k i × (i ≡ j)
 
   -- a tuple is a member of an expression; a formula holds
   abbrev mutual
@@ -115,7 +118,7 @@ module _ (sheet : Sheet) (instance : List ℕ) where
     Member (leaf l a) env t = Denoted l a env t
     Member (binary o p q) env t = Combined o (λ u. Member p env u) (λ u. Member q env u) t
     Member (unary o p) env t = Converted o (λ u. Member p env u) t
-    Member (comprehension x f) env (one v) = IsAtom sheet (sortOf sheet x) v × Holds f (bind env x v)
+    Member (comprehension x f) env (one v) = IsAtom (sortOf sheet x) v × Holds f (bind env x v)
     Member (comprehension x f) env (two i j) = ⊥
 
     pub Holds : Formula → Environment → Type 0
@@ -123,12 +126,23 @@ module _ (sheet : Sheet) (instance : List ℕ) where
     Holds (test o p) env = Tested o (λ t. Member p env t)
     Holds (negation f) env = Holds f env → ⊥
     Holds (connective o f g) env = Connected o (Holds f env) (Holds g env)
-    Holds (quantified q x f) env = Quantified q (IsAtom sheet (sortOf sheet x)) (λ v. Holds f (bind env x v))
+    Holds (quantified q x f) env = Quantified q (IsAtom (sortOf sheet x)) (λ v. Holds f (bind env x v))
 
-  -- "For a relation the mark holds for each atom of the first sort; a set is a single row."
+  -- "For a relation the mark holds for each atom of the first sort" (Change 8: members); "a set is a single row."
   pub record Marks (r : ℕ) : Type 0 where
     pub set : columns sheet r ≡ 1 → Marked (multiplicity sheet r) (λ j. Given r (one j))
-    pub rows : columns sheet r ≡ 2 → (i : Atom) → IsAtom sheet (firstSort sheet r) i → Marked (multiplicity sheet r) (λ j. Given r (two i j))
+    pub rows : columns sheet r ≡ 2 → (i : Atom) → IsAtom (firstSort sheet r) i
+        → Marked (multiplicity sheet r) (λ j. Given r (two i j))
+
+  -- the tuples of relation r are of atoms: "a cell of a non-member is 1; such an instance isn't within the scopes"
+  pub record OfAtoms (r : ℕ) : Type 0 where
+    pub set : (i : Atom) → Given r (one i) → IsAtom (firstSort sheet r) i
+    pub rows : (i j : Atom) → Given r (two i j) → IsAtom (firstSort sheet r) i × IsAtom (secondSort sheet r) j
+
+  -- "An instance is within the scopes when it has one byte for each cell, each 0 or 1", and its tuples are of atoms
+  pub record WithinScopes : Type 0 where
+    pub bytes : hasCells sheet instance ≡ true
+    pub of-atoms : (r : ℕ) → r < relationCount sheet → OfAtoms r
 
   -- the root; no variable is free in it, so its environment does not matter (any-environment of proofs/Satisfaction)
   abbrev pub IsTrue : Tree → Type 0

@@ -4,7 +4,7 @@ use mathlib.Core.List.{List, [], _∷_}
 use Prim.Native.Nat.{ℕ}
 use Rattle.text.specs.Texts.{bytesOf, digits, decimal}
 use Rattle.sheet_rules.specs.Blocks.{sheetOf}
-use Rattle.relational.specs.Cells.{firstCell}
+use Rattle.relational.specs.Cells.{firstMember, firstCell}
 use Rattle.clauses_rules.specs.Whole.{series}
 use Rattle.report.specs.Printed.{relationLines}
 
@@ -13,5 +13,5 @@ abbrev two-rows : List ℕ
 two-rows = 1 ∷ 0 ∷ 1 ∷ 2 ∷ 0 ∷ 0 ∷ 0 ∷ 8 ∷ 2 ∷ 0 ∷ 0 ∷ 0 ∷ 1 ∷ 0 ∷ 0 ∷ 0 ∷ 0 ∷ 6 ∷ 1 ∷ 0 ∷ 0 ∷ 22 ∷ 0 ∷ 0 ∷ []
 
 pub rows-apart : relationLines (sheetOf two-rows) (0 ∷ 0 ∷ 0 ∷ 1 ∷ 1 ∷ 0 ∷ []) ≡ bytesOf "r0 00 01\nr1 10\n"
-unfolding firstCell series digits decimal relationLines
+unfolding firstMember firstCell series digits decimal relationLines
 rows-apart = refl

@@ -3,3 +3,4 @@ pub mod Texts
 pub mod Tells
 pub mod Printing
 pub mod Cases
+mod MemberCells

@@ -1,5 +1,6 @@
 -- Pieces of text put one after the other, as the loops put them.
 use mathlib.Core.Path.{_≡_, refl, sym, ap, _∙_}
+use mathlib.Core.Bool.{Bool, true, false, cond, false≢true}
 use mathlib.Core.List.{List, [], _∷_, _++_}
 use Prim.Native.Nat.{ℕ, zero, suc, _+_, _*_, _≤_, _<_}
 use native.Mathlib.Numerals.{add-one}
@@ -9,10 +10,10 @@ use Rattle.text.specs.Puts.{Put}
 use Rattle.text.specs.Texts.{bytesOf, decimal}
 use Rattle.text.proofs.Decimals.{decimal-short}
 use Rattle.text.proofs.Puts.{put-nothing, put-both, put-as}
-use Rattle.sheet_rules.specs.Blocks.{Sheet, byte}
-use Rattle.relational.specs.Cells.{rowCount, rowLength, cellsOf, firstCell, cell}
+use Rattle.sheet_rules.specs.Blocks.{Sheet, byte, scope, isBounded}
+use Rattle.relational.specs.Cells.{firstMember, memberCell, memberCount, rowCount, rowLength, cellsOf, firstCell, cell}
 use Rattle.clauses_rules.specs.Whole.{series}
-use Rattle.report.specs.Printed.{cellDigit, rowDigits, relationLine}
+use Rattle.report.specs.Printed.{cellDigit, rowDigits, relationLine, memberDigits, memberLine}
 use Rattle.report.specs.Private.{rowFrom, lineFrom}
 
 series-more : (n : ℕ) (f : ℕ → List ℕ) → series n f ++ f n ≡ series (n + 1) f
@@ -52,7 +53,7 @@ row-is sheet instance r i =
     λ k. 32 ∷ series n (λ j. cellDigit (byte instance (e j k)) ∷ [])
 
 line-is : (sheet : Sheet) (instance : List ℕ) (r : ℕ)
-    → lineFrom instance r (firstCell sheet r) (rowCount sheet r) (rowLength sheet r) ≡ relationLine sheet instance r
+    → lineFrom 114 instance r (firstCell sheet r) (rowCount sheet r) (rowLength sheet r) ≡ relationLine sheet instance r
 unfolding lineFrom
 line-is sheet instance r = λ k. 114 ∷ (decimal r ++ (series (rowCount sheet r) (λ i. row-is sheet instance r i k) ++ (10 ∷ [])))
 
@@ -63,18 +64,39 @@ pub record PutLines (sheet : Sheet) (instance old : List ℕ) (at : ℕ) (new : 
   pub puts : Put old at (series r (relationLine sheet instance)) new end
 
 module _ {sheet : Sheet} {instance old : List ℕ} {at : ℕ} where
-  pub lines-none : PutLines sheet instance old at old at 0 0
+  pub lines-none : {first : ℕ} → first ≡ memberCount sheet → PutLines sheet instance old at old at first 0
   unfolding firstCell
-  lines-none = record { most = omega arith; next = refl; puts = put-none-of (relationLine sheet instance) old at }
+  lines-none e = record { most = omega arith; next = e; puts = put-none-of (relationLine sheet instance) old at }
 
   pub lines-more : {mid new : List ℕ} {m end r first rows columns : ℕ} → PutLines sheet instance old at mid m first r
-      → rows ≡ rowCount sheet r → columns ≡ rowLength sheet r → Put mid m (lineFrom instance r first rows columns) new end → end ≤ m + 76
+      → rows ≡ rowCount sheet r → columns ≡ rowLength sheet r
+      → Put mid m (lineFrom 114 instance r first rows columns) new end → end ≤ m + 76
       → PutLines sheet instance old at new end (first + rows * columns) (r + 1)
   unfolding firstCell
   lines-more {r = r} p a b q h =
-      let e = (λ k. lineFrom instance r (p .next k) (a k) (b k)) ∙ line-is sheet instance r in
+      let e = (λ k. lineFrom 114 instance r (p .next k) (a k) (b k)) ∙ line-is sheet instance r in
       record {
         most = omega (arith, p .most);
         next = rw (add-one r, a, b) (ap (λ (n : ℕ). n + cellsOf sheet r) (p .next));
         puts = put-more (relationLine sheet instance) r (p .puts) (put-as e q);
       }
+
+-- the line of a sort: its only row is its membership cells
+pub sort-line : (sheet : Sheet) (instance : List ℕ) (k : ℕ) {first columns : ℕ} → first ≡ firstMember sheet k
+    → columns ≡ scope sheet k
+    → isBounded sheet k ≡ true → lineFrom 115 instance k first 1 columns ≡ memberLine sheet instance k
+unfolding lineFrom rowFrom series
+sort-line sheet instance k {first} {columns} ef ec b =
+    let e : (j : ℕ) → first + 0 * columns + j ≡ memberCell sheet k j = λ j. omega (arith, ef) in
+    (λ i. 115 ∷ (decimal k ++ ((32 ∷ series (ec i) (λ j. cellDigit (byte instance (e j i)) ∷ [])) ++ (10 ∷ []))))
+    ∙ shown (isBounded sheet k) b
+  where
+    line : List ℕ
+    line = 115 ∷ (decimal k ++ ((32 ∷ memberDigits sheet instance k) ++ (10 ∷ [])))
+
+    shown : (b : Bool) → b ≡ true → line ≡ cond b line []
+    shown true e = refl
+    shown false e = absurd (false≢true e)
+
+pub no-line : (sheet : Sheet) (instance : List ℕ) (k : ℕ) → isBounded sheet k ≡ false → [] ≡ memberLine sheet instance k
+no-line sheet instance k b = rw b refl

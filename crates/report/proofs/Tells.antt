@@ -1,5 +1,6 @@
 -- What the finder prints tells what `find` found: the words that a text starts with differ in their first letters.
-use mathlib.Core.Path.{_≡_, refl, sym, ap, _∙_, subst}
+use mathlib.Core.Path.{_≡_, refl, sym, ap, ap₂, _∙_, subst}
+use mathlib.Core.Bool.{Bool, true, false, cond}
 use mathlib.Core.Logic.{⊎-elim}
 use mathlib.Core.List.{List, [], _∷_, _++_}
 use Prim.Native.Nat.{ℕ, _<_}
@@ -11,9 +12,9 @@ use lib.Seq.{take-at}
 use borrow.Author.Tests.{leb-true, leb-false}
 use Rattle.prelude.proofs.Laws.{decided}
 use Rattle.text.specs.Texts.{bytesOf, decimal, endLine, Prints}
-use Rattle.sheet_rules.specs.Blocks.{Sheet, sheetOf, byte, relationCount}
+use Rattle.sheet_rules.specs.Blocks.{Sheet, sheetOf, byte, sortCount, scope, isBounded, relationCount}
 use Rattle.cells.proofs.Layouts.{relation-ends}
-use Rattle.relational.specs.Cells.{rowCount, rowLength, cellCount, cell}
+use Rattle.relational.specs.Cells.{memberCell, rowCount, rowLength, cellCount, cell}
 use Rattle.relational.proofs.Scopes.{within-size}
 use Rattle.clauses_rules.proofs.Series.{same-series}
 use Rattle.search_rules.specs.declared.Steps.{Steps}
@@ -22,8 +23,10 @@ use Rattle.search.specs.Answers.{Answer, found, none, spent, refused}
 use Rattle.solve_rules.specs.Finding.{Slices, finding}
 use Rattle.solve_rules.specs.Finds.{Holds, Finds}
 use Rattle.solve_rules.proofs.Finds.{finds}
-use Rattle.report.specs.Printed.{cellDigit, rowDigits, relationLine, relationLines, report, findingText}
+use Rattle.report.specs.Printed.{cellDigit, rowDigits, relationLine, relationLines, memberDigits, memberLine}
+use Rattle.report.specs.Printed.{memberLines, instanceLines, report, findingText}
 use Rattle.report.specs.Tells.{ShowsSmallest, Tells}
+use Rattle.report.proofs.MemberCells.{member-inside}
 use Rattle.report.proofs.Texts.{long-text, short-text}
 
 cell-inside : (sheet : Sheet) (r i j : ℕ) → r < relationCount sheet → i < rowCount sheet r → j < rowLength sheet r
@@ -46,9 +49,34 @@ module _ (sheet : Sheet) (instance rest : List ℕ) (e : length instance ≡ cel
       (same-series (rowCount sheet r) (λ i. bytesOf " " ++ rowDigits sheet (instance ++ rest) r i)
       (λ i. bytesOf " " ++ rowDigits sheet instance r i) λ i k. ap (λ (ds : List ℕ). bytesOf " " ++ ds) (row-of r i h k))
 
-  pub lines-of : relationLines sheet (instance ++ rest) ≡ relationLines sheet instance
+  relations-of : relationLines sheet (instance ++ rest) ≡ relationLines sheet instance
   unfolding relationLines
-  lines-of = same-series (relationCount sheet) (relationLine sheet (instance ++ rest)) (relationLine sheet instance) line-of
+  relations-of = same-series (relationCount sheet) (relationLine sheet (instance ++ rest)) (relationLine sheet instance)
+      line-of
+
+  sort-of : (k : ℕ) → k < sortCount sheet → memberLine sheet (instance ++ rest) k ≡ memberLine sheet instance k
+  sort-of k h = go (isBounded sheet k) refl
+    where
+      digits : isBounded sheet k ≡ true → memberDigits sheet (instance ++ rest) k ≡ memberDigits sheet instance k
+      digits b =
+          same-series (scope sheet k) (λ i. cellDigit (byte (instance ++ rest) (memberCell sheet k i)) ∷ [])
+          (λ i. cellDigit (byte instance (memberCell sheet k i)) ∷ []) λ i l.
+          ap (λ (n : ℕ). cellDigit n ∷ [])
+          (List·getD-append instance rest 0 (memberCell sheet k i) (omega (arith, e, member-inside sheet k i h b l)))
+
+      go : (b : Bool) → isBounded sheet k ≡ b
+          → cond b (bytesOf "s" ++ (decimal k ++ ((bytesOf " " ++ memberDigits sheet (instance ++ rest) k) ++ bytesOf
+          "\n"))) []
+          ≡ cond b (bytesOf "s" ++ (decimal k ++ ((bytesOf " " ++ memberDigits sheet instance k) ++ bytesOf "\n"))) []
+      go true b = ap (λ (ds : List ℕ). bytesOf "s" ++ (decimal k ++ ((bytesOf " " ++ ds) ++ bytesOf "\n"))) (digits b)
+      go false b = refl
+
+  sorts-of : memberLines sheet (instance ++ rest) ≡ memberLines sheet instance
+  unfolding memberLines
+  sorts-of = same-series (sortCount sheet) (memberLine sheet (instance ++ rest)) (memberLine sheet instance) sort-of
+
+  pub lines-of : instanceLines sheet (instance ++ rest) ≡ instanceLines sheet instance
+  lines-of = ap₂ (λ (xs ys : List ℕ). xs ++ ys) sorts-of relations-of
 
 shows : (sheet : Sheet) (lent left : List ℕ) (steps : Steps) → Holds sheet lent left → ShowsSmallest sheet (report (found steps) sheet left)
 shows sheet lent left steps h =
@@ -59,8 +87,9 @@ shows sheet lent left steps h =
       smallest = h .smallest;
       shows =
           ap (λ (ls : List ℕ). endLine (bytesOf "found ") (total steps) ++ ls)
-          (ap (relationLines sheet) (h .stands)
-          ∙ lines-of sheet (h .instance) (drop (length (h .instance)) lent) (within-size sheet (h .instance) (h .solves .within)));
+          (ap (instanceLines sheet) (h .stands)
+          ∙ lines-of sheet (h .instance) (drop (length (h .instance)) lent)
+          (within-size sheet (h .instance) (h .solves .within .bytes)));
     }
 
 abbrev first : List ℕ → ℕ

@@ -5,10 +5,10 @@ use Prim.Native.Nat.{ℕ}
 use lib.Dec.{eqb, leb}
 use lib.ListN.{length}
 use Rattle.text.specs.Texts.{bytesOf, digit, decimal, endLine}
-use Rattle.sheet_rules.specs.Blocks.{Sheet, sheetOf, byte, relationCount}
+use Rattle.sheet_rules.specs.Blocks.{Sheet, sheetOf, byte, sortCount, scope, isBounded, relationCount}
 use Rattle.sheet_rules.specs.Reading as sheets
 use Rattle.sheet_rules.specs.Reading.{reading}
-use Rattle.relational.specs.Cells.{rowCount, rowLength, cell}
+use Rattle.relational.specs.Cells.{memberCell, rowCount, rowLength, cell}
 use Rattle.clauses_rules.specs.Whole.{series}
 use Rattle.search_rules.specs.Run.{total}
 use Rattle.search.specs.Answers.{Answer, found, none, spent, refused}
@@ -31,17 +31,31 @@ module _ (sheet : Sheet) (instance : List ℕ) where
   unfoldable pub relationLines : List ℕ
   relationLines = series (relationCount sheet) relationLine
 
+  -- "the finder prints them as lines `s`, the sort's number and the digits, before the relations" (Change 8)
+  abbrev pub memberDigits : ℕ → List ℕ
+  memberDigits k = series (scope sheet k) λ i. cellDigit (byte instance (memberCell sheet k i)) ∷ []
+
+  abbrev pub memberLine : ℕ → List ℕ
+  memberLine k =
+      cond (isBounded sheet k) (bytesOf "s" ++ (decimal k ++ ((bytesOf " " ++ memberDigits k) ++ bytesOf "\n"))) []
+
+  unfoldable pub memberLines : List ℕ
+  memberLines = series (sortCount sheet) memberLine
+
+  abbrev pub instanceLines : List ℕ
+  instanceLines = memberLines ++ relationLines
+
 -- "It prints `found N`, `none N` or `spent N` (N steps), or `refused N`. After found comes a line for each relation"; "the finder prints their
 -- sum, the old step figure" (document 02, Change 3)
 abbrev pub report : Answer → Sheet → List ℕ → List ℕ
-report (found steps) sheet instance = endLine (bytesOf "found ") (total steps) ++ relationLines sheet instance
+report (found steps) sheet instance = endLine (bytesOf "found ") (total steps) ++ instanceLines sheet instance
 report (none steps) sheet instance = endLine (bytesOf "none ") (total steps)
 report (spent steps) sheet instance = endLine (bytesOf "spent ") (total steps)
 report (refused n) sheet instance = endLine (bytesOf "refused ") n
 
--- the same of any input: it has lines of relations where it is an accepted sheet. An input that a search found something for is one.
+-- the same of any input: it has lines of an instance where it is an accepted sheet (one that is answered "found" is)
 abbrev pub linesOf : sheets.Answer → Sheet → List ℕ → List ℕ
-linesOf (sheets.accepted layout) sheet instance = relationLines sheet instance
+linesOf (sheets.accepted layout) sheet instance = instanceLines sheet instance
 linesOf (sheets.refused n) sheet instance = []
 
 abbrev pub answerText : Answer → List ℕ → List ℕ → List ℕ

@@ -11,7 +11,7 @@ use Rattle.report.specs.Printed.{cellDigit}
 unfoldable pub rowFrom : List ℕ → ℕ → ℕ → List ℕ
 rowFrom instance first n = 32 ∷ series n λ j. cellDigit (byte instance (first + j)) ∷ []
 
--- the line of a relation whose first cell is known
-unfoldable pub lineFrom : List ℕ → ℕ → ℕ → ℕ → ℕ → List ℕ
-lineFrom instance r first rows columns =
-    114 ∷ (decimal r ++ (series rows (λ i. rowFrom instance (first + i * columns) columns) ++ (10 ∷ [])))
+-- a line of rows from a cell on, with a letter and a number
+unfoldable pub lineFrom : ℕ → List ℕ → ℕ → ℕ → ℕ → ℕ → List ℕ
+lineFrom letter instance number first rows columns =
+    letter ∷ (decimal number ++ (series rows (λ i. rowFrom instance (first + i * columns) columns) ++ (10 ∷ [])))

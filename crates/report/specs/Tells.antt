@@ -8,7 +8,7 @@ use Rattle.text.specs.Texts.{bytesOf, endLine}
 use Rattle.sheet_rules.specs.Blocks.{Sheet, sheetOf}
 use Rattle.clauses_rules.specs.Matching.{Solution}
 use Rattle.solve_rules.specs.Smallest.{Smallest}
-use Rattle.report.specs.Printed.{relationLines}
+use Rattle.report.specs.Printed.{instanceLines}
 
 -- the bytes printed start with a word
 pub record StartsWith (word : String) (text : List ℕ) : Type 0 where
@@ -22,7 +22,7 @@ pub record ShowsSmallest (sheet : Sheet) (text : List ℕ) : Type 0 where
   pub instance : List ℕ
   pub solves : Solution sheet instance
   pub smallest : Smallest sheet instance
-  pub shows : text ≡ endLine (bytesOf "found ") steps ++ relationLines sheet instance
+  pub shows : text ≡ endLine (bytesOf "found ") steps ++ instanceLines sheet instance
 
 pub record Tells (input text : List ℕ) : Type 0 where
   -- "none" only if no instance within the scopes satisfies marks and formula

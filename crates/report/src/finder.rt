@@ -15,6 +15,7 @@ ghost use Rattle.solve_rules.specs.Demand3.{FitsLimits};
 ghost use Rattle.report.specs.Printed.{report, answerText, finderBudget, findingText, slicesAfter};
 ghost use Rattle.report.specs.Tells.{Tells};
 use super::lines::put_lines;
+use cells::MOST_CELLS;
 use search::answer::Search;
 use search::answer::Steps;
 use sheet::answer::Reading;
@@ -28,7 +29,7 @@ pub fn step_figure(steps: Steps) -> u64
     steps.propagations + steps.decisions + steps.backtracks
 }
 
-// Puts the line of `found`, and the lines of the relations where the sheet is accepted.
+// Puts the line of `found`, and the lines of the instance where the sheet is accepted.
 fn put_found(text: &mut [u8], input: &[u8], steps: Steps, instance: &[u8]) -> usize
     requires { ⌜ 2048 ≤ length (now text) ⌝ }
     requires { ⌜ total steps ≤ stepLimit ⌝ }
@@ -44,8 +45,8 @@ fn put_found(text: &mut [u8], input: &[u8], steps: Steps, instance: &[u8]) -> us
     }
 }
 
-// Puts the line of an end, and after `found` the lines of the relations, for any input. It is for a crate that prints what its own search
-// found, and asks of it room for 2,048 bytes, and that the steps fit.
+// Puts the line of an end, and after `found` the lines of the instance, for any input. It is for a crate that prints
+// what its own search found, and asks of it room for 2,048 bytes, and that the steps fit.
 pub fn put_answer(text: &mut [u8], input: &[u8], ended: Search, instance: &[u8]) -> usize
     requires { ⌜ 2048 ≤ length (now text) ⌝ }
     requires { ⌜ ((steps : Steps) → stepsIn (answerOf ended) ≡ some steps → total steps ≤ stepLimit) ⌝ }
@@ -81,7 +82,7 @@ pub fn find_text(
     list: &mut [i32; 16384],
     values: &mut [u8; 16000],
     trail: &mut [i32; 16000],
-    instance: &mut [u8; 1024],
+    instance: &mut [u8; MOST_CELLS],
     text: &mut [u8; 2048],
 ) -> usize
     ensures { λ r. ⌜ (r ≤ length (now (text .exit))) × (r ≡ length (take r (now (text .exit)))) ⌝ }

@@ -2,6 +2,7 @@
 ghost use mathlib.Core.Path.{_≡_};
 ghost use Prim.Native.Nat.{_+_, _*_, _<_, _≤_};
 ghost use Rattle.sheet_rules.specs.Blocks as blocks;
+ghost use Rattle.sheet.specs.Filling.{scopeIn};
 
 fn wide(x: u8) -> usize
     ensures { λ r. ⌜ r ≡ x ⌝ }
@@ -30,4 +31,12 @@ pub(crate) fn after(s: &[u8], head: usize) -> usize
     ensures { λ r. ⌜ (r ≡ blocks.after (now (s .entry)) head) × (r ≤ head + 65537) ⌝ }
 {
     head + 2 + (byte(s, head) * 256 + byte(s, head + 1))
+}
+
+// The atoms that sort k can have: a byte from 129 on is a limit.
+pub fn scope_at(sorts: &[u8], k: usize) -> usize
+    ensures { λ n. ⌜ (n ≡ scopeIn (now (sorts .entry)) k) × (n < 256) ⌝ }
+{
+    let b = byte(sorts, k);
+    if 129 <= b { b - 128 } else { b }
 }

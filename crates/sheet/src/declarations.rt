@@ -6,20 +6,22 @@ ghost use lib.ListN.{length};
 ghost use Rattle.prelude.specs.Tests.{each, between};
 ghost use Rattle.sheet_rules.specs.Blocks as blocks;
 ghost use Rattle.sheet_rules.specs.Reading.{relationDeclared};
+ghost use Rattle.sheet.specs.Filling.{scopeIn};
 use super::bytes::byte;
 use super::bytes::field;
+use super::bytes::scope_at;
 use prelude::both;
 use prelude::choose;
 use prelude::within;
 
-// Number 4: each scope is one of 1 to 8.
+// Number 4: each scope, or upper limit, is one of 1 to 8.
 pub(crate) fn scopes_fine(sorts: &[u8]) -> bool
-    ensures { λ r. ⌜ r ≡ each (length (now (sorts .entry))) (λ k. between 1 8 (blocks.byte (now (sorts .entry)) k)) ⌝ }
+    ensures { λ r. ⌜ r ≡ each (length (now (sorts .entry))) (λ k. between 1 8 (scopeIn (now (sorts .entry)) k)) ⌝ }
 {
     let mut fine = true;
     let mut k: usize = 0;
     while k < sorts.len() {
-        fine = both(fine, within(1, 8, byte(sorts, k)));
+        fine = both(fine, within(1, 8, scope_at(sorts, k)));
         k += 1;
     }
     fine

@@ -10,6 +10,7 @@ ghost use Rattle.shapes.specs.Shapes.{isShaped};
 ghost use Rattle.sheet.specs.Filling.{Fills, capped as cap};
 use super::bytes::byte;
 use super::bytes::field;
+use super::bytes::scope_at;
 use super::nodes::is_node;
 use super::nodes::is_variable;
 use kinds::Row;
@@ -193,7 +194,7 @@ pub(crate) fn visits_of(sorts: &[u8], variables: &[u8], nodes: &[u8]) -> [u64; 2
         let row = row_of(field(nodes, 3, v, 0));
         let a = field(nodes, 3, v, 1);
         let b = field(nodes, 3, v, 2);
-        let atoms = byte(sorts, byte(variables, a)) as u64;
+        let atoms = scope_at(sorts, byte(variables, a)) as u64;
         let p = count_at(visits, a);
         let q = count_at(visits, b);
         visits[v] = visits_by(row, atoms, p, q);

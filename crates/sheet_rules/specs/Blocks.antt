@@ -1,6 +1,8 @@
 -- Bytes, blocks and records (document 01, "The sheet").
+use mathlib.Core.Bool.{Bool, cond}
 use mathlib.Core.List.{List}
 use Prim.Native.Nat.{ℕ, _+_, _*_, _-_, _/_}
+use lib.Dec.{leb}
 use lib.ListN.{length, getD, take, drop}
 
 -- the byte at i; past the end it counts as 0
@@ -51,8 +53,13 @@ module _ (sheet : Sheet) where
   abbrev pub sortCount : ℕ
   sortCount = length (sheet .sorts)
 
+  -- a limited sort: "A scope byte of 129 to 136 now means up to that number less 128" (document 02, Change 8)
+  abbrev pub isBounded : ℕ → Bool
+  isBounded k = leb 129 (byte (sheet .sorts) k)
+
+  -- the atoms that it has, or can have
   abbrev pub scope : ℕ → ℕ
-  scope k = byte (sheet .sorts) k
+  scope k = cond (isBounded k) (byte (sheet .sorts) k - 128) (byte (sheet .sorts) k)
 
   -- "Variables, 0 to 4, one byte each: its sort."
   abbrev pub variableCount : ℕ

@@ -35,7 +35,7 @@ module _ (sheet : Sheet) where
       between 1 8 (sortCount sheet)
       && (leb (variableCount sheet) 4 && (between 1 16 (relationCount sheet) && between 1 200 (nodeCount sheet)))
 
-  -- 4 SCOPE, unless: "a scope is outside 1 to 8"
+  -- 4 SCOPE, unless: "a scope is outside 1 to 8"; 129 to 136 are up to 1 to 8, and "4 covers the rest outside 1 to 8"
   unfoldable pub scoped : Bool
   scoped = each (sortCount sheet) (λ k. between 1 8 (scope sheet k))
 

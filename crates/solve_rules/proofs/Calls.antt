@@ -10,7 +10,7 @@ use lib.Seq.{take-at}
 use borrow.Author.Tests.{le-leb, eq-eqb}
 use Rattle.prelude.proofs.Laws.{and-both}
 use Rattle.sheet_rules.specs.Blocks.{sheetOf}
-use Rattle.relational.specs.Cells.{cellCount, withinScopes}
+use Rattle.relational.specs.Cells.{cellCount, hasCells}
 use Rattle.relational.proofs.Scopes.{within-size, within-bits}
 use Rattle.clauses_rules.specs.Whole.{words, variableTotal, clauseTotal, wordTotal}
 use Rattle.clauses.specs.Answers as count
@@ -42,29 +42,30 @@ module _ (s : List ℕ) (h : FitsLimits s) where
 
   -- read-back of values of which the cells' values, 3 taken as 0, are an instance
   module _ (values lent : List ℕ) (one-each : length values ≡ variableTotal (sheetOf s))
-      (within : withinScopes (sheetOf s) (readBits (sheetOf s) values) ≡ true) (room : cellCount (sheetOf s) ≤ length lent) where
-    read-size : length (readBits (sheetOf s) values) ≡ cellCount (sheetOf s)
-    read-size = within-size (sheetOf s) (readBits (sheetOf s) values) within
+      (within : hasCells (sheetOf s) (readBits (sheetOf s) values) ≡ true) (room : cellCount (sheetOf s) ≤ length lent)
+    where
+      read-size : length (readBits (sheetOf s) values) ≡ cellCount (sheetOf s)
+      read-size = within-size (sheetOf s) (readBits (sheetOf s) values) within
 
-    answers-cells : readBackAnswer s values lent ≡ copied (cellCount (sheetOf s))
-    unfolding readBackAnswer
-    answers-cells =
-        ap (λ a. readBackAfter a (sheetOf s) values (length lent)) counts
-        ∙ ap (λ b. cond b (cond (leb (cellCount (sheetOf s)) (length lent)) (copied (cellCount (sheetOf s))) (refused 13)) (refused 11))
-        (and-both _ _ (eq-eqb (length values) (variableTotal (sheetOf s)) one-each)
-        (within-bits (sheetOf s) (readBits (sheetOf s) values) within))
-        ∙ ap (λ b. cond b (copied (cellCount (sheetOf s))) (refused 13)) (le-leb (cellCount (sheetOf s)) (length lent) room)
+      answers-cells : readBackAnswer s values lent ≡ copied (cellCount (sheetOf s))
+      unfolding readBackAnswer
+      answers-cells =
+          ap (λ a. readBackAfter a (sheetOf s) values (length lent)) counts
+          ∙ ap (λ b. cond b (cond (leb (cellCount (sheetOf s)) (length lent)) (copied (cellCount (sheetOf s))) (refused 13)) (refused 11))
+          (and-both _ _ (eq-eqb (length values) (variableTotal (sheetOf s)) one-each)
+          (within-bits (sheetOf s) (readBits (sheetOf s) values) within))
+          ∙ ap (λ b. cond b (copied (cellCount (sheetOf s))) (refused 13)) (le-leb (cellCount (sheetOf s)) (length lent) room)
 
-    pub instance-after : instanceAfter s values lent ≡ readBits (sheetOf s) values ++ drop (cellCount (sheetOf s)) lent
-    unfolding instanceAfter
-    instance-after = ap (λ a. instanceBy a (readBits (sheetOf s) values) lent) answers-cells
+      pub instance-after : instanceAfter s values lent ≡ readBits (sheetOf s) values ++ drop (cellCount (sheetOf s)) lent
+      unfolding instanceAfter
+      instance-after = ap (λ a. instanceBy a (readBits (sheetOf s) values) lent) answers-cells
 
-    pub reads-back : ReadsBack s values lent (readBits (sheetOf s) values)
-    reads-back =
-        record {
-          answer = answers-cells ∙ ap copied (sym read-size);
-          copies = instance-after ∙ ap (λ n. readBits (sheetOf s) values ++ drop n lent) (sym read-size);
-        }
+      pub reads-back : ReadsBack s values lent (readBits (sheetOf s) values)
+      reads-back =
+          record {
+            answer = answers-cells ∙ ap copied (sym read-size);
+            copies = instance-after ∙ ap (λ n. readBits (sheetOf s) values ++ drop n lent) (sym read-size);
+          }
 
 -- read-back answers one instance
 pub same-instance : (s values lent i j : List ℕ) → ReadsBack s values lent i → ReadsBack s values lent j → i ≡ j

@@ -64,7 +64,8 @@ module _ (s : List ℕ) (lent : Slices) (h : FitsLimits s) (k : FitSlices s lent
   pub back : (values : List ℕ) → Satisfying v (clausesOf written) (map settle values)
       → ReadsBack s values (lent .instance) (readBits (sheetOf s) values)
   back values p =
-      reads-back s h values (lent .instance) (sym (length-map values settle) ∙ p .size) (solves (map settle values) p .within) (k .instance)
+      reads-back s h values (lent .instance) (sym (length-map values settle) ∙ p .size)
+      (solves (map settle values) p .within .bytes) (k .instance)
 
   found-reads : (values : List ℕ) → Satisfying v (clausesOf written) (map settle values) → ReadsSolution s values (lent .instance)
   found-reads values p =
@@ -134,7 +135,8 @@ module _ (s : List ℕ) (lent : Slices) (h : FitsLimits s) (k : FitSlices s lent
   found-instance n steps e =
       let values : List ℕ = take v (d.searched s lent v w n .values) in
       let p = found-satisfies written v (lent .values) (lent .trail) n steps e in
-      instance-after s h values (lent .instance) (sym (length-map values settle) ∙ p .size) (solves (map settle values) p .within) (k .instance)
+      instance-after s h values (lent .instance) (sym (length-map values settle) ∙ p .size)
+      (solves (map settle values) p .within .bytes) (k .instance)
 
   follows : (p : Position) (n : ℕ) → FollowedAnswered s lent v w p n
   follows p n =
@@ -196,7 +198,8 @@ module _ (s : List ℕ) (lent : Slices) (h : FitsLimits s) (k : FitSlices s lent
             };
         few =
             ascending-few (cellCount (sheetOf s)) instances
-            (each-map (Solution (sheetOf s)) (λ i. length i ≡ cellCount (sheetOf s)) (λ i p. within-size (sheetOf s) i (p .within)) instances
+            (each-map (Solution (sheetOf s)) (λ i. length i ≡ cellCount (sheetOf s))
+            (λ i p. within-size (sheetOf s) i (p .within .bytes)) instances
             (lists .each))
             (lists .ascending);
         taken = λ n few. t n few .taken;

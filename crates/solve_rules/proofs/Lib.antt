@@ -4,3 +4,4 @@ pub mod Demand3
 pub mod Findings
 pub mod MoreSteps
 pub mod Finds
+pub mod Narrower

@@ -18,4 +18,4 @@ pub same-smallest : SameSmallest
 same-smallest sheet other alike i j p none-before q none-before' =
     let k = alike j .1 q in
     ⊎-elim (λ b. absurd (none-before' i (alike i .0 p) b)) (⊎-elim (λ e. e) (λ b. absurd (none-before j k b)))
-    (instances-ordered sheet .total i j (p .within) (k .within))
+    (instances-ordered sheet .total i j (p .within .bytes) (k .within .bytes))

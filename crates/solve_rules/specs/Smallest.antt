@@ -6,7 +6,7 @@ use mathlib.Core.List.{List}
 use Prim.Native.Nat.{ℕ}
 use Rattle.prelude.specs.Order.{NoneBefore, StrictTotalOrder}
 use Rattle.sheet_rules.specs.Blocks.{Sheet}
-use Rattle.relational.specs.Cells.{withinScopes}
+use Rattle.relational.specs.Cells.{hasCells}
 use Rattle.clauses_rules.specs.Matching.{Solution}
 
 -- "no instance that satisfies marks and formula comes earlier in that order"
@@ -15,7 +15,7 @@ Smallest sheet instance = NoneBefore (Solution sheet) instance
 
 -- that order is a strict total order on the instances of a sheet
 abbrev pub InstancesOrdered : Type 0
-InstancesOrdered = (sheet : Sheet) → StrictTotalOrder (λ (instance : List ℕ). withinScopes sheet instance ≡ true)
+InstancesOrdered = (sheet : Sheet) → StrictTotalOrder (λ (instance : List ℕ). hasCells sheet instance ≡ true)
 
 -- to "compare printed cases between releases": two sheets that the same instances satisfy have the same smallest
 abbrev pub SameSmallest : Type 0

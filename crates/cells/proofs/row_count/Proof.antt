@@ -14,8 +14,8 @@ returns c =
     let s = c .before .before .before in
     (set-rows (sheetOf (s .args .sheet .now)) (s .args .r) (c .before .arity .ensures) (c .if1 .taken), omega arith)
 
-declared-requires : tie.Need-declared-requires
-declared-requires c κs = search needs
+first-sort-requires : tie.Need-first-sort-requires
+first-sort-requires c κs = search needs
 
 scope-requires : tie.Need-scope-requires
 scope-requires c κs = search needs
@@ -24,9 +24,9 @@ returns-2 : tie.Need-returns-2
 returns-2 c =
     let s = c .before .before .before .before .before in (
       relation-rows (sheetOf (s .args .sheet .now)) (s .args .r) (c .before .before .before .arity .ensures) (c .before .before .if1 .left)
-          (c .before .declared .ensures) (c .scope .ensures .0),
+          (c .before .first-sort .ensures) (c .scope .ensures .0),
       c .scope .ensures .1,
     )
 
 pub row-count-spec : {M : Type 1} → statement M
-row-count-spec = tie.close (tie.spec arity-requires returns declared-requires scope-requires returns-2)
+row-count-spec = tie.close (tie.spec arity-requires returns first-sort-requires scope-requires returns-2)

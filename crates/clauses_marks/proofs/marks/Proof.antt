@@ -14,7 +14,8 @@ use Rattle.clauses_marks.proofs.marks.Tie as tie
 
 abbrev Inv-loop : tie.InvT-loop
 Inv-loop list₀ sheet layout given starts count after₀ r₀ list after r =
-    (r ≤ count) × Adds (1416 * r) (series r (relationClauses (sheetOf sheet) (literalsOf given))) list₀ after₀ list after
+    (r ≤ count) × Adds (1424 * r) (series r (relationClauses (sheetOf sheet) (literalsOf given))) list₀ after₀ list
+    after
 
 abbrev μ-loop : tie.MeasureT-loop
 μ-loop list₀ sheet layout given starts count after₀ r₀ list after r = count - r

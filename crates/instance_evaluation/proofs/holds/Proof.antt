@@ -1,4 +1,4 @@
--- The marks, and the root from any atoms.
+-- The cells, the marks, and the root from any atoms.
 use mathlib.Core.Path.{_∙_}
 use native.Mathlib.Omega.{arith}
 use Rattle.sheet_rules.specs.Blocks.{sheetOf}
@@ -20,23 +20,35 @@ sub-root c =
     let s = c .before .before .before .before .before .before in
     omega (arith, nodes-counted _ _ (s .pre .taken), facts-of (s .pre) .counts .some-nodes)
 
+cells-inside-requires : tie.Need-cells-inside-requires
+cells-inside-requires c κs = search needs
+
 formula-requires : tie.Need-formula-requires
 formula-requires c κs =
-    let s = c .before .before .before .before .before .before in
+    let s = c .before .before .before .before .before .before .before in
     (s .pre, rw (nodes-counted _ _ (s .pre .taken)) (root-formula _ (facts-of (s .pre))))
 
 both-requires : tie.Need-both-requires
 both-requires c κs = search needs
 
+both-requires-2 : tie.Need-both-requires-2
+both-requires-2 c κs = search needs
+
 returns : tie.Need-returns
 unfolding holds
 returns c =
-    let s = c .before .before .before .before .before .before .before .before in
+    let s = c .before .before .before .before .before .before .before .before .before .before in
     let sheet = sheetOf (s .args .sheet .now) in
-    let truth = (rw (nodes-counted _ _ (s .pre .taken)) at (c .before .formula .ensures))
+    let truth = (rw (nodes-counted _ _ (s .pre .taken)) at (c .before .before .formula .ensures))
     ∙ root-truth sheet (s .args .instance .now) (rootTree sheet) in
-    rw (← c .before .before .before .before .marks-hold .ensures, ← truth) (c .both .ensures)
+    rw (
+      ← c .before .before .before .cells-inside .ensures,
+      ← c .before .before .before .before .before .before .marks-hold .ensures,
+      ← truth,
+      ← c .before .both .ensures,
+    ) (c .both2 .ensures)
 
 pub holds-spec : {M : Type 1} → statement M
 holds-spec =
-    tie.close (tie.spec marks-hold-requires sub-root formula-requires both-requires returns)
+    tie.close
+    (tie.spec marks-hold-requires sub-root cells-inside-requires formula-requires both-requires both-requires-2 returns)

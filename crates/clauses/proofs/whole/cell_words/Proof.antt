@@ -3,6 +3,7 @@ use borrow.Author.Needs.{needs}
 use Prim.Native.Nat.{_-_, _≤_, _<_}
 use native.Mathlib.Omega.{arith}
 use Rattle.literal.proofs.Signs.{back}
+use Rattle.relational.specs.Cells.{mostCells}
 use Rattle.clauses.specs.Translating.{CellWords}
 use Rattle.clauses.proofs.CellWords.{words-none, word-is, words-more, words-done}
 use Rattle.clauses.proofs.whole.cell_words.Statement.{statement}
@@ -41,7 +42,7 @@ loop-less c = omega arith
 loop-again : tie.Need-loop-again Inv-loop μ-loop
 loop-again c =
     let i = c .before .before .loop .i in
-    let h : i < 1024 = omega (arith, c .before .before .before .pre, c .before .loop-test .taken) in
+    let h : i < mostCells = omega (arith, c .before .before .before .pre, c .before .loop-test .taken) in
     let w = c .positive .result in
     let more = words-more w (c .before .before .loop .inv .1) h (word-is i w h (c .positive .ensures)) in
     (omega arith, rw (back w (record { sfits = c .positive .ok })) more)

@@ -6,7 +6,8 @@ use Prim.Native.Nat.{_≤_, _-_}
 use native.Mathlib.Omega.{arith}
 use Rattle.literal.specs.Literals.{literalOf}
 use Rattle.literal.proofs.Signs.{back}
-use Rattle.clauses_kinds.proofs.Lists.{literal-of, filled-none, filled-more, filled-at}
+use Rattle.clauses_emission.proofs.Ranges.{literal-of}
+use Rattle.clauses_kinds.proofs.Lists.{filled-none, filled-more, filled-at}
 use Rattle.clauses_kinds.proofs.leaves.copied.Statement.{statement}
 use Rattle.clauses_kinds.proofs.leaves.copied.Tie as tie
 

@@ -9,6 +9,7 @@ use borrow.Author.Needs.{needs}
 use Rattle.literal.proofs.Signs.{back}
 use Rattle.sheet_rules.specs.Blocks.{sheetOf}
 use Rattle.sheet_rules.proofs.Acceptance.{accepted-facts}
+use Rattle.nodes.specs.Environments.{environment}
 use Rattle.nodes.specs.Nodes.{IsExpression, IsFormula}
 use Rattle.nodes.proofs.Views.{Reached, expression-low, formula-low}
 use Rattle.nodes.proofs.ExpressionViews.{at-leaf, at-binary, at-unary, at-comprehension}
@@ -38,7 +39,8 @@ use Rattle.clauses_kinds.proofs.apply.compare.Reads as compare-reads
 use Rattle.clauses_kinds.proofs.apply.unary.Reads as unary-reads
 use Rattle.clauses_kinds.proofs.apply.test.Reads as test-reads
 use Rattle.clauses_emission.proofs.gates.negate.Reads as negate-reads
-use Rattle.clauses_kinds.proofs.apply.quantify.Reads as quantify-reads
+use Rattle.clauses_kinds.proofs.apply.quantify_over.Reads as quantify-over-reads
+use Rattle.clauses_kinds.proofs.apply.comprehend.Reads as comprehend-reads
 use Rattle.clauses_kinds.proofs.leaves.leaf.Reads as leaf-reads
 use Rattle.clauses_kinds.proofs.leaves.nothing.Reads as nothing-reads
 use Rattle.nodes.proofs.forms.read_node.Reads as read-node-reads
@@ -101,6 +103,8 @@ expression-calls t = (
   unary-reads.Learnt,
   bodies-below t,
   bodies.Post,
+  comprehend-reads.Asked,
+  comprehend-reads.Learnt,
 )
 
 abbrev formula-calls : ℕ → formula-lts.Claims
@@ -121,8 +125,8 @@ formula-calls t = (
   connect-reads.Learnt,
   bodies-below t,
   bodies.Post,
-  quantify-reads.Asked,
-  quantify-reads.Learnt,
+  quantify-over-reads.Asked,
+  quantify-over-reads.Learnt,
 )
 
 abbrev bodies-Inv-loop : bodies-lts.InvT-loop
@@ -274,6 +278,23 @@ expression-bodies-requires t c κs =
     let s = expression-start t n in
     (omega (arith, b .lower-b, s .pre .0), (s .pre .1 .0, (b .body, b .names)))
 
+expression-comprehend-requires : (t : ℕ)
+    → expression-lts.Need-comprehend-requires (expression-calls t) (expression-at t) expression.Post
+expression-comprehend-requires t c κs =
+    let p = c .before .before in
+    let k = p .before .before in
+    let n = k .before .before in
+    let b = at-comprehension (expression-node t n) (k .enum-told4 .given .1) in
+    let r = ready-after (p .bodies .ensures) (b .body) (expression-start t n .pre .1 .0) in (
+      r .located .taken,
+      record {
+        bounded = r .bounded;
+        fine = finished (p .bodies .ensures) (b .body) .1;
+        inside =
+            r .inside;
+      },
+    )
+
 expression-returns-2 : (t : ℕ) → expression-lts.Need-returns-2 (expression-calls t) (expression-at t) expression.Post
 expression-returns-2 t c =
     let n = c .before .before .before in
@@ -313,14 +334,16 @@ expression-same-length-2 t c =
 
 expression-returns-5 : (t : ℕ) → expression-lts.Need-returns-5 (expression-calls t) (expression-at t) expression.Post
 expression-returns-5 t c =
-    let k = c .before .before .before in
+    let p = c .before .before .before .before in
+    let k = p .before .before in
     let n = k .before .before in
     let a = expression-start t n .args in
-    comprehension-walks (a .given .now) (a .env) (expression-node t n) (k .enum-told4 .given .1) (c .before .bodies .ensures)
+    comprehension-walks (a .given .now) (a .env) (expression-node t n) (k .enum-told4 .given .1) (p .bodies .ensures)
+    (c .before .comprehend .ensures (environment (a .env)))
 
 expression-same-length-3 : (t : ℕ) → expression-lts.Need-same-length-3 (expression-calls t) (expression-at t) expression.Post
 expression-same-length-3 t c =
-    let n = c .before .before .before .before .before in
+    let n = c .before .before .before .before .before .before .before .before in
     kept (expression-returns-5 t c) (expression-node t n .tree)
 
 -- where the walk started, and the node that it has read
@@ -450,12 +473,22 @@ formula-bodies-requires t c κs =
     let s = formula-start t n in
     (omega (arith, b .lower-b, s .pre .0), (s .pre .1 .0, (b .body, b .names)))
 
-formula-quantify-requires : (t : ℕ) → formula-lts.Need-quantify-requires (formula-calls t) (formula-at t) formula.Post
-formula-quantify-requires t c κs =
+formula-quantify-over-requires : (t : ℕ)
+    → formula-lts.Need-quantify-over-requires (formula-calls t) (formula-at t) formula.Post
+formula-quantify-over-requires t c κs =
     let p = c .before .before in
     let k = p .before .before in
     let n = k .before .before in
-    finished (p .bodies .ensures) (at-quantifier (formula-node t n) (k .enum-told5 .given .1) .body)
+    let b = at-quantifier (formula-node t n) (k .enum-told5 .given .1) in
+    let r = ready-after (p .bodies .ensures) (b .body) (formula-start t n .pre .1 .0) in (
+      r .located .taken,
+      record {
+        bounded = r .bounded;
+        fine = finished (p .bodies .ensures) (b .body) .1;
+        inside =
+            r .inside;
+      },
+    )
 
 formula-returns-2 : (t : ℕ) → formula-lts.Need-returns-2 (formula-calls t) (formula-at t) formula.Post
 formula-returns-2 t c =
@@ -521,7 +554,7 @@ formula-returns-6 t c =
     let n = k .before .before in
     let a = formula-start t n .args in
     quantifier-walks (a .given .now) (a .env) (formula-node t n) (k .enum-told5 .given .1) (p .bodies .ensures)
-    (c .before .quantify .ensures)
+    (c .before .quantify-over .ensures (environment (a .env)))
 
 formula-same-length-5 : (t : ℕ) → formula-lts.Need-same-length-5 (formula-calls t) (formula-at t) formula.Post
 formula-same-length-5 t c =
@@ -537,7 +570,8 @@ pub +bodies+expression+formula-spec : {M : Type 1} → statement M
     (expression-returns t) (expression-read-node-requires t) (expression-enum-told t) (expression-leaf-requires t)
     (expression-enum-told-2 t) (expression-expression-requires t) (expression-expression-requires-2 t)
     (expression-binary-requires t) (expression-enum-told-3 t) (expression-expression-requires-3 t)
-    (expression-unary-requires t) (expression-enum-told-4 t) (expression-bodies-requires t) (expression-returns-2 t)
+    (expression-unary-requires t) (expression-enum-told-4 t) (expression-bodies-requires t)
+    (expression-comprehend-requires t) (expression-returns-2 t)
     (expression-same-length t) (expression-returns-3 t) (expression-same-length-2 t) (expression-returns-4 t)
     (expression-same-length-3 t) (expression-returns-5 t))
     λ t. formula-lts.spec (formula-calls t) (formula-at t) formula.Post (formula-returns t)
@@ -545,7 +579,7 @@ pub +bodies+expression+formula-spec : {M : Type 1} → statement M
     (formula-expression-requires-2 t) (formula-compare-requires t) (formula-enum-told-2 t)
     (formula-expression-requires-3 t) (formula-test-requires t) (formula-enum-told-3 t) (formula-formula-requires t)
     (formula-negate-requires t) (formula-enum-told-4 t) (formula-formula-requires-2 t) (formula-formula-requires-3 t)
-    (formula-connect-requires t) (formula-enum-told-5 t) (formula-bodies-requires t) (formula-quantify-requires t)
+    (formula-connect-requires t) (formula-enum-told-5 t) (formula-bodies-requires t) (formula-quantify-over-requires t)
     (formula-same-length t) (formula-returns-2 t) (formula-same-length-2 t) (formula-returns-3 t)
     (formula-same-length-3 t) (formula-returns-4 t) (formula-same-length-4 t) (formula-returns-5 t)
     (formula-same-length-5 t) (formula-returns-6 t)

@@ -19,17 +19,14 @@ atom-at-requires c κs = search needs
 single-requires : tie.Need-single-requires
 single-requires c κs = search needs
 
-scope-requires : tie.Need-scope-requires
-scope-requires c κs = search needs
+atoms-requires : tie.Need-atoms-requires
+atoms-requires c κs = search needs
 
-full-requires : tie.Need-full-requires
-full-requires c κs = search needs
-
-scope-requires-2 : tie.Need-scope-requires-2
-scope-requires-2 c κs = search needs
+atoms-requires-2 : tie.Need-atoms-requires-2
+atoms-requires-2 c κs = search needs
 
 identity-requires : tie.Need-identity-requires
-identity-requires c κs = search needs
+identity-requires c κs = c .atoms2 .ensures (λ x. 0) .fine
 
 returns : tie.Need-returns
 returns c l s =
@@ -43,15 +40,19 @@ returns-2 c l s =
     (c .single .ensures)
 
 returns-3 : tie.Need-returns-3
-returns-3 c l s = rw (at-atoms _ (c .before .before .match .keys3) l s, ← c .before .scope .ensures .0) (c .full .ensures)
+returns-3 c l s =
+    let env = c .before .before .before .before .before .args .env in
+    rw (at-atoms _ (c .before .match .keys3) l s) (c .atoms .ensures (environment env))
 
 returns-4 : tie.Need-returns-4
 returns-4 c l s =
     let m = c .before .before .match .rest in
-    rw (at-identity _ (m .0 .0 .1) (m .0 .1) (m .1) l s, ← c .before .scope2 .ensures .0) (c .identity .ensures)
+    let env = c .before .before .before .before .before .before .args .env in
+    rw (at-identity _ (m .0 .0 .1) (m .0 .1) (m .1) l s)
+    (c .identity .ensures _ _ (c .before .atoms2 .ensures (environment env) .is))
 
 pub leaf-spec : {M : Type 1} → statement M
 leaf-spec =
     tie.close
-    (tie.spec relation-requires scope-of-variable-requires atom-at-requires single-requires scope-requires full-requires
-    scope-requires-2 identity-requires returns returns-2 returns-3 returns-4)
+    (tie.spec relation-requires scope-of-variable-requires atom-at-requires single-requires atoms-requires
+    atoms-requires-2 identity-requires returns returns-2 returns-3 returns-4)

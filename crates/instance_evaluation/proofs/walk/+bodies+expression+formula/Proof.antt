@@ -39,7 +39,8 @@ use Rattle.instance_matrix.proofs.operators.unary.Reads as unary-reads
 use Rattle.instance_matrix.proofs.truths.compare.Reads as compare-reads
 use Rattle.instance_matrix.proofs.truths.test.Reads as test-reads
 use Rattle.instance_matrix.proofs.truths.connect.Reads as connect-reads
-use Rattle.instance_matrix.proofs.truths.quantify.Reads as quantify-reads
+use Rattle.instance_evaluation.proofs.binders.comprehend.Reads as comprehend-reads
+use Rattle.instance_evaluation.proofs.binders.quantify_over.Reads as quantify-over-reads
 use Rattle.nodes.proofs.environments.bind.Reads as bind-reads
 use Rattle.nodes.proofs.forms.read_node.Reads as read-node-reads
 use Rattle.instance_evaluation.proofs.walk.+bodies+expression+formula.{statement}
@@ -98,6 +99,8 @@ expression-calls t = (
   unary-reads.Learnt,
   bodies-below t,
   bodies.Post,
+  comprehend-reads.Asked,
+  comprehend-reads.Learnt,
 )
 
 abbrev formula-calls : ℕ → formula-lts.Claims
@@ -116,8 +119,8 @@ formula-calls t = (
   connect-reads.Learnt,
   bodies-below t,
   bodies.Post,
-  quantify-reads.Asked,
-  quantify-reads.Learnt,
+  quantify-over-reads.Asked,
+  quantify-over-reads.Learnt,
 )
 
 -- where the walk started, and the node that it has read
@@ -209,11 +212,18 @@ expression-bodies-requires t c κs =
     let b = at-comprehension (expression-node t n) (c .enum-told4 .given .1) in
     (omega (arith, b .lower-b, expression-start t n .pre .0), (expression-start t n .pre .1 .0, (b .body, b .names)))
 
+expression-comprehend-requires : (t : ℕ)
+    → expression-lts.Need-comprehend-requires (expression-calls t) (expression-at t) expression.Post
+expression-comprehend-requires t c κs =
+    let n = c .before .before .before in
+    (expression-start t n .pre .1 .0 .taken, c .bodies .ensures .fine)
+
 expression-returns-4 : (t : ℕ) → expression-lts.Need-returns-4 (expression-calls t) (expression-at t) expression.Post
 expression-returns-4 t c =
-    let k = c .before in
+    let k = c .before .before in
     let h = expression-node t (k .before .before) in
-    comprehension-value h _ _ (k .enum-told4 .given .1) (c .bodies .ensures)
+    comprehension-value h _ _ (k .enum-told4 .given .1) (c .before .bodies .ensures)
+    (c .comprehend .ensures (environment (expression-start t (k .before .before) .args .env)))
 
 -- where the walk started, and the node that it has read
 abbrev formula-start : (t : ℕ) → formula-lts.After-read-node (formula-calls t) (formula-at t) formula.Post
@@ -329,14 +339,18 @@ formula-bodies-requires t c κs =
     let b = at-quantifier (formula-node t n) (c .enum-told5 .given .1) in
     (omega (arith, b .lower-b, formula-start t n .pre .0), (formula-start t n .pre .1 .0, (b .body, b .names)))
 
-formula-quantify-requires : (t : ℕ) → formula-lts.Need-quantify-requires (formula-calls t) (formula-at t) formula.Post
-formula-quantify-requires t c κs = c .bodies .ensures .fine
+formula-quantify-over-requires : (t : ℕ)
+    → formula-lts.Need-quantify-over-requires (formula-calls t) (formula-at t) formula.Post
+formula-quantify-over-requires t c κs =
+    let n = c .before .before .before in
+    (formula-start t n .pre .1 .0 .taken, c .bodies .ensures .fine)
 
 formula-returns-5 : (t : ℕ) → formula-lts.Need-returns-5 (formula-calls t) (formula-at t) formula.Post
 formula-returns-5 t c =
     let k = c .before .before in
     let h = formula-node t (k .before .before) in
-    quantifier-truth h _ _ (k .enum-told5 .given .1) (c .before .bodies .ensures) (c .quantify .ensures)
+    quantifier-truth h _ _ (k .enum-told5 .given .1) (c .before .bodies .ensures)
+    (c .quantify-over .ensures (environment (formula-start t (k .before .before) .args .env)))
 
 -- ---- 2.2.6: the bodies of a binder
 abbrev bodies-Inv-loop : bodies-lts.InvT-loop
@@ -404,11 +418,12 @@ pub +bodies+expression+formula-spec : {M : Type 1} → statement M
     (expression-enum-told t) (expression-leaf-requires t) (expression-enum-told-2 t) (expression-expression-requires t)
     (expression-expression-requires-2 t) (expression-binary-requires t) (expression-enum-told-3 t)
     (expression-expression-requires-3 t) (expression-unary-requires t) (expression-enum-told-4 t)
-    (expression-bodies-requires t) (expression-returns t) (expression-returns-2 t) (expression-returns-3 t)
+    (expression-bodies-requires t) (expression-comprehend-requires t) (expression-returns t) (expression-returns-2 t)
+    (expression-returns-3 t)
     (expression-returns-4 t))
     λ t. formula-lts.spec (formula-calls t) (formula-at t) formula.Post (formula-read-node-requires t)
     (formula-enum-told t) (formula-expression-requires t) (formula-expression-requires-2 t) (formula-compare-requires t)
     (formula-enum-told-2 t) (formula-expression-requires-3 t) (formula-test-requires t) (formula-enum-told-3 t)
     (formula-formula-requires t) (formula-enum-told-4 t) (formula-formula-requires-2 t) (formula-formula-requires-3 t)
-    (formula-connect-requires t) (formula-enum-told-5 t) (formula-bodies-requires t) (formula-quantify-requires t)
+    (formula-connect-requires t) (formula-enum-told-5 t) (formula-bodies-requires t) (formula-quantify-over-requires t)
     (formula-returns t) (formula-returns-2 t) (formula-returns-3 t) (formula-returns-4 t) (formula-returns-5 t)

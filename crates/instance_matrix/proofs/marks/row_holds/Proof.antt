@@ -14,8 +14,21 @@ returns c sheet instance = rw (c .match .keys1) refl
 returns-2 : tie.Need-returns-2
 returns-2 c sheet instance = rw (c .match .keys2, ← c .before .count .ensures) refl
 
+pair-requires : tie.Need-pair-requires
+pair-requires c κs = search needs
+
+both-requires : tie.Need-both-requires
+both-requires c κs = search needs
+
 returns-3 : tie.Need-returns-3
-returns-3 c sheet instance = rw (exact-row sheet instance _ _ (c .match .rest .0 .1) (c .match .rest .1), ← c .before .count .ensures) refl
+returns-3 c sheet instance =
+    let m = c .before .before .match .rest in
+    rw (
+      exact-row sheet instance _ _ _ (m .0 .1) (m .1),
+      ← c .before .before .before .count .ensures,
+      ← c .before .pair .ensures,
+    )
+    (c .both .ensures)
 
 pub row-holds-spec : {M : Type 1} → statement M
-row-holds-spec = tie.close (tie.spec count-requires returns returns-2 returns-3)
+row-holds-spec = tie.close (tie.spec count-requires pair-requires both-requires returns returns-2 returns-3)

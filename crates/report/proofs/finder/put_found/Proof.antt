@@ -1,4 +1,4 @@
--- `put_found` meets its contract: the line of `found`, and then the lines of the relations.
+-- `put_found` meets its contract: the line of `found`, and then the lines of the instance.
 use mathlib.Core.Path.{_≡_, refl, sym, ap, _∙_}
 use mathlib.Core.List.{List, []}
 use Prim.Native.Nat.{ℕ}

@@ -15,11 +15,11 @@ use Rattle.report.proofs.lines.put_line.Statement.{statement}
 use Rattle.report.proofs.lines.put_line.Tie as tie
 
 abbrev Inv-loop : tie.InvT-loop
-Inv-loop text₀ at instance r first rows columns end₀ i₀ text end i =
+Inv-loop text₀ at letter instance number₀ first rows columns end₀ i₀ text end i =
     (i ≤ rows) × (end ≤ end₀ + 9 * i) × Put text₀ end₀ (series i (λ k. rowFrom instance (first + k * columns) columns)) text end
 
 abbrev μ-loop : tie.MeasureT-loop
-μ-loop text₀ at instance r first rows columns end₀ i₀ text end i = rows - i
+μ-loop text₀ at letter instance number₀ first rows columns end₀ i₀ text end i = rows - i
 
 slice-write-text : tie.Need-slice-write-text Inv-loop μ-loop
 slice-write-text c = omega (arith, c .before .before .pre .0)
@@ -30,7 +30,12 @@ add-put-decimal c = let s = c .before .before .before in omega (arith, s .pre .0
 put-decimal-requires : tie.Need-put-decimal-requires Inv-loop μ-loop
 put-decimal-requires c κs =
     let s = c .before .before .before in
-    omega (arith, s .pre .0, number-short (s .args .r) (s .pre .1 .0), length-set (s .args .text .now) (s .args .at) 114)
+    omega (
+      arith,
+      s .pre .0,
+      number-short (s .args .number) (s .pre .1 .0),
+      length-set (s .args .text .now) (s .args .at) (s .args .letter),
+    )
 
 -- where the call started
 abbrev start : tie.At-loop Inv-loop μ-loop → tie.Start Inv-loop μ-loop
@@ -41,16 +46,17 @@ number c = c .before .before .before
 
 -- the letter and the number
 named : (c : tie.At-loop Inv-loop μ-loop)
-    → Put (start c .args .text .now) (start c .args .at) ((114 ∷ []) ++ decimal (start c .args .r))
+    → Put (start c .args .text .now) (start c .args .at) ((start c .args .letter ∷ []) ++ decimal (start c .args .number))
     (number c .put-decimal .last .0) (number c .put-decimal .result)
-named c = put-both (put-byte (start c .args .text .now) (start c .args .at) 114) (number c .put-decimal .ensures)
+named c = put-both (put-byte (start c .args .text .now) (start c .args .at) (start c .args .letter))
+    (number c .put-decimal .ensures)
 
 loop-holds : tie.Need-loop-holds Inv-loop μ-loop
 loop-holds c = (omega arith, omega arith, put-none-of _ _ _)
 
 -- where the rows end, and that there is room for one more
 place : (c : tie.At-loop Inv-loop μ-loop) → c .loop .end ≤ start c .args .at + 3 + 9 * c .loop .i
-place c = omega (arith, c .loop .inv .1, number c .put-decimal .ensures .ends, number-short (start c .args .r) (start c .pre .1 .0))
+place c = omega (arith, c .loop .inv .1, number c .put-decimal .ensures .ends, number-short (start c .args .number) (start c .pre .1 .0))
 
 kept : (c : tie.At-loop Inv-loop μ-loop) → length (c .loop .text) ≡ length (start c .args .text .now)
 kept c = put-length (c .loop .inv .2) ∙ put-length (named c)
@@ -112,14 +118,15 @@ add-result c = omega (arith, ended c, start (c .before) .pre .0, start (c .befor
 
 whole : (c : tie.After-loop Inv-loop μ-loop)
     → Put (start (c .before) .args .text .now) (start (c .before) .args .at)
-    (lineFrom (start (c .before) .args .instance .now) (start (c .before) .args .r) (start (c .before) .args .first)
+    (lineFrom (start (c .before) .args .letter) (start (c .before) .args .instance .now) (start (c .before) .args .number)
+    (start (c .before) .args .first)
     (start (c .before) .args .rows) (start (c .before) .args .columns))
     (set (c .before .loop .text) (c .before .loop .end) 10) (c .before .loop .end + 1)
 unfolding lineFrom
 whole c =
     let k = c .before in
     let e : k .loop .i ≡ start k .args .rows = omega (arith, k .loop .inv .0, c .loop-test .left) in
-    put-both (put-byte (start k .args .text .now) (start k .args .at) 114)
+    put-both (put-byte (start k .args .text .now) (start k .args .at) (start k .args .letter))
     (put-both (number k .put-decimal .ensures)
     (put-both (put-as (ap (λ (n : ℕ). series n (row (start k))) e) (k .loop .inv .2)) (put-byte (k .loop .text) (k .loop .end) 10)))
 

@@ -5,13 +5,13 @@ use Prim.Native.Nat.{_≤_, _-_}
 use native.Mathlib.Omega.{arith}
 use lib.ListN.{length}
 use Rattle.prelude.specs.Tests.{each, between}
-use Rattle.sheet_rules.specs.Blocks.{byte}
+use Rattle.sheet.specs.Filling.{scopeIn}
 use Rattle.sheet.proofs.Loops.{each-none, each-more}
 use Rattle.sheet.proofs.declarations.scopes_fine.Statement.{statement}
 use Rattle.sheet.proofs.declarations.scopes_fine.Tie as tie
 
 abbrev Inv-loop : tie.InvT-loop
-Inv-loop sorts fine₀ k₀ fine k = (k ≤ length sorts) × (fine ≡ each k (λ i. between 1 8 (byte sorts i)))
+Inv-loop sorts fine₀ k₀ fine k = (k ≤ length sorts) × (fine ≡ each k (λ i. between 1 8 (scopeIn sorts i)))
 
 abbrev μ-loop : tie.MeasureT-loop
 μ-loop sorts fine₀ k₀ fine k = length sorts - k
@@ -19,8 +19,8 @@ abbrev μ-loop : tie.MeasureT-loop
 loop-holds : tie.Need-loop-holds Inv-loop μ-loop
 loop-holds c = (omega arith, each-none _)
 
-byte-requires : tie.Need-byte-requires Inv-loop μ-loop
-byte-requires c κs = search needs
+scope-at-requires : tie.Need-scope-at-requires Inv-loop μ-loop
+scope-at-requires c κs = search needs
 
 within-requires : tie.Need-within-requires Inv-loop μ-loop
 within-requires c κs = search needs
@@ -39,7 +39,7 @@ loop-again c =
     let l = c .before .before .before .before .loop in (
       omega arith,
       each-more _ (l .k) (l .fine) (c .both .result) (l .inv .1)
-          (rw (← c .before .before .byte .ensures .0, ← c .before .within .ensures) (c .both .ensures)),
+          (rw (← c .before .before .scope-at .ensures .0, ← c .before .within .ensures) (c .both .ensures)),
     )
 
 returns : tie.Need-returns Inv-loop μ-loop
@@ -51,4 +51,5 @@ returns c =
 pub scopes-fine-spec : {M : Type 1} → statement M
 scopes-fine-spec =
     tie.close
-    (tie.spec Inv-loop μ-loop loop-holds byte-requires within-requires both-requires add-k loop-less loop-again returns)
+    (tie.spec Inv-loop μ-loop loop-holds scope-at-requires within-requires both-requires add-k loop-less loop-again
+    returns)

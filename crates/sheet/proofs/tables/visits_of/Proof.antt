@@ -43,8 +43,8 @@ field-requires-3 c κs = omega arith
 byte-requires : tie.Need-byte-requires Inv-loop μ-loop
 byte-requires c κs = search needs
 
-byte-requires-2 : tie.Need-byte-requires-2 Inv-loop μ-loop
-byte-requires-2 c κs = search needs
+scope-at-requires : tie.Need-scope-at-requires Inv-loop μ-loop
+scope-at-requires c κs = search needs
 
 count-at-requires : tie.Need-count-at-requires Inv-loop μ-loop
 count-at-requires c κs = search needs
@@ -62,7 +62,7 @@ entry-low c i =
 
 visits-by-requires : tie.Need-visits-by-requires Inv-loop μ-loop
 visits-by-requires c κs = (
-  omega (arith, c .before .before .byte2 .ensures .1),
+  omega (arith, c .before .before .scope-at .ensures .1),
   rw (c .before .count-at .ensures) (entry-low c _),
   rw (c .count-at2 .ensures)
       (entry-low c _),
@@ -111,7 +111,7 @@ found c sheet s x n =
       ← c .before .before .before .before .before .before .field2 .ensures .0,
       ← c .before .before .before .before .before .field3 .ensures .0,
       ← c .before .before .before .before .byte .ensures .0,
-      ← c .before .before .before .byte2 .ensures .0,
+      ← c .before .before .before .scope-at .ensures .0,
       ← c .before .before .count-at .ensures,
       ← c .before .count-at2 .ensures,
     )
@@ -136,5 +136,5 @@ pub visits-of-spec : {M : Type 1} → statement M
 visits-of-spec =
     tie.close
     (tie.spec Inv-loop μ-loop loop-holds field-requires row-of-requires field-requires-2 field-requires-3 byte-requires
-    byte-requires-2 count-at-requires count-at-requires-2 visits-by-requires mul-visits array-write-visits add-v
+    scope-at-requires count-at-requires count-at-requires-2 visits-by-requires mul-visits array-write-visits add-v
     loop-less loop-again returns)

@@ -5,10 +5,10 @@ use lib.IntN.{pos, negsuc}
 use lib.ListN.{List·getD-eq-default}
 use mir.Syntax.{w32}
 use mir.ValLaws.{toZ-ofZ}
-use Rattle.clauses_kinds.proofs.Lists.{getD-any}
+use Rattle.clauses_emission.proofs.Ranges.{getD-any}
 use borrow.Author.Needs.{needs}
-use Rattle.clauses_kinds.proofs.leaves.word_at.Statement.{statement}
-use Rattle.clauses_kinds.proofs.leaves.word_at.Tie as tie
+use Rattle.clauses_emission.proofs.list.word_at.Statement.{statement}
+use Rattle.clauses_emission.proofs.list.word_at.Tie as tie
 
 mul-result : tie.Need-mul-result
 mul-result c = search needs
