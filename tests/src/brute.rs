@@ -9,8 +9,9 @@ pub fn all(cells: usize) -> impl Iterator<Item = Vec<u8>> {
 }
 
 /// The instances that satisfy marks and formula, in ascending order; each is looked for when it is asked for.
+/// Membership cells take part as all others.
 pub fn satisfying(sheet: &Sheet) -> impl Iterator<Item = Vec<u8>> + '_ {
-    all(sheet.cells()).filter(|bytes| satisfies(sheet, &decode(sheet, bytes).expect("within the scopes")))
+    all(sheet.cells()).filter(|bytes| satisfies(sheet, &decode(sheet, bytes).expect("one byte for each cell")))
 }
 
 /// All of them.

@@ -1,6 +1,7 @@
-//! The clause list of a sheet (document 01, "Clauses", numbers 1 to 10 and 13; OR as Change 2 has it).
+//! The clause list of a sheet (document 01, "Clauses", numbers 1 to 10 and 13; OR as Change 2 has it, limited sorts as
+//! Change 8).
 
-use crate::sheet::{self, Shape, Sheet, SHORT, SIZE};
+use crate::sheet::{self, Relation, Shape, Sheet, SHORT, SIZE};
 use std::collections::BTreeMap;
 
 /// The most variables that a list may have.
@@ -70,6 +71,9 @@ pub fn translate(sheet: &Sheet) -> Result<Clauses, u32> {
     let last = 1 + sheet.cells();
     let mut translation = Translation { sheet, shapes, last, clauses: vec![vec![1]], met: [0; MET.len()] };
     for relation in 0..sheet.relations.len() {
+        translation.membership(relation);
+    }
+    for relation in 0..sheet.relations.len() {
         translation.mark(relation);
     }
     let root = sheet.nodes.len() - 1;
@@ -81,22 +85,41 @@ pub fn translate(sheet: &Sheet) -> Result<Clauses, u32> {
 impl Translation<'_> {
     /// The variables of a relation's cells, row by row.
     fn cells(&self, relation: usize) -> Matrix {
-        let earlier = &self.sheet.relations[..relation];
-        let before: usize = earlier.iter().map(|r| self.sheet.cells_of(r)).sum();
+        let before = self.sheet.cells_before(relation);
         let (rows, columns) = self.sheet.extent(self.sheet.relations[relation].shape());
         let cell = |row: usize, column: usize| (2 + before + row * columns + column) as i32;
         (0..rows).map(|row| (0..columns).map(|column| cell(row, column)).collect()).collect()
     }
 
-    /// The clauses of a relation's mark.
+    /// The variable of an atom's membership cell; none where its sort is not limited.
+    fn member(&self, sort: u8, atom: usize) -> Option<i32> {
+        let before: usize = self.sheet.limited().take_while(|&s| s < sort).map(|s| self.sheet.scope(s)).sum();
+        self.sheet.is_limited(sort).then_some((2 + before + atom) as i32)
+    }
+
+    /// For each cell of a relation and each of its columns over a limited sort: the cell's atom there is a member.
+    fn membership(&mut self, relation: usize) {
+        let sorts = self.sheet.relations[relation].sorts();
+        for (row, cells) in self.cells(relation).iter().enumerate() {
+            for (column, &cell) in cells.iter().enumerate() {
+                let atoms = if sorts.len() == 1 { vec![column] } else { vec![row, column] };
+                let members = sorts.iter().zip(atoms).filter_map(|(&sort, atom)| self.member(sort, atom));
+                let clauses: Vec<Vec<i32>> = members.map(|member| vec![-cell, member]).collect();
+                self.clauses.extend(clauses);
+            }
+        }
+    }
+
+    /// The clauses of a relation's mark. A row of two columns is bound to have a value only if its atom is a member.
     fn mark(&mut self, relation: usize) {
-        let mark = self.sheet.relations[relation].mark;
-        for row in self.cells(relation) {
+        let Relation { columns, mark, first, .. } = self.sheet.relations[relation];
+        for (number, row) in self.cells(relation).into_iter().enumerate() {
             if mark >= 1 {
                 self.clauses.extend(pairs(&row).iter().map(|&(p, q)| vec![-p, -q]));
             }
             if mark == 2 {
-                self.clauses.push(row);
+                let member = if columns == 2 { self.member(first, number) } else { None };
+                self.clauses.push(member.map(|member| -member).into_iter().chain(row).collect());
             }
         }
     }
@@ -202,17 +225,22 @@ impl Translation<'_> {
                 let atom = environment[node.a as usize] as usize;
                 Ok(constants(1, self.sheet.range(node.a), |_, column| column == atom))
             }
-            3 => Ok(constants(1, self.sheet.scope(node.a), |_, _| true)),
+            3 => Ok(vec![self.atoms(node.a)]),
             4 => {
-                let scope = self.sheet.scope(node.a);
-                Ok(constants(scope, scope, |row, column| row == column))
+                let atoms = self.atoms(node.a);
+                let row =
+                    |at: usize| (0..atoms.len()).map(|column| if column == at { atoms[at] } else { -1 }).collect();
+                Ok((0..atoms.len()).map(row).collect())
             }
             10 => Ok(transposed(&self.expression(node.a, environment)?)),
             11 => {
                 let matrix = self.expression(node.a, environment)?;
                 self.closure(matrix)
             }
-            12 => Ok(vec![self.bodies(node.a, node.b, environment)?]),
+            12 => {
+                let bodies = self.bodies(node.a, node.b, environment)?;
+                Ok(vec![self.guarded(node.a, bodies, |t, member, body| t.and(&[member, body]))?])
+            }
             _ => {
                 let a = self.expression(node.a, environment)?;
                 let b = self.expression(node.b, environment)?;
@@ -251,11 +279,13 @@ impl Translation<'_> {
             30 => Ok(-self.formula(node.a, environment)?),
             40 => {
                 let bodies = self.bodies(node.a, node.b, environment)?;
-                self.and(&bodies)
+                let each = self.guarded(node.a, bodies, |t, member, body| t.or(&[-member, body]))?;
+                self.and(&each)
             }
             41 => {
                 let bodies = self.bodies(node.a, node.b, environment)?;
-                self.or(&bodies)
+                let each = self.guarded(node.a, bodies, |t, member, body| t.and(&[member, body]))?;
+                self.or(&each)
             }
             kind => {
                 let p = self.formula(node.a, environment)?;
@@ -306,6 +336,28 @@ impl Translation<'_> {
             literals.push(self.formula(body, inner)?);
         }
         Ok(literals)
+    }
+
+    /// The bodies of a binder, all walked, each put together with its atom's member; as they are where the sort is not
+    /// limited.
+    fn guarded<F>(&mut self, variable: u8, bodies: Vec<i32>, mut guard: F) -> Result<Vec<i32>, u32>
+    where
+        F: FnMut(&mut Self, i32, i32) -> Result<i32, u32>,
+    {
+        let sort = self.sheet.variables[variable as usize];
+        let mut literals = Vec::new();
+        for (atom, body) in bodies.into_iter().enumerate() {
+            literals.push(match self.member(sort, atom) {
+                Some(member) => guard(self, member, body)?,
+                None => body,
+            });
+        }
+        Ok(literals)
+    }
+
+    /// For each atom of a sort that it exists.
+    fn atoms(&self, sort: u8) -> Vec<i32> {
+        (0..self.sheet.scope(sort)).map(|atom| self.member(sort, atom).unwrap_or(1)).collect()
     }
 }
 

@@ -3,6 +3,7 @@
 use crate::brute::{assignments, first_assignments, holds, instances, least};
 use crate::clauses::{translate, MET};
 use crate::finder::finder;
+use crate::limits::{of_instance, of_sheet, LIMITS, MEMBERS};
 use crate::random::Source;
 use crate::random_sheet::{sheet, Style, SMALL};
 use crate::search::{search, settled, End};
@@ -16,11 +17,11 @@ fn instances_and_assignments_match() {
     let rich = Style { rich: true, ..SMALL };
     let styles = [SMALL, Style { sorts: 1, scope: 3, relations: 1, ..SMALL }, rich, rich];
     let (mut compared, mut kinds, mut satisfiable) = (0, std::collections::BTreeMap::new(), 0);
-    let mut met = [0; MET.len()];
+    let (mut met, mut limits, mut members) = ([0; MET.len()], [0; LIMITS.len()], [0; MEMBERS.len()]);
     for case in 0..3_000 {
         let source = &mut Source::new(SEED, "counts", case);
         let sheet = sheet(source, styles[case as usize % 4]);
-        if sheet.cells() > 9 || read(&sheet.bytes()).is_err() {
+        if sheet.cells() > 10 || read(&sheet.bytes()).is_err() {
             continue;
         }
         let Ok(clauses) = translate(&sheet) else { continue };
@@ -32,9 +33,14 @@ fn instances_and_assignments_match() {
         satisfiable += usize::from(!by_meaning.is_empty());
         sheet.nodes.iter().for_each(|node| *kinds.entry(node.kind).or_insert(0) += 1);
         met.iter_mut().zip(clauses.met).for_each(|(sheets, times)| *sheets += usize::from(times > 0));
+        limits.iter_mut().zip(of_sheet(&sheet)).for_each(|(sheets, met)| *sheets += usize::from(met));
+        for cells in by_meaning {
+            members.iter_mut().zip(of_instance(&sheet, &cells)).for_each(|(sum, met)| *sum += usize::from(met));
+        }
     }
-    println!("{compared} sheets, {satisfiable} satisfiable, kinds {kinds:?}, met {met:?}");
-    assert!(compared > 2_990 && satisfiable > 1_000 && satisfiable < compared - 300);
+    println!("{compared} sheets, {satisfiable} satisfiable, kinds {kinds:?}, met {met:?} {limits:?} {members:?}");
+    assert!(limits.iter().all(|&sheets| sheets >= 10) && members.iter().all(|&times| times > 200));
+    assert!(compared > 2_900 && satisfiable > 1_000 && satisfiable < compared - 300);
     assert!(kinds.len() == 24 && kinds.values().all(|&times| times > 100));
     assert!(met.iter().all(|&sheets| sheets > 100));
 }

@@ -1,6 +1,6 @@
 //! Sheets of 200 nodes, each one under the next: the deepest walks that a sheet can have.
 
-use crate::sheet::{Node, Relation, Sheet};
+use crate::sheet::{Node, Relation, Sheet, LIMIT};
 
 const NODES: usize = 200;
 
@@ -16,9 +16,22 @@ fn chain(sort: u8, first: &[Node], next: impl Fn(usize, u8) -> Node, root: Optio
     Sheet { scopes: vec![1, 2, 8], variables: vec![0], relations: vec![relation; 2], nodes }
 }
 
-/// Every way down, with its name: through one operand, through the first or the second of two, and through binders,
-/// whose scope is 1, so that the walk stays short.
-pub fn sheets() -> Vec<(&'static str, Sheet)> {
+/// Ways down where a limited sort makes a difference, or where all is large.
+const LIMITED: [&str; 7] = ["closure at scope 8", "union", "join", "not", "for all", "for some", "the atoms for which"];
+
+/// Every way down, with its name, and some once more with all sorts limited.
+pub fn sheets() -> Vec<(String, Sheet)> {
+    let plain = ways().into_iter().map(|(name, sheet)| (name.to_string(), sheet));
+    let limited = ways().into_iter().filter(|(name, _)| LIMITED.contains(name)).map(|(name, mut sheet)| {
+        sheet.scopes.iter_mut().for_each(|scope| *scope += LIMIT);
+        (format!("{name}, limited"), sheet)
+    });
+    plain.chain(limited).collect()
+}
+
+/// Through one operand, through the first or the second of two, and through binders, whose scope is 1, so that the walk
+/// stays short.
+fn ways() -> Vec<(&'static str, Sheet)> {
     let node = |kind, a, b| Node { kind, a, b };
     let expression = [node(1, 0, 0)];
     // the union of a relation with itself makes no gate, so that the first union is of two relations

@@ -3,7 +3,8 @@
 
 use crate::meaning::{decode, tuples};
 use crate::random::Source;
-use crate::sheet::{read, shapes, Node, Relation, Shape, Sheet};
+use crate::random_limits::within;
+use crate::sheet::{read, shapes, Node, Relation, Shape, Sheet, LIMIT};
 
 /// The shapes of two sorts: relations 0 to 5, and relations 6 to 11 once more.
 const SHAPES: [Shape; 6] =
@@ -34,9 +35,18 @@ pub fn scopes() -> impl Iterator<Item = [u8; 2]> {
     (1..=8).map(|scope| [scope, 9 - scope])
 }
 
-/// The trials that are accepted, at all scopes of either sort.
+/// The same with the one, the other or both as upper limits.
+pub fn limits() -> impl Iterator<Item = [u8; 2]> {
+    scopes().map(|[first, second]| match first % 3 {
+        0 => [first, second + LIMIT],
+        1 => [first + LIMIT, second],
+        _ => [first + LIMIT, second + LIMIT],
+    })
+}
+
+/// The trials that are accepted, at all scopes of either sort, as they are and as upper limits.
 pub fn accepted() -> Vec<Sheet> {
-    scopes().flat_map(trials).filter(|sheet| read(&sheet.bytes()).is_ok()).collect()
+    scopes().chain(limits()).flat_map(trials).filter(|sheet| read(&sheet.bytes()).is_ok()).collect()
 }
 
 /// Nodes 0 to 6: two sets, the four relations between two sorts, a formula. The variables are bound nowhere.
@@ -82,7 +92,7 @@ pub fn solution(source: &mut Source, sheet: &Sheet) -> Vec<u8> {
     let mut instance = drawn(source, sheet);
     let values = tuples(sheet, &decode(sheet, &instance).expect("an instance"), [0; 4], TRIAL as u8);
     let target = sheet.nodes[TRIAL + 1].a as usize;
-    let before: usize = sheet.relations[..target].iter().map(|r| sheet.cells_of(r)).sum();
+    let before = sheet.cells_before(target);
     let columns = sheet.extent(sheet.relations[target].shape()).1;
     let cells = sheet.cells_of(&sheet.relations[target]);
     instance[before..before + cells].fill(0);
@@ -94,10 +104,10 @@ pub fn solution(source: &mut Source, sheet: &Sheet) -> Vec<u8> {
 }
 
 /// Rings, in which an atom comes back to itself after as many steps as there are atoms; or cells that are
-/// seldom, at times or often 1.
+/// seldom, at times or often 1. Most atoms of a limited sort are members, and no other has a 1.
 pub fn drawn(source: &mut Source, sheet: &Sheet) -> Vec<u8> {
     let of = source.pick(&[0, 2, 4, 8]);
-    let mut instance = Vec::new();
+    let mut instance: Vec<u8> = (0..sheet.memberships()).map(|_| u8::from(source.chance(3, 4))).collect();
     for relation in &sheet.relations {
         let (rows, columns) = sheet.extent(relation.shape());
         let turn = source.below(columns);
@@ -109,5 +119,5 @@ pub fn drawn(source: &mut Source, sheet: &Sheet) -> Vec<u8> {
             }
         }
     }
-    instance
+    within(sheet, instance)
 }

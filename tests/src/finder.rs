@@ -1,5 +1,5 @@
 //! Read-back, the whole run over lent slices, and what the finder program prints
-//! (document 01, "Answers that decline", "The finder program").
+//! (document 01, "Answers that decline", "The finder program"; document 02, Change 8).
 
 use crate::clauses::{self, translate};
 use crate::search::{search, settled, Answer, End, CHOSEN};
@@ -54,18 +54,25 @@ pub fn find(
     Ok(answer)
 }
 
-/// The line of each relation: `r`, its number, then its rows as digits, separated by single spaces.
+/// The line of each limited sort: `s`, its number, its membership cells as digits. Then the line of each relation: `r`,
+/// its number, then its rows as digits, separated by single spaces.
 pub fn lines(sheet: &Sheet, instance: &[u8]) -> String {
     let mut out = String::new();
     let mut cells = instance.iter();
-    for (number, relation) in sheet.relations.iter().enumerate() {
-        let (rows, columns) = sheet.extent(relation.shape());
-        out += &format!("r{number}");
+    let mut line = |name: String, rows: usize, columns: usize| {
+        out += &name;
         for _ in 0..rows {
             let digits: String = cells.by_ref().take(columns).map(|cell| cell.to_string()).collect();
             out += &format!(" {digits}");
         }
         out += "\n";
+    };
+    for sort in sheet.limited() {
+        line(format!("s{sort}"), 1, sheet.scope(sort));
+    }
+    for (number, relation) in sheet.relations.iter().enumerate() {
+        let (rows, columns) = sheet.extent(relation.shape());
+        line(format!("r{number}"), rows, columns);
     }
     out
 }

@@ -12,12 +12,14 @@ pub mod every_kind;
 pub mod finder;
 pub mod idle_walks;
 pub mod large_sheets;
+pub mod limits;
 pub mod long_search;
 pub mod meaning;
 pub mod next;
 pub mod random;
 pub mod random_cells;
 pub mod random_damage;
+pub mod random_limits;
 pub mod random_list;
 pub mod random_rich;
 pub mod random_sheet;
@@ -35,6 +37,8 @@ mod cases;
 mod counts;
 #[cfg(test)]
 mod least_cases;
+#[cfg(test)]
+mod limit_cases;
 #[cfg(test)]
 mod next_cases;
 #[cfg(test)]

@@ -1,5 +1,5 @@
 //! The meaning of the kinds by sets of tuples, the marks, and the check of an instance
-//! (document 01, "Kinds and meanings", numbers 1 to 9 and 11).
+//! (document 01, "Kinds and meanings", numbers 1 to 9 and 11; document 02, Change 8).
 
 use crate::sheet::{self, Node, Relation, Sheet, CELLS};
 use std::collections::{BTreeSet, VecDeque};
@@ -11,16 +11,25 @@ pub type Tuples = BTreeSet<Tuple>;
 /// The atom of each variable; a binder puts its own in place.
 pub type Environment = [u8; 4];
 
-/// The tuples of each relation.
-pub type Instance = Vec<Tuples>;
+/// What there is.
+pub struct Instance {
+    /// The atoms of each sort: its members where it is limited, else all.
+    pub atoms: Vec<BTreeSet<u8>>,
+    /// The tuples of each relation.
+    pub relations: Vec<Tuples>,
+}
 
-/// An instance from its bytes: one for each cell, relation by relation, row by row, column by column.
+/// An instance from its bytes, one for each cell: the limited sorts' atoms, sort by sort; then relation by relation,
+/// row by row, column by column.
 pub fn decode(sheet: &Sheet, bytes: &[u8]) -> Option<Instance> {
     if bytes.len() != sheet.cells() || bytes.iter().any(|&byte| byte > 1) {
         return None;
     }
     let mut bytes = bytes.iter();
-    let mut instance = Vec::new();
+    let sorts = 0..sheet.scopes.len() as u8;
+    let mut exists = |sort: u8| !sheet.is_limited(sort) || bytes.next() == Some(&1);
+    let atoms = sorts.map(|sort| (0..sheet.scope(sort) as u8).filter(|_| exists(sort)).collect()).collect();
+    let mut relations = Vec::new();
     for relation in &sheet.relations {
         let (rows, columns) = sheet.extent(relation.shape());
         let mut tuples = Tuples::new();
@@ -31,9 +40,9 @@ pub fn decode(sheet: &Sheet, bytes: &[u8]) -> Option<Instance> {
                 }
             }
         }
-        instance.push(tuples);
+        relations.push(tuples);
     }
-    Some(instance)
+    Some(Instance { atoms, relations })
 }
 
 /// The tuples of an expression.
@@ -41,10 +50,10 @@ pub fn tuples(sheet: &Sheet, instance: &Instance, environment: Environment, at: 
     let node = sheet.nodes[at as usize];
     let operand = |field: u8| tuples(sheet, instance, environment, field);
     match node.kind {
-        1 => instance[node.a as usize].clone(),
+        1 => instance.relations[node.a as usize].clone(),
         2 => Tuples::from([vec![environment[node.a as usize]]]),
-        3 => atoms(sheet, node.a).map(|atom| vec![atom]).collect(),
-        4 => atoms(sheet, node.a).map(|atom| vec![atom, atom]).collect(),
+        3 => instance.atoms[node.a as usize].iter().map(|&atom| vec![atom]).collect(),
+        4 => instance.atoms[node.a as usize].iter().map(|&atom| vec![atom, atom]).collect(),
         5 => operand(node.a).union(&operand(node.b)).cloned().collect(),
         6 => operand(node.a).intersection(&operand(node.b)).cloned().collect(),
         7 => operand(node.a).difference(&operand(node.b)).cloned().collect(),
@@ -54,7 +63,7 @@ pub fn tuples(sheet: &Sheet, instance: &Instance, environment: Environment, at: 
         11 => closure(&operand(node.a)),
         12 => {
             let holds = |atom: &u8| holds(sheet, instance, bind(environment, node.a, *atom), node.b);
-            variable_atoms(sheet, &node).filter(holds).map(|atom| vec![atom]).collect()
+            variable_atoms(sheet, instance, &node).filter(holds).map(|atom| vec![atom]).collect()
         }
         kind => unreachable!("kind {kind} is no expression"),
     }
@@ -77,19 +86,16 @@ fn holds(sheet: &Sheet, instance: &Instance, environment: Environment, at: u8) -
         32 => truth(node.a) || truth(node.b),
         33 => !truth(node.a) || truth(node.b),
         34 => truth(node.a) == truth(node.b),
-        40 => variable_atoms(sheet, &node).all(body),
-        41 => variable_atoms(sheet, &node).any(body),
+        40 => variable_atoms(sheet, instance, &node).all(body),
+        41 => variable_atoms(sheet, instance, &node).any(body),
         kind => unreachable!("kind {kind} is no formula"),
     }
 }
 
-fn atoms(sheet: &Sheet, sort: u8) -> std::ops::Range<u8> {
-    0..sheet.scope(sort) as u8
-}
-
-/// The atoms that a binder's variable takes.
-fn variable_atoms(sheet: &Sheet, binder: &Node) -> std::ops::Range<u8> {
-    0..sheet.range(binder.a) as u8
+/// The atoms that a binder's variable takes, ascending.
+fn variable_atoms<'i>(sheet: &Sheet, instance: &'i Instance, binder: &Node) -> impl Iterator<Item = u8> + 'i {
+    let sort = sheet.variables[binder.a as usize];
+    instance.atoms[sort as usize].iter().copied()
 }
 
 fn bind(mut environment: Environment, variable: u8, atom: u8) -> Environment {
@@ -133,30 +139,40 @@ fn closure(pairs: &Tuples) -> Tuples {
     closed
 }
 
+/// Whether every atom of every tuple is there.
+fn within_scopes(sheet: &Sheet, instance: &Instance) -> bool {
+    let is_there = |(&atom, sort): (&u8, u8)| instance.atoms[sort as usize].contains(&atom);
+    let of_relation = |(relation, tuples): (&Relation, &Tuples)| {
+        tuples.iter().all(|tuple| tuple.iter().zip(relation.sorts()).all(is_there))
+    };
+    sheet.relations.iter().zip(&instance.relations).all(of_relation)
+}
+
 /// Whether every mark holds: for a relation in the row of each atom of the first sort, for a set in all of it.
 fn marks_hold(sheet: &Sheet, instance: &Instance) -> bool {
     let mark_holds = |(relation, tuples): (&Relation, &Tuples)| {
-        let in_row = |row: u8| match relation.columns {
-            1 => tuples.len(),
-            _ => tuples.iter().filter(|pair| pair[0] == row).count(),
-        };
-        let rows = sheet.extent(relation.shape()).0 as u8;
-        (0..rows).all(|row| match relation.mark {
+        let fits = |values: usize| match relation.mark {
             0 => true,
-            1 => in_row(row) <= 1,
-            _ => in_row(row) == 1,
-        })
+            1 => values <= 1,
+            _ => values == 1,
+        };
+        let in_row = |row: u8| tuples.iter().filter(|pair| pair[0] == row).count();
+        match relation.columns {
+            1 => fits(tuples.len()),
+            _ => instance.atoms[relation.first as usize].iter().all(|&row| fits(in_row(row))),
+        }
     };
-    sheet.relations.iter().zip(instance).all(mark_holds)
+    sheet.relations.iter().zip(&instance.relations).all(mark_holds)
 }
 
-/// Whether an instance satisfies marks and formula.
+/// Whether an instance is within the scopes and satisfies marks and formula.
 pub fn satisfies(sheet: &Sheet, instance: &Instance) -> bool {
     let root = sheet.nodes.len() - 1;
-    marks_hold(sheet, instance) && holds(sheet, instance, [0; 4], root as u8)
+    within_scopes(sheet, instance) && marks_hold(sheet, instance) && holds(sheet, instance, [0; 4], root as u8)
 }
 
-/// The check of an instance: numbers 1 to 9 and 11, else whether it satisfies marks and formula.
+/// The check of an instance: numbers 1 to 9 and 11, else whether it is within the scopes and satisfies marks and
+/// formula.
 pub fn check(sheet: &[u8], instance: &[u8]) -> Result<bool, u32> {
     let sheet = sheet::read(sheet)?;
     let instance = decode(&sheet, instance).ok_or(CELLS)?;

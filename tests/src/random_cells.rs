@@ -2,9 +2,11 @@
 //! least instance, which is seldom so for formulas that treat all atoms alike.
 
 use crate::random::Source;
+use crate::random_limits::limit;
 use crate::sheet::{Node, Relation, Sheet};
 
-/// One sort of two atoms. A sheet has no names for them: a set with exactly one of them tells it from the other.
+/// One sort of two atoms, at times of up to two. A sheet has no names for them: a set with exactly one of them tells it
+/// from the other.
 pub fn cells(source: &mut Source) -> Sheet {
     let named = source.below(3) as u8;
     let mut relations = Vec::new();
@@ -15,6 +17,7 @@ pub fn cells(source: &mut Source) -> Sheet {
     }
     relations[named as usize] = Relation { columns: 1, mark: 2, first: 0, second: 0 };
     let mut sheet = Sheet { scopes: vec![2], variables: vec![], relations, nodes: Vec::new() };
+    limit(source, &mut sheet);
     let (literals, [one, mirrored]) = literals(&mut sheet, named);
     let mut root = push(&mut sheet, 32, one, mirrored);
     for _ in 0..source.between(literals.len() / 2, 3 * literals.len() / 2) {
@@ -70,9 +73,10 @@ fn clause(source: &mut Source, sheet: &mut Sheet, literals: &[u8]) -> u8 {
     root
 }
 
-/// The cells of an instance in another order: column by column in each relation.
+/// The cells of an instance in another order: column by column in each relation, behind the membership cells.
 pub fn by_columns(sheet: &Sheet, instance: &[u8]) -> Vec<u8> {
-    let (mut all, mut rest) = (Vec::new(), instance);
+    let (members, mut rest) = instance.split_at(sheet.memberships());
+    let mut all = members.to_vec();
     for relation in &sheet.relations {
         let (rows, columns) = sheet.extent(relation.shape());
         let (cells, after) = rest.split_at(rows * columns);

@@ -2,7 +2,7 @@
 
 use crate::random::Source;
 use crate::random_sheet::{long_walk, loose, sheet, style, walk_of, KINDS};
-use crate::sheet::{assemble, fields, Field, Node, Sheet};
+use crate::sheet::{assemble, fields, Field, Node, Sheet, LIMIT};
 
 /// The bytes of any sheet: well-formed, loose or damaged.
 pub fn any(source: &mut Source) -> Vec<u8> {
@@ -58,7 +58,7 @@ fn around_the_limit(source: &mut Source) -> Sheet {
         4 => walk_of((1 << 32) + 2 + source.below(1_000_000) as u128),
         5 => walk_of((1 << 64) + 2 + source.below(1_000_000) as u128),
         6 => long_walk(8, source.between(1, 190)),
-        _ => long_walk(source.between(1, 8) as u8, source.between(1, 190)),
+        _ => long_walk(source.between(1, 8) as u8 + source.pick(&[0, LIMIT]), source.between(1, 190)),
     }
 }
 
@@ -72,7 +72,7 @@ pub fn damage_records(source: &mut Source, sheet: &mut Sheet) {
         1 => {
             let sort = source.below(sheet.scopes.len().max(1));
             if let Some(scope) = sheet.scopes.get_mut(sort) {
-                *scope = source.pick(&[0, 9, 255, 8, 1, 129, 136]);
+                *scope = source.pick(&[0, 9, 127, 128, 137, 255, 8, 1, 129, 136]);
             }
         }
         2..=3 => damage_declaration(source, sheet),

@@ -2,6 +2,7 @@
 //! other literals stand side by side.
 
 use crate::random::Source;
+use crate::random_limits::limit;
 use crate::sheet::{Node, Relation, Sheet};
 
 /// All expressions are over one sort: r is a set, t is the one cell of a set of another sort, m a relation.
@@ -29,7 +30,8 @@ pub fn rich(source: &mut Source, scope: usize) -> Sheet {
     let mut relation = |columns, first| Relation { columns, mark: source.pick(&[0, 0, 0, 1, 2]), first, second: 0 };
     let mut relations = vec![relation(1, 0), relation(1, 1), relation(2, 0)];
     relations.truncate(if atoms > scope { 2 } else { source.between(2, 3) });
-    let sheet = Sheet { scopes: vec![atoms as u8, 1], variables: vec![0; 3], relations, nodes: Vec::new() };
+    let mut sheet = Sheet { scopes: vec![atoms as u8, 1], variables: vec![0; 3], relations, nodes: Vec::new() };
+    limit(source, &mut sheet);
     let mut rich = Rich { source, sheet, sets: Vec::new() };
     let depth = rich.source.between(1, 3);
     let mut root = rich.formula(depth);

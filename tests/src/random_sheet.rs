@@ -1,6 +1,7 @@
 //! Random sheets: well-formed ones grown by shape, loose ones, long walks, and damage.
 
 use crate::random::Source;
+use crate::random_limits::limit;
 use crate::random_rich::rich;
 use crate::sheet::{fields, Field, Node, Relation, Shape, Sheet};
 use std::collections::BTreeSet;
@@ -46,7 +47,12 @@ pub fn sheet(source: &mut Source, style: Style) -> Sheet {
     if style.rich {
         return rich(source, style.scope);
     }
-    let sheet = declarations(source, style);
+    let declared = declarations(source, style);
+    grown(source, declared, style.depth)
+}
+
+/// A sheet with these declarations and a formula of up to so many levels.
+pub fn grown(source: &mut Source, sheet: Sheet, depth: usize) -> Sheet {
     let mut growth = Growth { source, sheet, shapes: Vec::new(), free: Vec::new() };
     for _ in 0..growth.source.below(3) {
         // nodes that the root need not reach, where any variable may be free
@@ -55,7 +61,7 @@ pub fn sheet(source: &mut Source, style: Style) -> Sheet {
         growth.expression(shape, &every, 2);
         growth.formula(&every, 2);
     }
-    let depth = growth.source.between(1, style.depth);
+    let depth = growth.source.between(1, depth);
     growth.fresh_formula(&BTreeSet::new(), depth);
     growth.sheet
 }
@@ -74,7 +80,9 @@ fn declarations(source: &mut Source, style: Style) -> Sheet {
         Relation { columns, mark, first, second: if columns == 1 { 0 } else { second } }
     };
     let relations = relations.iter().map(&mut relation).collect();
-    Sheet { scopes, variables, relations, nodes: Vec::new() }
+    let mut sheet = Sheet { scopes, variables, relations, nodes: Vec::new() };
+    limit(source, &mut sheet);
+    sheet
 }
 
 impl Growth<'_> {

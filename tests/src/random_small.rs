@@ -3,17 +3,30 @@
 use crate::long_search::{early, long};
 use crate::random::Source;
 use crate::random_cells::cells;
+use crate::random_limits::{limit, limited};
 use crate::random_sheet::{sheet, Style, SMALL, USUAL};
 use crate::sheet::{Node, Relation, Sheet};
 
 /// Some have more cells than one would go through.
 pub fn small(source: &mut Source) -> Sheet {
-    let scope = source.between(1, 3) as u8;
-    match source.below(10) {
+    match source.below(12) {
+        10..=11 => limited(source),
         0..=2 => sheet(source, SMALL),
         3 => sheet(source, Style { rich: true, ..SMALL }),
         4 => sheet(source, Style { scope: 3, relations: 2, ..USUAL }),
         5..=6 => cells(source),
+        number => {
+            let mut sheet = sets(source, number);
+            limit(source, &mut sheet);
+            sheet
+        }
+    }
+}
+
+/// Sheets that have sets alone.
+fn sets(source: &mut Source, number: usize) -> Sheet {
+    let scope = source.between(1, 3) as u8;
+    match number {
         7 => long(&[(scope, source.below(3) as u8)], source.below(3) as u8, source.chance(1, 2)),
         8 => early(&[(scope, 0), (source.between(1, 3) as u8, 0)], source.below(2) as u8),
         _ => pinned(source),

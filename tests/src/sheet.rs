@@ -1,4 +1,4 @@
-//! Reading a sheet (document 01, "The sheet", "Kinds and meanings", numbers 1 to 9).
+//! Reading a sheet (document 01, "The sheet", "Kinds and meanings", numbers 1 to 9; scopes as Change 8 has them).
 
 use std::collections::BTreeSet;
 
@@ -20,6 +20,9 @@ pub const STATE: u32 = 14;
 
 /// The most node visits that a root's walk may take.
 pub const VISITS: u128 = 1_000_000;
+
+/// What a scope byte has more than the most atoms of a limited sort (document 02, Change 8).
+pub const LIMIT: u8 = 128;
 
 #[derive(Clone, Copy, Debug, PartialEq, Eq)]
 pub struct Relation {
@@ -78,6 +81,14 @@ pub fn fields(kind: u8) -> Option<(Field, Field)> {
 }
 
 impl Relation {
+    /// The sort of each column.
+    pub fn sorts(&self) -> Vec<u8> {
+        match self.columns {
+            1 => vec![self.first],
+            _ => vec![self.first, self.second],
+        }
+    }
+
     pub fn shape(&self) -> Shape {
         match self.columns {
             1 => Shape::Set(self.first),
@@ -87,11 +98,26 @@ impl Relation {
 }
 
 impl Sheet {
+    /// The atoms of a sort; of a limited one the most that it may have.
     pub fn scope(&self, sort: u8) -> usize {
-        self.scopes[sort as usize] as usize
+        (self.scopes[sort as usize] % LIMIT) as usize
     }
 
-    /// The atoms of a variable's sort.
+    pub fn is_limited(&self, sort: u8) -> bool {
+        self.scopes[sort as usize] > LIMIT
+    }
+
+    /// The limited sorts, ascending.
+    pub fn limited(&self) -> impl Iterator<Item = u8> + '_ {
+        (0..self.scopes.len() as u8).filter(|&sort| self.is_limited(sort))
+    }
+
+    /// The membership cells.
+    pub fn memberships(&self) -> usize {
+        self.limited().map(|sort| self.scope(sort)).sum()
+    }
+
+    /// The atoms of a variable's sort, or the most that it may have.
     pub fn range(&self, variable: u8) -> usize {
         self.scope(self.variables[variable as usize])
     }
@@ -111,9 +137,15 @@ impl Sheet {
         rows * columns
     }
 
-    /// The cells of all relations.
+    /// The cells of an instance: the membership cells, then those of all relations.
     pub fn cells(&self) -> usize {
-        self.relations.iter().map(|relation| self.cells_of(relation)).sum()
+        self.cells_before(self.relations.len())
+    }
+
+    /// The cells ahead of a relation's.
+    pub fn cells_before(&self, relation: usize) -> usize {
+        let earlier: usize = self.relations[..relation].iter().map(|relation| self.cells_of(relation)).sum();
+        self.memberships() + earlier
     }
 
     /// The bytes of each block.
@@ -198,7 +230,7 @@ fn counts_fit(sheet: &Sheet) -> bool {
 }
 
 fn scopes_fit(sheet: &Sheet) -> bool {
-    sheet.scopes.iter().all(|scope| (1..=8).contains(scope))
+    sheet.scopes.iter().all(|scope| matches!(scope, 1..=8 | 129..=136))
 }
 
 fn declarations_fit(sheet: &Sheet) -> bool {

@@ -1,16 +1,19 @@
 //! The check: marked cases, each kind over each pair of operands, random sheets with random instances, all instances where
-//! there are few, and bad instances.
+//! there are few, such with a 1 of an atom that is no member, and bad instances.
 
+use super::limits::Limits;
 use super::{agree, covered, hex};
 use crate::{Outcome, Run};
 use reference::brute::all;
 use reference::every_kind::{self, solution};
+use reference::limits::{checks, digits, largest, of_instance, some, NO_CELLS};
 use reference::meaning::check;
 use reference::random::Source;
 use reference::random_damage::{any, damage_records};
+use reference::random_limits::{one_outside, within};
 use reference::random_sheet::{instance, sheet, style};
 use reference::shadows;
-use reference::sheet::{read, Sheet};
+use reference::sheet::{read, Sheet, CELLS};
 
 /// All instances are tried up to so many cells.
 const FEW: usize = 6;
@@ -50,32 +53,37 @@ const MARKED: [(&[u8], &[u8], Result<bool, u32>); 17] = [
     (&[], &[], Err(1)),
 ];
 
-pub fn run(run: &Run) -> Outcome {
-    for (bytes, instance, want) in MARKED {
-        let asked = || format!("marked, instance {}, sheet {}", hex(instance), hex(bytes));
-        agree(library::check(bytes, instance), want, asked)?;
+fn marked(bytes: &[u8], instance: &[u8], want: Result<bool, u32>) -> Result<(), String> {
+    let asked = || format!("marked, instance {}, sheet {}", hex(instance), hex(bytes));
+    agree(library::check(bytes, instance), want, asked)
+}
+
+/// The answers worked out by hand, also those for limited sorts; how many.
+fn by_hand() -> Result<usize, String> {
+    MARKED.iter().try_for_each(|&(bytes, instance, want)| marked(bytes, instance, want))?;
+    let mut answers = MARKED.len() + NO_CELLS.len();
+    for (sheet, yes, no) in checks() {
+        yes.iter().try_for_each(|cells| marked(&sheet.bytes(), &digits(cells), Ok(true)))?;
+        no.iter().try_for_each(|cells| marked(&sheet.bytes(), &digits(cells), Ok(false)))?;
+        answers += yes.len() + no.len();
     }
-    let mut tally = [("yes", 0), ("no", 0), ("number 11", 0), ("a refused sheet", 0)];
-    let (mut sheets, mut whole) = (0, 0);
-    let mut compare = |bytes: &[u8], instance: &[u8], case: u64| {
-        let want = check(bytes, instance);
-        let at = match want {
-            Ok(true) => 0,
-            Ok(false) => 1,
-            Err(11) => 2,
-            Err(_) => 3,
-        };
-        tally[at].1 += 1;
-        let asked = || format!("case {case}, instance {}, sheet {}", hex(instance), hex(bytes));
-        agree(library::check(bytes, instance), want, asked)
-    };
+    NO_CELLS.iter().try_for_each(|cells| marked(&some(130).bytes(), cells, Err(CELLS)))?;
+    // 1,088 cells: all 0, a 1 of an atom that is no member, all 1, one byte more
+    let (sheet, mut cells) = (largest(16, 2).bytes(), vec![0; 1_088]);
+    marked(&sheet, &cells, Ok(true))?;
+    cells[1_087] = 1;
+    marked(&sheet, &cells, Ok(false))?;
+    marked(&sheet, &[1; 1_088], Ok(false))?;
+    marked(&sheet, &[0; 1_089], Err(CELLS))?;
+    Ok(answers + 4)
+}
+
+pub fn run(run: &Run) -> Outcome {
+    let (answers, mut met) = (by_hand()?, Met::nothing());
     for (case, sheet) in known().iter().enumerate() {
         let source = &mut Source::new(run.seed, "check known", case as u64);
-        let bytes = sheet.bytes();
         let instances = known_instances(source, sheet);
-        instances.iter().try_for_each(|instance| compare(&bytes, instance, case as u64))?;
-        sheets += 1;
-        whole += usize::from(has_all(sheet, &instances));
+        met.sheet(&sheet.bytes(), &instances, case as u64)?;
     }
     for case in run.cases(1_500) {
         let source = &mut Source::new(run.seed, "check", case);
@@ -86,23 +94,123 @@ pub fn run(run: &Run) -> Outcome {
             let sheet = some_sheet(source, style);
             (sheet.bytes(), some_instances(source, &sheet))
         };
-        instances.iter().try_for_each(|instance| compare(&bytes, instance, case))?;
-        sheets += 1;
-        whole += usize::from(read(&bytes).is_ok_and(|sheet| has_all(&sheet, &instances)));
+        met.sheet(&bytes, &instances, case)?;
     }
-    covered(&tally, 100)?;
-    covered(&[("a sheet with all its instances", whole)], 100)?;
-    let [(_, yes), (_, no), (_, cells), (_, refused)] = tally;
-    let checks = yes + no + cells + refused;
-    Ok(format!(
-        "{checks} checks of {sheets} sheets agree, {whole} with all their instances: \
-         {yes} yes, {no} no, {cells} number 11, {refused} other numbers"
-    ))
+    met.covered()?;
+    Ok(format!("{answers} answers by hand, {}", met.said()))
 }
 
-/// Equations for each kind at each scope, and each pair of binders of one variable.
+/// What was compared.
+struct Met {
+    tally: [(&'static str, usize); 4],
+    sheets: usize,
+    whole: usize,
+    limits: Limits,
+    members: Members,
+}
+
+impl Met {
+    fn nothing() -> Met {
+        let tally = [("yes", 0), ("no", 0), ("number 11", 0), ("a refused sheet", 0)];
+        Met { tally, sheets: 0, whole: 0, limits: Limits::nothing(), members: Members::nothing() }
+    }
+
+    /// A sheet with some instances.
+    fn sheet(&mut self, bytes: &[u8], instances: &[Vec<u8>], case: u64) -> Result<(), String> {
+        instances.iter().try_for_each(|instance| self.compare(bytes, instance, case))?;
+        self.sheets += 1;
+        if let Ok(sheet) = read(bytes) {
+            self.limits.sheet(&sheet);
+            self.whole += usize::from(has_all(&sheet, instances));
+        }
+        Ok(())
+    }
+
+    fn compare(&mut self, bytes: &[u8], instance: &[u8], case: u64) -> Result<(), String> {
+        let want = check(bytes, instance);
+        let at = match want {
+            Ok(true) => 0,
+            Ok(false) => 1,
+            Err(11) => 2,
+            Err(_) => 3,
+        };
+        self.tally[at].1 += 1;
+        self.members.compared(bytes, instance, want);
+        let asked = || format!("case {case}, instance {}, sheet {}", hex(instance), hex(bytes));
+        agree(library::check(bytes, instance), want, asked)
+    }
+
+    fn covered(&self) -> Result<(), String> {
+        covered(&self.tally, 100)?;
+        covered(&[("a sheet with all its instances", self.whole)], 100)?;
+        self.limits.covered(50, 0)?;
+        covered(&self.members.0, 50)
+    }
+
+    fn said(&self) -> String {
+        let Met { tally: [(_, yes), (_, no), (_, cells), (_, refused)], sheets, whole, limits, members } = self;
+        let checks = yes + no + cells + refused;
+        format!(
+            "{checks} checks of {sheets} sheets agree, {whole} with all their instances: \
+             {yes} yes, {no} no, {cells} number 11, {refused} other numbers; {}, {}",
+            limits.said(),
+            members.said()
+        )
+    }
+}
+
+/// How often each was met in sheets with a limited sort.
+struct Members([(&'static str, usize); 6]);
+
+impl Members {
+    fn nothing() -> Members {
+        let names = [
+            "yes without some atom",
+            "yes with an empty sort",
+            "no",
+            "no for a 1 of no member alone",
+            "11 for a membership cell",
+            "11 for another",
+        ];
+        Members(names.map(|name| (name, 0)))
+    }
+
+    fn compared(&mut self, bytes: &[u8], instance: &[u8], answer: Result<bool, u32>) {
+        let Ok(sheet) = read(bytes) else { return };
+        let members = sheet.memberships();
+        if members == 0 {
+            return;
+        }
+        let whole = instance.len() == sheet.cells();
+        let met = match answer {
+            Ok(true) => {
+                [instance[..members].contains(&0), of_instance(&sheet, instance)[0], false, false, false, false]
+            }
+            Ok(false) => [false, false, true, only_outside(&sheet, instance), false, false],
+            Err(_) => {
+                let member = whole && instance[..members].iter().any(|&byte| byte > 1);
+                [false, false, false, false, member, whole && !member]
+            }
+        };
+        self.0.iter_mut().zip(met).for_each(|(what, met)| what.1 += usize::from(met));
+    }
+
+    fn said(&self) -> String {
+        let times: Vec<String> = self.0.iter().map(|(what, times)| format!("{times} {what}")).collect();
+        times.join(", ")
+    }
+}
+
+/// Whether an instance satisfies but for 1s of atoms that are no members.
+fn only_outside(sheet: &Sheet, instance: &[u8]) -> bool {
+    let inside = within(sheet, instance.to_vec());
+    inside != instance && check(&sheet.bytes(), &inside) == Ok(true)
+}
+
+/// Equations for each kind at each scope, and each pair of binders of one variable; also over limited sorts.
 fn known() -> Vec<Sheet> {
-    every_kind::scopes().flat_map(every_kind::equations).chain(shadows::sheets(3)).collect()
+    let equations = every_kind::scopes().chain(every_kind::limits()).flat_map(every_kind::equations);
+    equations.chain(shadows::sheets(3)).chain(shadows::sheets(130)).collect()
 }
 
 /// Whether so many instances are all that a sheet has (and one bad one).
@@ -120,6 +228,7 @@ fn known_instances(source: &mut Source, sheet: &Sheet) -> Vec<Vec<u8>> {
         let solution = solution(source, sheet);
         let mut changed = solution.clone();
         changed[source.below(sheet.cells())] ^= 1;
+        instances.extend(one_outside(source, sheet, solution.clone()));
         instances.extend([solution, changed]);
     }
     instances
@@ -134,6 +243,19 @@ fn some_sheet(source: &mut Source, style: reference::random_sheet::Style) -> She
     sheet
 }
 
+/// Some of these within the scopes, some with one 1 of no member, some as they are.
+fn limited_instances(source: &mut Source, sheet: &Sheet, instances: Vec<Vec<u8>>) -> Vec<Vec<u8>> {
+    let mut some = Vec::new();
+    for cells in instances {
+        match source.below(8) {
+            0 => some.push(cells),
+            1..=2 => some.extend(one_outside(source, sheet, cells)),
+            _ => some.push(within(sheet, cells)),
+        }
+    }
+    some
+}
+
 /// All instances where there are few cells, else some; and a bad one.
 fn some_instances(source: &mut Source, sheet: &Sheet) -> Vec<Vec<u8>> {
     let fits = read(&sheet.bytes()).is_ok();
@@ -143,6 +265,9 @@ fn some_instances(source: &mut Source, sheet: &Sheet) -> Vec<Vec<u8>> {
     } else {
         let mut some: Vec<Vec<u8>> = (0..6).map(|_| instance(source, cells)).collect();
         some.extend([vec![0; cells], vec![1; cells]]);
+        if fits && sheet.memberships() > 0 {
+            some = limited_instances(source, sheet, some);
+        }
         some
     };
     let mut bad = instance(source, cells);
@@ -150,7 +275,7 @@ fn some_instances(source: &mut Source, sheet: &Sheet) -> Vec<Vec<u8>> {
         0 => bad.push(source.below(2) as u8),
         1 => drop(bad.pop()),
         2 => bad.clear(),
-        3 => bad[cells - 1] = source.pick(&[2, 3, 255]),
+        3 => bad[source.pick(&[0, cells - 1])] = source.pick(&[2, 3, 255]),
         _ => bad[source.below(cells)] = source.pick(&[2, 3, 128, 255]),
     }
     instances.push(bad);

@@ -1,6 +1,7 @@
 //! Counting and writing: the three figures, and the list word for word in slices that are exact, one
 //! word short, and longer with a known filling behind. What OR strikes out, and where it is 1, must have come up.
 
+use super::limits::Limits;
 use super::{agree, covered, hex};
 use crate::{Outcome, Run};
 use reference::clauses::{translate, write, Clauses, Size, MET};
@@ -8,8 +9,8 @@ use reference::every_kind;
 use reference::random::Source;
 use reference::random_damage::any;
 use reference::random_sheet::{closures, gates_of, long_walk, sheet, style};
-use reference::sheet::{read, Sheet};
-use reference::{idle_walks, shadows, struck};
+use reference::sheet::{read, Sheet, LIMIT};
+use reference::{idle_walks, limits, shadows, struck};
 
 /// What stands in the slice before the call.
 const FILLING: i32 = 0x5eed;
@@ -43,19 +44,25 @@ fn compare_marked(sheet: &[u8], variables: u32, clauses: &[&[i32]]) -> Result<()
     agree(list, [words, vec![FILLING]].concat(), asked)
 }
 
-/// The lists that were worked out by hand.
-fn by_hand() -> Result<(), String> {
+/// The lists that were worked out by hand, and the figures of sheets of 1,088 cells; how many.
+fn by_hand() -> Result<usize, String> {
     MARKED.iter().try_for_each(|&(sheet, variables, clauses)| compare_marked(sheet, variables, clauses))?;
-    struck::cases().iter().try_for_each(|case| compare_marked(&case.sheet.bytes(), case.variables, case.clauses))
+    let cases: Vec<struck::Case> = struck::cases().into_iter().chain(limits::cases()).collect();
+    cases.iter().try_for_each(|case| compare_marked(&case.sheet.bytes(), case.variables, case.clauses))?;
+    for (marked, clauses, words) in [(0, 2_115, 6_406), (10, 4_435, 13_926), (16, 5_827, 18_438)] {
+        let (bytes, size) = (limits::largest(marked, 2).bytes(), Size { variables: 1_090, clauses, words });
+        agree(library::count(&bytes), Ok(size), || format!("marked, sheet {}", hex(&bytes)))?;
+    }
+    Ok(MARKED.len() + cases.len())
 }
 
 pub fn run(run: &Run) -> Outcome {
-    by_hand()?;
+    let (by_hand, mut limited) = (by_hand()?, Limits::nothing());
     let mut tally = [("a list", 0), ("number 10", 0), ("number 13", 0), ("a refused sheet", 0)];
     let mut met = MET.map(|what| (what, 0));
     let kinds = known();
     let mut words = 0;
-    for case in run.cases(2_500) {
+    for case in run.cases(3_400) {
         let source = &mut Source::new(run.seed, "count", case);
         let bytes = match kinds.get(case as usize) {
             Some(sheet) => sheet.bytes(),
@@ -64,6 +71,7 @@ pub fn run(run: &Run) -> Outcome {
         let list = read(&bytes).and_then(|sheet| translate(&sheet));
         let asked = || format!("case {case}, sheet {}", hex(&bytes));
         agree(library::count(&bytes), list.as_ref().map(Clauses::size).map_err(|&number| number), asked)?;
+        limited.bytes(&bytes);
         match list {
             Ok(list) => {
                 let size = list.size().words as usize;
@@ -77,12 +85,15 @@ pub fn run(run: &Run) -> Outcome {
     }
     covered(&tally, 20)?;
     covered(&met, 30)?;
+    limited.covered(50, 0)?;
     let [(_, lists), (_, size), (_, short), (_, refused)] = tally;
     let writes = lists + size + short + refused;
     let met: Vec<String> = met.iter().map(|(what, sheets)| format!("{what} in {sheets}")).collect();
     Ok(format!(
-        "{writes} writes and their counts agree: {lists} lists, {words} words, {size} number 10, {short} number 13; {}",
-        met.join(", ")
+        "{by_hand} lists by hand, {writes} writes and their counts agree: {lists} lists, {words} words, \
+         {size} number 10, {short} number 13; {}; {}",
+        met.join(", "),
+        limited.said()
     ))
 }
 
@@ -92,16 +103,18 @@ fn some_sheet(source: &mut Source) -> Vec<u8> {
     match source.below(60) {
         0..=8 => any(source),
         9..=10 => gates_of(15_990 + source.below(20)).bytes(),
-        11..=12 => long_walk(source.between(1, 8) as u8, source.between(1, 150)).bytes(),
+        11..=12 => long_walk(source.between(1, 8) as u8 + source.pick(&[0, LIMIT]), source.between(1, 150)).bytes(),
         _ => sheet(source, style).bytes(),
     }
 }
 
-/// Each kind at each scope, each pair of binders of one variable, walks without gates, and far more gates than fit.
+/// Each kind at each scope, also as an upper limit, each pair of binders of one variable, walks without gates, far more
+/// gates than fit, and sheets of 1,088 cells.
 fn known() -> Vec<Sheet> {
     let idle = idle_walks::sheets(2, 60).into_iter().map(|(_, sheet)| sheet);
-    let sheets = every_kind::accepted().into_iter().chain(shadows::sheets(3)).chain(idle);
-    sheets.chain([closures(1), closures(190)]).collect()
+    let sheets = every_kind::accepted().into_iter().chain(shadows::sheets(3)).chain(shadows::sheets(131)).chain(idle);
+    let limited = [Sheet { scopes: vec![136], ..closures(1) }, limits::largest(16, 2), limits::largest(10, 2)];
+    sheets.chain([closures(1), closures(190)]).chain(limited).collect()
 }
 
 /// Writing into a slice of so many words, the whole slice compared.

@@ -2,7 +2,8 @@
 //! longer, much longer, random shorter and empty, with a known filling; texts parsed back; minisat, cadical and picosat read them.
 
 use super::lengths::Met;
-use super::{agree, shown};
+use super::limits::is_limited;
+use super::{agree, covered, shown};
 use crate::solver::{solve, SOLVERS};
 use crate::{Outcome, Run};
 use reference::clauses::translate;
@@ -102,7 +103,7 @@ fn known(run: &Run, met: &mut Met) -> Result<(), String> {
 }
 
 pub fn run(run: &Run) -> Outcome {
-    let mut met = Met::nothing();
+    let (mut met, mut limited) = (Met::nothing(), 0);
     known(run, &mut met)?;
     for number in run.cases(3_000) {
         let source = &mut Source::new(run.seed, "dimacs", number);
@@ -112,12 +113,14 @@ pub fn run(run: &Run) -> Outcome {
         }
         let case = Case::new(format!("case {number}"), (words, v));
         let bytes = case.compare(source, &mut met)?;
+        limited += usize::from(is_limited(&case.words) && case.want.is_ok());
         if case.want.is_ok() && number % 100 == 0 {
             read_by_solvers(&bytes, v)?;
             met.read_by(SOLVERS.len());
         }
     }
-    met.line()
+    covered(&[("a list of a limited sheet", limited)], 30)?;
+    Ok(format!("{}; {limited} lists of sheets with a limited sort", met.line()?))
 }
 
 fn some_list(source: &mut Source, case: u64) -> (Vec<i32>, u32) {

@@ -1,6 +1,8 @@
 //! The program behind `./find --every`, line for line: its cases are all instances where there are few cells, each once and in
 //! order, with the total of steps; what it does where the budget of a call is spent; `./find --every`.
 
+use super::least::printed_cells;
+use super::limits::Limits;
 use super::programs::{full_lists, some_input};
 use super::{agree, covered, hex};
 use crate::{Outcome, Run};
@@ -8,6 +10,7 @@ use reference::brute::instances;
 use reference::clauses::count;
 use reference::every::{every, every_within};
 use reference::finder::{lines, BUDGET};
+use reference::limits::{cases, largest, texts};
 use reference::long_search::{early, of_15_625};
 use reference::random::Source;
 use reference::random_small::small;
@@ -99,19 +102,19 @@ impl Met {
 /// What the program prints is exactly the instances, in order.
 fn by_brute_force(sheet: &Sheet, printed: &str, asked: impl Fn() -> String) -> Result<(), String> {
     let want: String = instances(sheet).iter().map(|cells| lines(sheet, cells)).collect();
-    let got: String = printed.lines().filter(|line| line.starts_with('r')).map(|line| format!("{line}\n")).collect();
+    let is_end = |line: &&str| ["found ", "none ", "spent "].iter().any(|end| line.starts_with(end));
+    let got: String = printed.lines().filter(|line| !is_end(line)).map(|line| format!("{line}\n")).collect();
     agree(got, want, || format!("all instances by brute force, {}", asked()))?;
     let figures = |text: &str| -> Vec<u64> {
-        text.lines()
-            .filter_map(|line| line.split_once(' ')?.1.parse().ok().filter(|_| !line.starts_with('r')))
-            .collect()
+        text.lines().filter(is_end).filter_map(|line| line.split_once(' ')?.1.parse().ok()).collect()
     };
     agree(figures(printed).is_sorted(), true, || format!("steps that go down, {}", asked()))
 }
 
 pub fn run(run: &Run) -> Outcome {
     let names = ["a refusal", "none", "one case", "few cases", "ten cases or more", "cases not all looked at"];
-    let (mut met, mut whole) = (Met(names.map(|name| (name, 0))), 0);
+    let (mut met, mut whole, mut limits) = (Met(names.map(|name| (name, 0))), 0, Limits::nothing());
+    limited(&mut limits)?;
     for case in run.cases(200) {
         let source = &mut Source::new(run.seed, "every", case);
         let bytes = if case % 2 == 0 { some_input(source) } else { small(source).bytes() };
@@ -121,9 +124,13 @@ pub fn run(run: &Run) -> Outcome {
         if sheet.cells() <= 12 && visits(&sheet) << sheet.cells() <= 1 << 20 && !printed.starts_with("refused ") {
             by_brute_force(&sheet, &printed, asked)?;
             whole += 1;
+            limits.sheet(&sheet);
+            let cases = printed.split("found ").skip(1).map(|case| case.split("none ").next().unwrap_or(""));
+            cases.for_each(|case| limits.instance(&sheet, &printed_cells(case)));
         }
     }
     covered(&met.0, 5)?;
+    limits.covered(1, 5)?;
     covered(&[("all instances", whole)], 50)?;
     let examples = examples(&mut met)?;
     edges()?;
@@ -131,8 +138,29 @@ pub fn run(run: &Run) -> Outcome {
     let long = long_searches()?;
     commands()?;
     let times: Vec<String> = met.0.iter().map(|(what, times)| format!("{times} {what}")).collect();
-    let others = format!("{whole} all instances by brute force; {examples} examples, {long} long searches");
+    let others =
+        format!("{whole} all instances by brute force; {examples} examples, {long} long searches; {}", limits.said());
     Ok(format!("inputs agree line for line: {}; {others}", times.join(", ")))
+}
+
+/// All cases of sheets with a limited sort by hand, and the first of one of 1,088 cells.
+fn limited(limits: &mut Limits) -> Result<(), String> {
+    for (sheet, want) in texts() {
+        let bytes = sheet.bytes();
+        agree(printed(program(), &bytes, want)?.as_str(), want, || format!("by hand, sheet {}", hex(&bytes)))?;
+    }
+    for sheet in cases().into_iter().map(|case| case.sheet) {
+        let (bytes, asked) = (sheet.bytes(), || format!("limited, sheet {}", hex(&sheet.bytes())));
+        let want = every(&bytes, usize::MAX);
+        let got = printed(program(), &bytes, &want)?;
+        agree(&got, &want, asked)?;
+        by_brute_force(&sheet, &got, asked)?;
+        limits.sheet(&sheet);
+    }
+    let (most, long) = (largest(0, 0).bytes(), largest(16, 2).bytes());
+    let want = every(&most, 3);
+    agree(printed(program(), &most, &want)?, want, || "1,088 cells".to_string())?;
+    agree(printed(program(), &long, "refused 13\n")?.as_str(), "refused 13\n", || "18,438 words".to_string())
 }
 
 /// The examples, of which some have many cases.

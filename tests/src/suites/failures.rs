@@ -172,7 +172,7 @@ pub fn run(_: &Run) -> Outcome {
         met += inputs(program)? + outputs(program)?;
         slow_input(program.0)?;
     }
-    let (_, union) = sheets().into_iter().find(|(name, _)| *name == "union").expect("a sheet");
+    let (_, union) = sheets().into_iter().find(|(name, _)| name == "union").expect("a sheet");
     long_output(PROGRAMS[1], &union, &clause_text(&union.bytes()))?;
     long_output(PROGRAMS[3], &many(), &every(&many().bytes(), usize::MAX))?;
     let commands = super::commands::run()?;

@@ -109,7 +109,8 @@ impl Tally {
     }
 }
 
-/// The cells of a case as a program prints it: behind the first line, the rows of each relation behind its name.
+/// The cells of a case as a program prints it: behind the first line, those of each limited sort and the rows of each
+/// relation behind its name.
 pub fn printed_cells(printed: &str) -> Vec<u8> {
     let rows = printed.lines().skip(1).flat_map(|line| line.split(' ').skip(1));
     rows.flat_map(|row| row.bytes()).map(|digit| digit.wrapping_sub(b'0')).collect()

@@ -16,6 +16,7 @@ mod failures;
 mod indexes;
 mod least;
 mod lengths;
+mod limits;
 mod long_runs;
 mod next;
 mod onward;

@@ -2,6 +2,7 @@
 //! states that are not full, full ones that no search leaves, damaged ones; calls spent on the way; a caller in C.
 
 use super::clashes::{Met, Start};
+use super::limits::Limits;
 use super::resume::up_to_the_limit;
 use super::search::some_list;
 use super::states::{compare, counted, cut, damaged, others, same, NEXT, RESUME, TALLY};
@@ -65,27 +66,38 @@ fn marked() -> Result<(), String> {
 /// All instances of small sheets, over the list that the library writes and by its read-back.
 fn sheets(run: &Run) -> Outcome {
     let mut tally = [("no instance", 0), ("one instance", 0), ("several", 0), ("more than twenty", 0)];
-    let mut walks = Walks::nothing();
+    let (mut walks, mut limits) = (Walks::nothing(), Limits::nothing());
     for case in run.cases(800) {
         let source = &mut Source::new(run.seed, "next, sheets", case);
         let sheet = small(source);
         let few = sheet.cells() <= CELLS && read(&sheet.bytes()).is_ok() && visits(&sheet) << sheet.cells() <= VISITS;
         if few {
-            let number = sheet_walk(source, &sheet, case, &mut walks)?;
+            let wanted = instances(&sheet);
+            let number = sheet_walk(source, &sheet, &wanted, case, &mut walks)?;
+            limits.sheet(&sheet);
+            wanted.iter().for_each(|cells| limits.instance(&sheet, cells));
             tally[number.min(2)].1 += 1;
             tally[3].1 += usize::from(number > 20);
         }
     }
     covered(&tally, 50)?;
     walks.covered(25)?;
+    limits.covered(10, 50)?;
     let all: usize = tally[..3].iter().map(|(_, times)| times).sum();
     let kinds: Vec<String> = tally.iter().map(|(what, times)| format!("{times} with {what}")).collect();
-    Ok(format!("all instances of {all} sheets, {}: {}", kinds.join(", "), walks.said()))
+    let limited = limits.said();
+    Ok(format!("all instances of {all} sheets, {}: {}; {limited}", kinds.join(", "), walks.said()))
 }
 
-/// The number of a sheet's instances.
-fn sheet_walk(source: &mut Source, sheet: &Sheet, case: u64, walks: &mut Walks) -> Result<usize, String> {
-    let (bytes, wanted, cells) = (sheet.bytes(), instances(sheet), sheet.cells());
+/// All instances of a sheet, which are these; their number.
+fn sheet_walk(
+    source: &mut Source,
+    sheet: &Sheet,
+    wanted: &[Vec<u8>],
+    case: u64,
+    walks: &mut Walks,
+) -> Result<usize, String> {
+    let (bytes, cells) = (sheet.bytes(), sheet.cells());
     let asked = || format!("case {case}, sheet {}", hex(&bytes));
     let refused = |number: u32| format!("refused {number}: {}", asked());
     let size = library::count(&bytes).map_err(refused)?;
@@ -95,7 +107,7 @@ fn sheet_walk(source: &mut Source, sheet: &Sheet, case: u64, walks: &mut Walks) 
         let mut instance = vec![9; cells];
         library::read_back(&bytes, values, &mut instance).map(|_| instance)
     };
-    let walk = Walk { list: &list, v: size.variables, wanted: &wanted, read: &read, asked: &asked };
+    let walk = Walk { list: &list, v: size.variables, wanted, read: &read, asked: &asked };
     walk.go(source, walks)?;
     Ok(wanted.len())
 }

@@ -2,11 +2,13 @@
 //! and prints the end with the total of steps. What it prints is the least instance where there are few cells.
 
 use super::least::{printed_cells, Tally};
+use super::limits::Limits;
 use super::programs::{is_long, over_cells, program, program_says, some_input};
 use super::{agree, covered, hex};
 use crate::{Outcome, Run};
 use reference::brute;
 use reference::finder::{finder, finder_on};
+use reference::limits::{cases, first_case, texts};
 use reference::long_search::{long, of_15_625};
 use reference::random::Source;
 use reference::sheet::Sheet;
@@ -37,7 +39,7 @@ fn long_searches(run: &Run) -> Vec<Long> {
 }
 
 pub fn run(run: &Run) -> Outcome {
-    let (mut ended, mut least) = (0, Tally::default());
+    let (mut ended, mut least, mut limits) = (0, Tally::default(), Limits::nothing());
     for case in run.cases(40) {
         let bytes = some_input(&mut Source::new(run.seed, "onward", case));
         if !is_long(&bytes) {
@@ -45,14 +47,43 @@ pub fn run(run: &Run) -> Outcome {
             let printed = program(PROGRAM, &bytes)?;
             agree(&printed, &finder(&bytes), asked)?;
             least.compare_printed(&printed, &bytes, asked)?;
+            limits.printed(&bytes, &printed);
             ended += 1;
         }
     }
     covered(&[("an end of the finder", ended)], 20)?;
+    limited(&mut limits)?;
+    limits.covered(1, 1)?;
     over_cells(run, PROGRAM, &mut least)?;
-    least.covered(5, 0)?;
-    let (sheets, mut beyond) = (long_searches(run), 0);
-    for (sheet, first, all, spent) in &sheets {
+    least.covered(3, 0)?;
+    let sheets = long_searches(run);
+    let beyond = go_beyond(&sheets)?;
+    covered(&[("a case found beyond the budget", beyond)], 1)?;
+    let (sheet, _, all, _) = &sheets[1];
+    command(&sheet.bytes(), all)?;
+    let least = format!("{}; {beyond} beyond the budget too; {}", least.said(), limits.said());
+    Ok(format!("{ended} inputs as by the finder, {} at the end of its budget and beyond; {least}", sheets.len()))
+}
+
+/// Sheets with a limited sort, by hand.
+fn limited(limits: &mut Limits) -> Result<(), String> {
+    for (sheet, cases) in texts() {
+        let (bytes, printed) = (sheet.bytes(), program(PROGRAM, &sheet.bytes())?);
+        agree(printed.as_str(), first_case(cases), || format!("by hand, sheet {}", hex(&bytes)))?;
+        limits.printed(&bytes, &printed);
+    }
+    for bytes in cases().iter().map(|case| case.sheet.bytes()) {
+        let printed = program(PROGRAM, &bytes)?;
+        agree(&printed, &finder(&bytes), || format!("limited, sheet {}", hex(&bytes)))?;
+        limits.printed(&bytes, &printed);
+    }
+    Ok(())
+}
+
+/// Searches that the finder does not end; how many of them find a case.
+fn go_beyond(sheets: &[Long]) -> Result<usize, String> {
+    let mut beyond = 0;
+    for (sheet, first, all, spent) in sheets {
         let bytes = sheet.bytes();
         let said: String = (1..=*spent).map(|calls| format!("find: {calls}000000 steps\n")).collect();
         agree(&program("finder", &bytes)?, first, || format!("finder, sheet {}", hex(&bytes)))?;
@@ -64,11 +95,7 @@ pub fn run(run: &Run) -> Outcome {
             beyond += 1;
         }
     }
-    covered(&[("a case found beyond the budget", beyond)], 1)?;
-    let (sheet, _, all, _) = &sheets[1];
-    command(&sheet.bytes(), all)?;
-    let least = format!("{}; {beyond} beyond the budget too", least.said());
-    Ok(format!("{ended} inputs as by the finder, {} at the end of its budget and beyond; {least}", sheets.len()))
+    Ok(beyond)
 }
 
 /// `./find --on FILE` prints what the program prints.

@@ -4,15 +4,18 @@
 
 use super::earlier::nothing_ahead;
 use super::least::{printed_cells, Tally};
+use super::limits::Limits;
 use super::{agree, covered, hex};
 use crate::solver::solve;
 use crate::{Outcome, Run};
 use reference::clauses::{count, translate};
 use reference::dimacs::text;
 use reference::finder::{finder, BYTES};
+use reference::limits;
 use reference::random::Source;
 use reference::random_cells::cells;
 use reference::random_damage::any;
+use reference::random_limits::limited;
 use reference::random_sheet::{closures, gates_of, pigeonhole, sheet, style};
 use reference::search::{search, End};
 use reference::sheet::{read, Sheet, LENGTH, SHORT};
@@ -42,10 +45,41 @@ fn full_list() -> Result<(), String> {
     Ok(())
 }
 
+/// What is printed of limited sorts, by hand: the first case and the clause text of K1 of up to two atoms; sheets of
+/// 1,088 cells, of which one has too long a list.
+fn limited_by_hand() -> Result<(), String> {
+    for (sheet, cases) in limits::texts() {
+        let bytes = sheet.bytes();
+        let asked = || format!("by hand, sheet {}", hex(&bytes));
+        agree(program("finder", &bytes)?.as_str(), limits::first_case(cases), asked)?;
+    }
+    for case in limits::cases() {
+        let bytes = case.sheet.bytes();
+        let words: Vec<i32> =
+            case.clauses.iter().flat_map(|clause| [&[clause.len() as i32], *clause].concat()).collect();
+        let asked = || format!("by hand, {}, sheet {}", case.name, hex(&bytes));
+        agree(program("cnf", &bytes)?, text(&words, case.variables).unwrap_or_default(), asked)?;
+        agree(program("finder", &bytes)?, finder(&bytes), asked)?;
+    }
+    let text = "p cnf 6 7\n1 0\n-4 2 0\n-5 3 0\n6 -4 0\n6 -5 0\n-6 4 5 0\n6 0\n";
+    agree(program("cnf", &limits::some(130).bytes())?.as_str(), text, || "cnf, K1 of up to two atoms".to_string())?;
+    let most = [limits::largest(0, 0), limits::largest(10, 2), limits::largest(16, 2)].map(|sheet| sheet.bytes());
+    for bytes in &most {
+        let asked = |name: &str| format!("{name}, 1,088 cells, sheet {}", hex(bytes));
+        agree(program("finder", bytes)?, finder(bytes), || asked("finder"))?;
+        agree(program("cnf", bytes)?, clause_text(bytes), || asked("cnf"))?;
+    }
+    let empty: String = (0..8).map(|sort| format!("s{sort} 00000000\n")).collect();
+    let rows: String = (0..16).map(|relation| format!("r{relation}{}\n", " 00000000".repeat(8))).collect();
+    agree(program("finder", &most[0])?, format!("found 1090\n{empty}{rows}"), || "1,088 cells".to_string())?;
+    agree(program("finder", &most[2])?.as_str(), "refused 13\n", || "18,438 words".to_string())
+}
+
 pub fn run(run: &Run) -> Outcome {
     full_list()?;
+    limited_by_hand()?;
     let mut tally = [("found", 0), ("none", 0), ("refused", 0), ("a solver", 0), ("a case with a 1", 0)];
-    let mut least = Tally::default();
+    let (mut least, mut limits) = (Tally::default(), Limits::nothing());
     for case in run.cases(150) {
         let source = &mut Source::new(run.seed, "programs", case);
         let bytes = some_input(source);
@@ -56,6 +90,7 @@ pub fn run(run: &Run) -> Outcome {
         let printed = program("finder", &bytes)?;
         agree(&printed, &finder(&bytes), || format!("finder, {}", asked()))?;
         least.compare_printed(&printed, &bytes, asked)?;
+        limits.printed(&bytes, &printed);
         let cnf = program("cnf", &bytes)?;
         agree(&cnf, &clause_text(&bytes), || format!("cnf, {}", asked()))?;
         let end = ["found ", "none "].iter().position(|head| printed.starts_with(head));
@@ -75,10 +110,14 @@ pub fn run(run: &Run) -> Outcome {
     over_cells(run, "finder", &mut least)?;
     covered(&tally, 8)?;
     least.covered(8, 0)?;
-    let [(_, found), (_, none), (_, refused), (_, solved), (_, ones)] = tally;
-    let (all, least) = (found + none + refused, least.said());
+    limits.covered(1, 2)?;
+    Ok(format!("{}; {}; {}", said(tally), least.said(), limits.said()))
+}
+
+fn said([(_, found), (_, none), (_, refused), (_, solved), (_, ones)]: [(&str, usize); 5]) -> String {
+    let all = found + none + refused;
     let solvers = format!("{solved} by solvers, by which nothing is ahead of the cases ({ones} with a 1)");
-    Ok(format!("{all} inputs agree: {found} found, {none} none, {refused} refused; {solvers}; {least}"))
+    format!("{all} inputs agree: {found} found, {none} none, {refused} refused; {solvers}")
 }
 
 /// What a program prints of sheets whose least instance depends on the order of the cells.
@@ -112,8 +151,9 @@ fn by_solver(
 
 pub fn some_input(source: &mut Source) -> Vec<u8> {
     let style = style(source);
-    match source.below(16) {
+    match source.below(18) {
         0..=1 => any(source),
+        6..=7 => limited(source).bytes(),
         2 => [sheet(source, style).bytes(), vec![0; 4_200]].concat()[..BYTES + source.below(3)].to_vec(),
         3 => pigeonhole(0, source.between(2, 6) as u8, source.between(2, 5) as u8).bytes(),
         4 => gates_of(source.pick(&[5_000, 15_995, 15_996, 15_997, 15_998, 15_999, 16_000])).bytes(),

@@ -3,6 +3,7 @@
 use super::solve::{figures, length};
 use super::{agree, hex};
 use reference::finder::read_back;
+use reference::limits::some;
 use reference::random::Source;
 use reference::sheet::CELLS;
 
@@ -24,6 +25,25 @@ pub fn marked() -> Result<(), String> {
         let mut instance = [9; 3];
         let got = library::read_back(&k1, values, &mut instance);
         agree((got, instance), (want, left), || format!("marked, read-back of {}", hex(values)))?;
+    }
+    limited()
+}
+
+/// K1 of up to two atoms has the cells 2 to 5, of which 2 and 3 are the members. What is read back need not be an
+/// instance.
+fn limited() -> Result<(), String> {
+    let cases: [(&[u8], Result<usize, u32>, [u8; 5]); 6] = [
+        (&[1, 0, 1, 0, 1, 1], Ok(4), [0, 1, 0, 1, 9]),
+        (&[1, 3, 1, 3, 1, 1], Ok(4), [0, 1, 0, 1, 9]),
+        (&[1, 3, 3, 1, 1, 7], Ok(4), [0, 0, 1, 1, 9]),
+        (&[1, 2, 1, 0, 1, 1], Err(11), [9; 5]),
+        (&[1, 0, 4, 0, 1, 1], Err(11), [9; 5]),
+        (&[1, 0, 1, 1], Err(11), [9; 5]),
+    ];
+    for (values, want, left) in cases {
+        let mut instance = [9; 5];
+        let got = library::read_back(&some(130).bytes(), values, &mut instance);
+        agree((got, instance), (want, left), || format!("marked, limited, read-back of {}", hex(values)))?;
     }
     Ok(())
 }

@@ -4,6 +4,7 @@
 
 use super::chains::chain;
 use super::least::Tally as LeastTally;
+use super::limits::is_limited;
 use super::search::some_list;
 use super::states::{compare, counted, cut, damaged, others, same, RESUME, TALLY};
 use super::{agree, callers, covered, shown};
@@ -16,10 +17,11 @@ use reference::search::{search, Answer, End, Steps};
 pub fn run(run: &Run) -> Outcome {
     marked()?;
     let (mut tally, mut calls, mut chained, mut ended) = (TALLY, 0, [0; 3], 0);
-    let mut least = LeastTally::default();
+    let (mut least, mut limited) = (LeastTally::default(), 0);
     for number in run.cases(1_500) {
         let source = &mut Source::new(run.seed, "resume, chains", number);
         let (list, v) = some_list(source, number);
+        limited += usize::from(is_limited(&list));
         let (end, made) = chain(source, &list, v, number, &mut least)?;
         chained[end as usize] += 1;
         calls += made;
@@ -42,8 +44,10 @@ pub fn run(run: &Run) -> Outcome {
     covered(&tally, 50)?;
     covered(&[("found by a chain", chained[0]), ("none", chained[1]), ("spent", chained[2]), ("an end", ended)], 100)?;
     least.covered(30, 15)?;
+    covered(&[("a list of a limited sheet", limited)], 30)?;
     let callers = callers::run(run)?;
-    let chains = format!("{}, of several calls {}", chains(chained, calls), least.said());
+    let limited = format!("{limited} over lists of sheets with a limited sort");
+    let chains = format!("{}, {limited}, of several calls {}", chains(chained, calls), least.said());
     Ok(format!("{chains}; {ended} taken up after an end; {}; {callers}", others(&tally)))
 }
 

@@ -3,6 +3,7 @@
 //! satisfying assignment.
 
 use super::least::Tally;
+use super::limits::is_limited;
 use super::{agree, covered, shown};
 use crate::solver::solve;
 use crate::{Outcome, Run};
@@ -89,12 +90,13 @@ fn compare_marked(case: &Marked) -> Result<(), String> {
 pub fn run(run: &Run) -> Outcome {
     MARKED.iter().try_for_each(compare_marked)?;
     let mut tally = ENDS.map(|end| (end, 0));
-    let (mut solved, mut steps, mut least) = (0, Steps::default(), Tally::default());
+    let (mut solved, mut steps, mut least, mut limited) = (0, Steps::default(), Tally::default(), 0);
     for number in run.cases(4_000) {
         let source = &mut Source::new(run.seed, "search", number);
         let case = some_case(source, number);
         let (answer, values) = compare(&case, number)?;
         let end = place(answer);
+        limited += usize::from(is_limited(&case.list) && end <= 2);
         tally[end].1 += 1;
         steps = steps + answer.map_or(Steps::default(), |answer| answer.steps);
         if let Ok(Answer { end, steps }) = answer {
@@ -112,11 +114,13 @@ pub fn run(run: &Run) -> Outcome {
     let kinds = [("a force", forces), ("a choice", choices), ("a turn", turns)];
     covered(&kinds.map(|(kind, times)| (kind, times as usize)), 300)?;
     least.covered(100, 50)?;
+    covered(&[("a list of a limited sheet", limited)], 50)?;
     let all: usize = tally.iter().map(|(_, times)| times).sum();
     let times: Vec<String> = tally.iter().map(|(end, times)| format!("{times} {end}")).collect();
     let steps = format!("{forces} forces, {choices} choices and {turns} turns");
     let too = format!("{solved} verdicts of minisat too; {}", least.said());
-    Ok(format!("{all} runs of {steps} agree: {}; {too}", times.join(", ")))
+    let limited = format!("{limited} lists of sheets with a limited sort");
+    Ok(format!("{all} runs of {steps} agree: {}; {too}; {limited}", times.join(", ")))
 }
 
 /// A random list, or that of a random sheet, with its variables.

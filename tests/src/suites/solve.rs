@@ -3,6 +3,7 @@
 
 use super::chains::{calls, Chain};
 use super::least::{Least, Tally};
+use super::limits::Limits;
 use super::read_backs::{self, ReadBacks};
 use super::search::FEW;
 use super::{agree, covered, hex};
@@ -10,15 +11,17 @@ use crate::{Outcome, Run};
 use reference::brute::instances;
 use reference::clauses::count;
 use reference::finder::find;
+use reference::limits;
 use reference::long_search::long;
 use reference::random::Source;
 use reference::random_cells::{by_columns, cells};
 use reference::random_damage::any;
+use reference::random_limits::{limit, limited as limited_sheet};
 use reference::random_list::budget;
 use reference::random_sheet::{gates_of, pigeonhole, sheet, style};
 use reference::random_state::Call;
 use reference::search::{Answer, End, Steps};
-use reference::sheet::read;
+use reference::sheet::{read, Sheet, SHORT};
 
 /// K1 to K4 and a sheet that turns, with forces, choices and turns.
 fn marked() -> Result<(), String> {
@@ -35,6 +38,31 @@ fn marked() -> Result<(), String> {
     for (sheet, budget, want) in [(&k1, 9, found), (&k2, 9, found), (&k3, 9, none), (&k1, 3, spent), turned] {
         let got = library::find(sheet, &mut [0; 40], &mut [0; 6], &mut [0; 6], &mut [0; 2], budget);
         agree(got, Ok(want), || format!("marked, find with budget {budget}, sheet {}", hex(sheet)))?;
+    }
+    limited(false)?;
+    limited(true)
+}
+
+/// K1 of up to two atoms, found and spent; rows without an atom; and a sheet of 1,088 cells, where no atom is needed:
+/// with the words, the budget, the steps and the instance by hand, or one word short.
+fn limited(short: bool) -> Result<(), String> {
+    let of = |end, forces, choices, cells| (Answer { end, steps: Steps::new(forces, choices, 0) }, cells);
+    let row = limits::cases().into_iter().find(|case| case.name == "mark 2 over one sort").expect("a sheet").sheet;
+    // the constant, the gate and the cells of relation 0 are forced; a choice for each atom forces its rows and columns
+    let (most, none) = (limits::largest(0, 0), vec![0; 1_088]);
+    let cases = [
+        (limits::some(130), 20, 9, of(End::Found, 5, 1, vec![0, 1, 0, 1])),
+        (limits::some(130), 20, 3, of(End::Spent, 2, 1, vec![9; 4])),
+        (row, 60, 99, of(End::Found, 8, 0, vec![0; 6])),
+        (most, 6_406, 9_999, of(End::Found, 1_026, 64, none)),
+    ];
+    for (sheet, words, budget, (want, cells)) in cases {
+        let (bytes, size) = (sheet.bytes(), words - usize::from(short));
+        let (mut list, mut instance) = (vec![0; size], vec![9; cells.len() + 1]);
+        let got = library::find(&bytes, &mut list, &mut [0; 1_090], &mut [0; 1_090], &mut instance, budget);
+        let left = if short { vec![9; cells.len() + 1] } else { [cells, vec![9]].concat() };
+        let want = if short { Err(SHORT) } else { Ok(want) };
+        agree((got, instance), (want, left), || format!("marked, {size} words, sheet {}", hex(&bytes)))?;
     }
     Ok(())
 }
@@ -53,7 +81,7 @@ pub fn run(run: &Run) -> Outcome {
     marked()?;
     read_backs::marked()?;
     let (mut tally, mut whole, mut chained) = (TALLY, Tally::default(), Tally::default());
-    let mut backs = ReadBacks::nothing();
+    let (mut backs, mut limits) = (ReadBacks::nothing(), Limits::nothing());
     for case in run.cases(2_000) {
         let source = &mut Source::new(run.seed, "solve", case);
         let bytes = some_sheet(source, case);
@@ -62,6 +90,10 @@ pub fn run(run: &Run) -> Outcome {
         tally[ended].1 += 1;
         for (at, taken) in [(4, steps.forces), (5, steps.choices), (6, steps.turns)] {
             tally[at].1 += usize::from(taken > 0);
+        }
+        limits.bytes(&bytes);
+        if let (Ok(Answer { end: End::Found, .. }), Ok(sheet)) = (answer, read(&bytes)) {
+            limits.instance(&sheet, &instance);
         }
         backs.compare(source, &bytes, case)?;
         if let Some(least) = few_cells(&bytes) {
@@ -72,11 +104,13 @@ pub fn run(run: &Run) -> Outcome {
     }
     covered(&tally, 50)?;
     backs.covered(50)?;
+    limits.covered(30, 30)?;
     whole.covered(50, 20)?;
     chained.covered(100, 50)?;
     let times: Vec<String> = tally.iter().map(|(what, times)| format!("{times} {what}")).collect();
     let least = format!("{}; through resumed calls {}; {}", whole.said(), chained.said(), over_cells(run)?);
-    Ok(format!("whole runs agree: {}; read-backs: {}; {least}", times.join(", "), backs.said()))
+    let (backs, limits) = (backs.said(), limits.said());
+    Ok(format!("whole runs agree: {}; read-backs: {backs}; {least}; {limits}", times.join(", ")))
 }
 
 /// The same for sheets whose least instance depends on the order of the cells.
@@ -107,13 +141,25 @@ fn over_cells(run: &Run) -> Outcome {
 
 fn some_sheet(source: &mut Source, case: u64) -> Vec<u8> {
     let style = style(source);
-    match source.below(12) {
+    match source.below(13) {
         0 => any(source),
+        12 => limited_sheet(source).bytes(),
         1 if case % 20 == 0 => gates_of(15_990 + source.below(20)).bytes(),
-        2 if case % 4 == 0 => pigeonhole(source.below(2) as u8, source.between(2, 4) as u8, 3).bytes(),
-        3 => long(&[(source.between(1, 3) as u8, source.below(3) as u8)], 0, source.chance(1, 2)).bytes(),
+        2 if case % 4 == 0 => {
+            let sheet = pigeonhole(source.below(2) as u8, source.between(2, 4) as u8, 3);
+            limited_at_times(source, sheet).bytes()
+        }
+        3 => {
+            let sheet = long(&[(source.between(1, 3) as u8, source.below(3) as u8)], 0, source.chance(1, 2));
+            limited_at_times(source, sheet).bytes()
+        }
         _ => sheet(source, style).bytes(),
     }
+}
+
+fn limited_at_times(source: &mut Source, mut sheet: Sheet) -> Sheet {
+    limit(source, &mut sheet);
+    sheet
 }
 
 /// The least instance of a sheet that has a list and few cells.

@@ -9,10 +9,11 @@ use crate::{Outcome, Run};
 use reference::deep::sheets;
 use reference::every::every;
 use reference::finder::finder;
+use reference::limits::largest;
 use reference::random::Source;
 use reference::random_sheet::gates_of;
 use reference::random_state::{Call, Resume};
-use reference::sheet::Sheet;
+use reference::sheet::{Node, Sheet};
 use std::process::{Command, Stdio};
 
 /// The stated stacks in KB (docs/ARCHITECTURE.md, "Stack").
@@ -128,12 +129,22 @@ fn program(name: &str, stated: usize) -> Command {
     command
 }
 
+/// Unions of relation 0 of `largest` with itself over each other, 200 nodes.
+fn deepest_of_most_cells() -> Sheet {
+    let mut sheet = largest(0, 0);
+    sheet.nodes.truncate(1);
+    (0..198).for_each(|below| sheet.nodes.push(Node { kind: 5, a: below, b: 0 }));
+    sheet.nodes.push(Node { kind: 23, a: 198, b: 0 });
+    sheet
+}
+
 pub fn run(_: &Run) -> Outcome {
     let mut depths = [0; CALLS.len()];
     let deepest = sheets();
     // the lists of most of the deepest are too long for an index, or too short for one within the steps that are waited for
-    let indexed = ("by an index", gates_of(400));
-    for (name, sheet) in deepest.iter().chain([&indexed]) {
+    let indexed = ("by an index".to_string(), gates_of(400));
+    let largest = ("of 1,088 cells".to_string(), deepest_of_most_cells());
+    for (name, sheet) in deepest.iter().chain([&indexed, &largest]) {
         let bytes = sheet.bytes();
         let asked = format!("{name}, sheet {}", hex(&bytes));
         calls(&mut depths, sheet, &asked)?;
@@ -152,6 +163,9 @@ pub fn run(_: &Run) -> Outcome {
     }
     let seen: Vec<String> =
         CALLS.iter().zip(depths).map(|((name, _), depth)| format!("{name} {}", depth.div_ceil(1_024))).collect();
-    let sheets = format!("{} sheets of 200 nodes and one of an index", deepest.len());
+    let sheets = format!(
+        "{} sheets of 200 nodes, 7 of them with limited sorts, one of 1,088 cells and one of an index",
+        deepest.len()
+    );
     Ok(format!("{sheets} within the stated stacks; KB taken: {}", seen.join(", ")))
 }
