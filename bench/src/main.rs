@@ -2,6 +2,7 @@
 //! counts.
 //! Before anything is timed, both sides are held to the same answers.
 
+mod calls;
 mod counters;
 mod every;
 mod idle;
@@ -47,7 +48,7 @@ fn line(what: &str, units: u64, unit: &str, sides: [&str; 2], (one, other): (Dur
     println!("{what}: {units} {unit}, {name} {one:.0} ns each, {beside} {other:.0} ns each, ratio {:.2}", one / other);
 }
 
-/// Sheets whose lists fit, from the seed.
+/// Sheets whose lists fit, from the seed; none has a limited sort: `translation.rs` and versions before Change 8 have none.
 fn sheets(number: usize) -> Vec<(Vec<u8>, Clauses)> {
     let mut sheets = Vec::new();
     for case in 0.. {
@@ -57,7 +58,11 @@ fn sheets(number: usize) -> Vec<(Vec<u8>, Clauses)> {
         let source = &mut Source::new(SEED, "bench", case);
         let style = Style { rich: false, ..style(source) };
         let bytes = sheet(source, style).bytes();
-        if let Ok(clauses) = read(&bytes).and_then(|sheet| translate(&sheet)) {
+        let Ok(sheet) = read(&bytes) else { continue };
+        if sheet.memberships() > 0 {
+            continue;
+        }
+        if let Ok(clauses) = translate(&sheet) {
             sheets.push((bytes, clauses));
         }
     }
@@ -173,13 +178,21 @@ fn texts(lists: &[Clauses], large: &Clauses) {
     text::texts("a random list", &[text::random_list(1_000_000, SEED)]);
 }
 
-/// All measures; or one of two that the run names.
+/// All measures; or one that the run names; or those of the library alone.
 fn main() {
     match std::env::args().nth(1).as_deref() {
         Some("steps") => steps::each(),
         Some("few") => steps::few(),
+        Some("alone") => alone(),
         _ => all(),
     }
+}
+
+/// What `bench/before` sets beside another version.
+fn alone() {
+    calls::each();
+    steps::few();
+    steps::ours();
 }
 
 fn all() {

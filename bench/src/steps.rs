@@ -113,7 +113,7 @@ fn short() -> Vec<(String, Sheet)> {
 }
 
 /// The time of some work in ns: the least of many short rounds, in each of which it is done again and again.
-fn repeated(mut work: impl FnMut()) -> f64 {
+pub fn repeated(mut work: impl FnMut()) -> f64 {
     let start = Instant::now();
     work();
     let times = 1 + 2_000_000 / (start.elapsed().as_nanos().max(1) as u64);
@@ -143,5 +143,16 @@ pub fn few() {
         println!(
             "few steps: {name}, {words} words, {end:?} after {steps} steps, search {search:.1} ns, find {find:.1} ns"
         );
+    }
+}
+
+/// A line for each of the longer lists: a step of the library's search alone.
+pub fn ours() {
+    for (name, mut list) in lists() {
+        let steps = list.search(by_library, MOST).steps.sum() as f64;
+        let step = repeated(|| {
+            black_box(list.search(by_library, MOST));
+        });
+        println!("steps: {name}, {} words, step {:.2} ns", list.words.len(), step / steps);
     }
 }

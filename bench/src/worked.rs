@@ -31,13 +31,14 @@ impl Listed {
     }
 }
 
-/// The examples in the order of their names.
+/// The examples without limited sorts, in the order of their names.
 pub fn examples() -> Vec<(String, Sheet)> {
     let files = std::fs::read_dir("examples").expect("the examples").map(|file| file.expect("a file").path());
     let mut texts: Vec<_> = files.filter(|file| file.extension().is_some_and(|end| end == "hex")).collect();
     texts.sort();
     let name = |file: &std::path::PathBuf| file.file_stem().expect("a name").to_string_lossy().into_owned();
-    texts.iter().map(|file| (name(file), read(&bytes(file)).expect("an accepted sheet"))).collect()
+    let sheets = texts.iter().map(|file| (name(file), read(&bytes(file)).expect("an accepted sheet")));
+    sheets.filter(|(_, sheet)| sheet.memberships() == 0).collect()
 }
 
 /// The bytes of a text of hexadecimal digits; from # to the end of the line is a comment.
