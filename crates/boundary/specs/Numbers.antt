@@ -9,6 +9,8 @@ use Rattle.dimacs.specs.Answers as text
 use Rattle.search_rules.specs.declared.Steps.{Steps}
 use Rattle.search.specs.Answers as searched
 use Rattle.solve_rules.specs.Answers as back
+use Rattle.solve_rules.specs.Finding.{Slices}
+use Rattle.solve_rules.specs.Finds.{Finds}
 use Rattle.boundary.specs.declared.answer.CheckAnswer.{CheckAnswer}
 use Rattle.boundary.specs.declared.answer.CountAnswer.{CountAnswer}
 use Rattle.boundary.specs.declared.answer.SearchAnswer.{SearchAnswer}
@@ -40,13 +42,27 @@ countNumbers (counted.refused n) = record { refusal = n; variables = 0; clauses 
 -- the search, and the whole run
 abbrev pub endNumbers : ℕ → Steps → SearchAnswer
 endNumbers end t =
-    record { refusal = 0; end = end; propagations = t .propagations; decisions = t .decisions; backtracks = t .backtracks }
+    record {
+      refusal = 0;
+      end = end;
+      propagations = t .propagations;
+      decisions = t .decisions;
+      backtracks = t
+          .backtracks;
+    }
 
 abbrev pub searchNumbers : searched.Answer → SearchAnswer
 searchNumbers (searched.found steps) = endNumbers 1 steps
 searchNumbers (searched.none steps) = endNumbers 2 steps
 searchNumbers (searched.spent steps) = endNumbers 3 steps
 searchNumbers (searched.refused n) = record { refusal = n; end = 0; propagations = 0; decisions = 0; backtracks = 0 }
+
+-- what the numbers of the whole run mean: they are those of an answer of which `Finds` holds
+pub record FindsNumbers (s : List ℕ) (lent : Slices) (budget : ℕ) (numbers : SearchAnswer) (left : Slices)
+    : Type 0 where
+  pub answer : searched.Answer
+  pub finds : Finds s lent budget answer left
+  pub in-numbers : numbers ≡ searchNumbers answer
 
 -- clause text and its size
 abbrev pub textNumbers : text.Answer → TextAnswer

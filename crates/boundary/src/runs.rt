@@ -7,7 +7,7 @@ ghost use Rattle.search.specs.Following.{following};
 ghost use Rattle.solve_rules.specs.Answers as back;
 ghost use Rattle.solve.specs.Answers.{answerOf};
 ghost use Rattle.solve_rules.specs.Finding.{slices, finding};
-ghost use Rattle.boundary.specs.Numbers.{endNumbers, searchNumbers, copyNumbers};
+ghost use Rattle.boundary.specs.Numbers.{endNumbers, searchNumbers, FindsNumbers, copyNumbers};
 use super::answer::ReadBackAnswer;
 use super::answer::ResumedAnswer;
 use super::answer::SearchAnswer;
@@ -202,6 +202,9 @@ pub extern "C" fn fawnloom_find(
     ensures { λ r. ⌜ slices (now (list .exit)) (now (values .exit)) (now (trail .exit)) (now (instance .exit))
         ≡ finding (now (sheet .entry))
         (slices (now (list .entry)) (now (values .entry)) (now (trail .entry)) (now (instance .entry))) budget .left ⌝ }
+    ensures { λ r. ⌜ FindsNumbers (now (sheet .entry))
+        (slices (now (list .entry)) (now (values .entry)) (now (trail .entry)) (now (instance .entry))) budget
+        r (slices (now (list .exit)) (now (values .exit)) (now (trail .exit)) (now (instance .exit))) ⌝ }
 {
     search_numbers(solve::find(sheet, list, values, trail, instance, budget))
 }

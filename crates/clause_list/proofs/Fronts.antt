@@ -11,7 +11,8 @@ use lib.ListN.{length, getD, take, drop}
 use Rattle.prelude.specs.Tests.{between, all}
 use Rattle.prelude.proofs.Laws.{decided, and-not-left, and-not-right, and-both, and-left, and-rest}
 use Rattle.prelude.proofs.Laws.{below-not-between, above-not-between, is-between}
-use Rattle.literal.specs.Literals.{isLiteral, countOf}
+use Rattle.literal.specs.Literals.{isLiteral}
+use Rattle.literal.specs.Words.{countOf}
 use Rattle.literal.proofs.Words.{count-abs}
 use Rattle.clause_list.specs.ClauseList.{isCount}
 use Rattle.clause_list.specs.Private.{startsClause, clauseWords}

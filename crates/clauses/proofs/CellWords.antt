@@ -8,7 +8,8 @@ use native.Mathlib.Omega.{arith}
 use lib.IntN.{ℤ, negsuc}
 use lib.ListN.{getD, take, set, replicate, length-set, length-replicate, List·getD-eq-default}
 use lib.Seq.{take-suc-set}
-use Rattle.literal.specs.Literals.{Literal, positive, literalOf, positiveWord}
+use Rattle.literal.specs.Literals.{Literal, positive}
+use Rattle.literal.specs.Words.{literalOf, positiveWord}
 use Rattle.literal.proofs.Words.{positive-is}
 use Rattle.relational.specs.Cells.{mostCells}
 use Rattle.relational.specs.Matrices.{upto}

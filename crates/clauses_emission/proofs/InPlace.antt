@@ -7,7 +7,8 @@ use native.Mathlib.Omega.{arith}
 use lib.IntN.{ℤ, pos}
 use lib.ListN.{length, getD, take, drop, set, length-set, length-take, drop-of-length-le}
 use lib.Seq.{drop-cons, take-suc-set}
-use Rattle.literal.specs.Literals.{Literal, positive, literalOf}
+use Rattle.literal.specs.Literals.{Literal, positive}
+use Rattle.literal.specs.Words.{literalOf}
 use Rattle.clauses_rules.specs.Gates.{orOf, or}
 use Rattle.clauses_rules.specs.Translation.{absent}
 use Rattle.clauses_emission.specs.declared.Seen.{Seen}

@@ -5,7 +5,8 @@ use Prim.Native.Nat.{ℕ, suc, _≤_, _<_}
 use lib.IntN.{ℤ, pos, negsuc}
 use lib.ListN.{length, getD, drop, drop-of-length-le}
 use lib.Seq.{drop-cons}
-use Rattle.literal.specs.Literals.{Literal, opposite, literalOf, isSame}
+use Rattle.literal.specs.Literals.{Literal, opposite, isSame}
+use Rattle.literal.specs.Words.{literalOf}
 use Rattle.literal.proofs.Same.{same-self, same-not, opposite-twice, one-word}
 use Rattle.clauses_rules.specs.Translation.{absent}
 use Rattle.clauses_emission.specs.declared.Seen.the-variants.{Nothing, Itself, Opposite}

@@ -6,7 +6,8 @@ use native.Mathlib.Omega.{arith}
 use lib.IntN.{ℤ, pos}
 use lib.ListN.{length, getD, take, set, length-append, length-map}
 use lib.Seq.{take-all, take-suc, take-suc-set}
-use Rattle.literal.specs.Literals.{Literal, positive, negative, opposite, literalOf, wordOf}
+use Rattle.literal.specs.Literals.{Literal, positive, negative, opposite, wordOf}
+use Rattle.literal.specs.Words.{literalOf}
 use Rattle.clause_list.specs.ClauseList.{wordsOf}
 use Rattle.clauses_rules.specs.Builder.{Builder, return, _<$>_}
 use Rattle.clauses_rules.specs.Gates.{Clause, gateOf, orOf, inputClauses, gatesClauses}

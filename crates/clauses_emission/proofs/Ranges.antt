@@ -7,7 +7,8 @@ use lib.IntN.{ℤ, pos, negsuc, negℤ, natAbs}
 use lib.ListN.{length, getD, List·getD-map}
 use mir.Syntax.{w32}
 use mir.Val.{SFits}
-use Rattle.literal.specs.Literals.{Literal, positive, negative, opposite, literalOf, oppositeWord}
+use Rattle.literal.specs.Literals.{Literal, positive, negative, opposite}
+use Rattle.literal.specs.Words.{literalOf, oppositeWord}
 use Rattle.literal.proofs.Words.{variable-of, opposite-is}
 use Rattle.literal.proofs.Signs.{read, back}
 use Rattle.clauses_rules.specs.Translation.{absent}

@@ -7,7 +7,8 @@ use Prim.Native.Nat.{ℕ}
 use lib.IntN.{ℤ}
 use Rattle.prelude.specs.Tests.{any}
 use Rattle.prelude.proofs.Laws.{decided, or-left, or-right}
-use Rattle.literal.specs.Literals.{Literal, positive, opposite, isSame, literalOf}
+use Rattle.literal.specs.Literals.{Literal, positive, opposite, isSame}
+use Rattle.literal.specs.Words.{literalOf}
 use Rattle.literal.proofs.Same.{same-is, same-self, opposite-twice}
 use Rattle.clauses_rules.specs.Builder.{Built, Builder, return, _<$>_}
 use Rattle.clauses_rules.specs.Gates.{gateOf, givesTrue, orOf, or}

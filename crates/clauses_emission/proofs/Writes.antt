@@ -10,7 +10,8 @@ use lib.ListN.{length, getD, drop, set, length-append, drop-of-length-le}
 use lib.Seq.{drop-cons}
 use Rattle.prelude.specs.Stores.{putAll}
 use Rattle.prelude.proofs.Stores.{put-none, put-next, put-then, length-put}
-use Rattle.literal.specs.Literals.{literalOf, wordOf}
+use Rattle.literal.specs.Literals.{wordOf}
+use Rattle.literal.specs.Words.{literalOf}
 use Rattle.literal.proofs.Words.{word-literal}
 use Rattle.clause_list.specs.ClauseList.{wordsOf}
 use Rattle.clause_list.proofs.Laws as list

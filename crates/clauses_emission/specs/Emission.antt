@@ -11,7 +11,8 @@ use Prim.Native.Nat.{ℕ, _+_, _*_, _≤_, _<_}
 use lib.IntN.{ℤ}
 use lib.ListN.{length, getD}
 use Rattle.prelude.specs.Stores.{putAll}
-use Rattle.literal.specs.Literals.{Literal, variable, literalOf, wordOf}
+use Rattle.literal.specs.Literals.{Literal, wordOf}
+use Rattle.literal.specs.Words.{variable, literalOf}
 use Rattle.clause_list.specs.ClauseList.{wordsOf}
 use Rattle.clauses_rules.specs.Builder.{Built, Builder}
 use Rattle.clauses_rules.specs.Gates.{Clause, gatesClauses}

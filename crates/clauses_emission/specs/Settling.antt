@@ -6,7 +6,8 @@ use mathlib.Core.List.{List, [], _∷_, _++_}
 use Prim.Native.Nat.{ℕ, _≤_}
 use lib.IntN.{ℤ, pos}
 use lib.ListN.{length, take}
-use Rattle.literal.specs.Literals.{Literal, positive, opposite, isSame, literalOf}
+use Rattle.literal.specs.Literals.{Literal, positive, opposite, isSame}
+use Rattle.literal.specs.Words.{literalOf}
 use Rattle.clauses_rules.specs.Builder.{Builder, return}
 use Rattle.clauses_rules.specs.Translation.{Two, absent, either}
 use Rattle.clauses_emission.specs.declared.Seen.{Seen}

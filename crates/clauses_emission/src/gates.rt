@@ -1,7 +1,8 @@
 // OR, AND and IFF (document 01, "Clauses", second paragraph; document 02, Change 2). Past the limit of variables no gate is made.
 ghost use mathlib.Core.Path.{_≡_};
 ghost use lib.IntN.{pos};
-ghost use Rattle.literal.specs.Literals.{literalOf, opposite};
+ghost use Rattle.literal.specs.Literals.{opposite};
+ghost use Rattle.literal.specs.Words.{literalOf};
 ghost use Rattle.clauses_rules.specs.Gates as spec;
 ghost use Rattle.clauses_rules.specs.Gates.{gateOf, inputClauses};
 ghost use Rattle.clauses_rules.specs.Translation as two;

@@ -1,7 +1,8 @@
 // The inputs of an OR, in place: what is struck out, and what remains (document 02, Change 2).
 ghost use mathlib.Core.Path.{_≡_};
 ghost use mathlib.Core.List.{_∷_, map};
-ghost use Rattle.literal.specs.Literals.{literalOf, opposite};
+ghost use Rattle.literal.specs.Literals.{opposite};
+ghost use Rattle.literal.specs.Words.{literalOf};
 ghost use Rattle.clauses_rules.specs.Translation.{absent};
 ghost use Rattle.clauses_emission.specs.Emission.{Inside, AllInside, literalsOf};
 ghost use Rattle.clauses_emission.specs.Settling.{seenIn, Settles};

@@ -5,7 +5,7 @@ ghost use Prim.Native.Nat.{suc, _≤_};
 ghost use lib.IntN.{pos, negsuc};
 ghost use lib.ListN.{length, getD, set};
 ghost use Rattle.prelude.specs.Stores.{putAll};
-ghost use Rattle.literal.specs.Literals.{literalOf};
+ghost use Rattle.literal.specs.Words.{literalOf};
 ghost use Rattle.clauses_emission.specs.Emission.{literalsOf, mostInputs, Appends, Room};
 use super::Tape;
 

@@ -10,7 +10,8 @@ use lib.Dec.{eqb}
 use lib.IntN.{ℤ, pos, negsuc}
 use lib.ListN.{length, getD, take, List·getD-eq-default}
 use lib.Seq.{getD-take}
-use Rattle.literal.specs.Literals.{Literal, wordOf, literalOf}
+use Rattle.literal.specs.Literals.{Literal, wordOf}
+use Rattle.literal.specs.Words.{literalOf}
 use Rattle.sheet_rules.specs.Blocks.{Sheet, scope, isBounded, relationCount}
 use Rattle.sheet_rules.specs.Blocks as blocks
 use Rattle.sheet_rules.specs.Facts.{Facts}

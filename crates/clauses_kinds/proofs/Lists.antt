@@ -8,7 +8,8 @@ use lib.IntN.{ℤ, pos, negsuc}
 use lib.ListN.{length, getD, set, take, replicate, length-set, length-map, getD-replicate, length-replicate}
 use lib.ListN.{List·getD-eq-default}
 use lib.Seq.{getD-set-same, getD-set-other, getD-take, length-take-le, ext-getD}
-use Rattle.literal.specs.Literals.{Literal, literalOf}
+use Rattle.literal.specs.Literals.{Literal}
+use Rattle.literal.specs.Words.{literalOf}
 use Rattle.relational.specs.Matrices.{upto}
 use Rattle.relational.proofs.Places.{upto-at, length-map-from}
 use Rattle.clauses_rules.specs.Translation.{absent}

@@ -1,6 +1,6 @@
 // The operators, by kind (document 01, "Clauses", the last list). What an operand left on the tape is where the operator starts.
 ghost use mathlib.Core.Path.{_≡_};
-ghost use Rattle.literal.specs.Literals.{literalOf};
+ghost use Rattle.literal.specs.Words.{literalOf};
 ghost use Rattle.relational.specs.Trees.{Binary, Unary, Comparison, Test, Connective, Quantifier};
 ghost use Rattle.relational.specs.Trees.{binary-symbol, unary-symbol, comparison-symbol, test-symbol, connective-symbol};
 ghost use Rattle.relational.specs.Trees.{quantifier-symbol, symbolOf, intersection, for-some};

@@ -7,7 +7,8 @@ use native.Mathlib.Omega.{arith}
 use lib.IntN.{ℤ, pos}
 use lib.ListN.{length, getD, take, drop, length-drop, drop-of-length-le}
 use lib.Seq.{drop-cons, take-all, take-suc}
-use Rattle.literal.specs.Literals.{Literal, opposite, literalOf}
+use Rattle.literal.specs.Literals.{Literal, opposite}
+use Rattle.literal.specs.Words.{literalOf}
 use Rattle.relational.specs.Matrices.{pairs}
 use Rattle.clauses_rules.specs.Translation.{Two, absent}
 use Rattle.clauses_rules.specs.Whole.{pairClause, rowClauses}

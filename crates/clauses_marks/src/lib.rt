@@ -2,7 +2,7 @@
 ghost use mathlib.Core.Path.{_≡_};
 ghost use mathlib.Core.List.{map};
 ghost use Prim.Native.Nat.{_<_};
-ghost use Rattle.literal.specs.Literals.{literalOf};
+ghost use Rattle.literal.specs.Words.{literalOf};
 ghost use Rattle.sheet_rules.specs.Blocks as spec;
 ghost use Rattle.sheet_rules.specs.Blocks.{relationCount, sheetOf};
 ghost use Rattle.sheet_rules.specs.Reading.{accepted, reading};

@@ -2,7 +2,7 @@
 // ahead of the marks" (document 02, Change 8).
 ghost use mathlib.Core.Path.{_≡_};
 ghost use Prim.Native.Nat.{_<_, _≤_};
-ghost use Rattle.literal.specs.Literals.{literalOf};
+ghost use Rattle.literal.specs.Words.{literalOf};
 ghost use Rattle.sheet_rules.specs.Blocks.{relationCount, sheetOf};
 ghost use Rattle.relational.specs.Cells.{mostCells, cell};
 ghost use Rattle.clauses_rules.specs.Whole.{memberClauses};

@@ -14,7 +14,8 @@ use mir.Syntax.{w64}
 use mir.Val.{Fits}
 use borrow.Author.Tests.{ltb-true, ltb-false}
 use Rattle.prelude.proofs.Laws.{decided}
-use Rattle.literal.specs.Literals.{Literal, literalOf}
+use Rattle.literal.specs.Literals.{Literal}
+use Rattle.literal.specs.Words.{literalOf}
 use Rattle.relational.specs.Matrices.{from, upto, cellAt, joinColumns}
 use Rattle.relational.proofs.Places.{place-below, square}
 use Rattle.clauses_rules.specs.Builder.{Builder, each}

@@ -6,7 +6,7 @@ use native.Mathlib.Numerals.{add-one}
 use native.Mathlib.Omega.{arith}
 use lib.IntN.{ℤ, pos, negsuc}
 use lib.ListN.{length, getD, take, set, replicate, length-map, length-set, length-replicate}
-use Rattle.literal.specs.Literals.{literalOf}
+use Rattle.literal.specs.Words.{literalOf}
 use Rattle.relational.specs.Matrices.{upto}
 use Rattle.clauses_rules.specs.Builder.{each}
 use Rattle.clauses_rules.specs.Translation.{Two, absent, both}

@@ -7,7 +7,8 @@ use native.Mathlib.Omega.{arith}
 use lib.IntN.{ℤ, pos}
 use lib.ListN.{length, getD, take, drop, length-map, length-drop}
 use lib.Seq.{length-take-le, getD-take, getD-drop}
-use Rattle.literal.specs.Literals.{Literal, literalOf}
+use Rattle.literal.specs.Literals.{Literal}
+use Rattle.literal.specs.Words.{literalOf}
 use Rattle.relational.specs.Matrices.{upto, Place, places, Matrix, cellAt, joinColumns, middles}
 use Rattle.relational.proofs.Places.{map-map, square, row-below, column-below}
 use Rattle.clauses_rules.specs.Builder.{Built, Builder, each}

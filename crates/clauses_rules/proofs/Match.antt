@@ -222,7 +222,7 @@ module _ (sheet : Sheet) where
       subst Instance (read-bytes a (h .bits))
       (instance-of (readBits (flags a)) (reads-meet sheetParts sheetDemand sheet-stores (flags a) (solves a h)))
 
-  pub exactly-one : (i : List ℕ) → Instance i → ReadBackOnce sheet i
+  pub exactly-one : (i : List ℕ) → Instance i → ReadBackOnce (Assignment sheet) (λ a j. readBack sheet a ≡ j) i
   unfolding sheet-stores
   exactly-one i h =
       let o = once sheetParts sheetDemand sheet-stores (flags i) (meets-of i h) in

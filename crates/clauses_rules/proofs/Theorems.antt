@@ -6,15 +6,15 @@ use mathlib.Core.List.{List, _++_, map}
 use Prim.Native.Nat.{ℕ, _≤_}
 use lib.ListN.{length}
 use Rattle.prelude.specs.Tests.{any}
-use Rattle.prelude.specs.Order.{Before, NoneBefore}
-use Rattle.prelude.proofs.Order.{before-irreflexive, before-transitive, before-total}
+use Rattle.prelude.specs.Order.{Before, NoneBefore, Some, Lists}
+use Rattle.prelude.proofs.Order.{before-irreflexive, before-transitive, before-total, given-of-map, lists-of-map}
 use Rattle.literal.specs.Literals.{Literal, positive}
 use Rattle.clause_list.specs.ClauseList.{isList}
 use Rattle.sheet_rules.specs.declared.Layout.{Layout}
 use Rattle.sheet_rules.specs.Blocks.{Sheet, sheetOf}
 use Rattle.sheet_rules.specs.Reading.{accepted, reading}
 use Rattle.relational.specs.Trees.{Expression, Formula}
-use Rattle.relational.specs.Meaning.{Environment}
+use Rattle.relational.specs.Meaning.{Environment, Solution}
 use Rattle.relational.specs.Evaluation.{valueOf, truthOf}
 use Rattle.relational.proofs.Accepted.{accepted-holds}
 use Rattle.relational.proofs.Scopes.{within-size, within-bits}
@@ -22,7 +22,7 @@ use Rattle.clauses_rules.specs.Builder.{Gate, Built}
 use Rattle.clauses_rules.specs.Gates.{or, gateClauses, gatesClauses}
 use Rattle.clauses_rules.specs.Translation.{translate, translateFormula}
 use Rattle.clauses_rules.specs.Whole.{words, variableTotal, wordTotal, readBack}
-use Rattle.clauses_rules.specs.Matching.{Solution, Assignment, Match}
+use Rattle.clauses_rules.specs.Matching.{Assignment, Match}
 use Rattle.clauses_rules.proofs.Values.{value, satisfied, AllIn}
 use Rattle.clauses_rules.proofs.Gate as g
 use Rattle.clauses_rules.proofs.Gate.{outputs, Scoped, solved, solved-only, length-outputs}
@@ -130,6 +130,23 @@ module _ (s : List ℕ) (layout : Layout) (taken : reading s ≡ accepted layout
       same-reads : (a b : List ℕ) → Assignment (sheetOf s) a → Assignment (sheetOf s) b → readBack (sheetOf s) a ≡ readBack (sheetOf s) b → a ≡ b
       same-reads a b p q e =
           let o = match .once (readBack (sheetOf s) b) (match .reads b q) in o .only a p e ∙ sym (o .only b q refl)
+
+  -- so a list of satisfying assignments reads back to one of the instances that satisfy, and all of them to all
+  from-one : (i : List ℕ) → Solution (sheetOf s) i
+      → (a : List ℕ) × Assignment (sheetOf s) a × (readBack (sheetOf s) a ≡ i)
+  from-one i p = let o = match .once i p in (o .assignment, o .satisfying, o .reads)
+
+  pub lists-read : (found : List (List ℕ)) → Lists (Assignment (sheetOf s)) found
+      → Lists (Solution (sheetOf s)) (map (readBack (sheetOf s)) found)
+  lists-read =
+      lists-of-map (Assignment (sheetOf s)) (Solution (sheetOf s)) (readBack (sheetOf s))
+      (match .reads) before-reads from-one
+
+  pub all-read : (found : List (List ℕ)) → ((a : List ℕ) → Assignment (sheetOf s) a → Some (λ b. b ≡ a) found)
+      → (i : List ℕ) → Solution (sheetOf s) i → Some (λ j. j ≡ i) (map (readBack (sheetOf s)) found)
+  all-read =
+      given-of-map (Assignment (sheetOf s)) (Solution (sheetOf s)) (readBack (sheetOf s))
+      (match .reads) before-reads from-one
 
   -- `listed`: the search takes the clauses as they are written, where they fit the limits
   pub listed : variableTotal (sheetOf s) ≤ 16000 → wordTotal (sheetOf s) ≤ 2147483647

@@ -24,7 +24,7 @@ use Rattle.relational.proofs.Flags.{Is, recast, is-and, is-and-then, is-eqb, is
 use Rattle.relational.proofs.Basic.{is-member}
 use Rattle.relational.proofs.Transfer.{Alike, SameModel, of-atoms, satisfies}
 use Rattle.clauses_rules.specs.Whole.{series}
-use Rattle.clauses_rules.specs.Matching.{Solution}
+use Rattle.relational.specs.Meaning.{Solution}
 use Rattle.clauses_rules.proofs.Bytes.{byteOf, bytes, bytes-bits}
 use Rattle.clauses_rules.proofs.Series.{series-end, series-at}
 

@@ -7,7 +7,8 @@ use native.Mathlib.Numerals.{add-one}
 use native.Mathlib.Omega.{arith}
 use lib.IntN.{ℤ, negsuc}
 use lib.ListN.{set, replicate}
-use Rattle.literal.specs.Literals.{Literal, literalOf}
+use Rattle.literal.specs.Literals.{Literal}
+use Rattle.literal.specs.Words.{literalOf}
 use Rattle.sheet_rules.specs.Blocks.{Sheet, scope, sortOf}
 use Rattle.relational.specs.Trees.{Formula, formula}
 use Rattle.relational.specs.Meaning.{bind}

@@ -1,7 +1,7 @@
 // The walk (document 01, "Clauses"): a node's operands in order, then the node's own cells. Expressions and formulas call each other with
 // a falling node number. Past the limit of variables nothing is walked any more.
 ghost use Prim.Native.Nat.{_<_};
-ghost use Rattle.literal.specs.Literals.{literalOf};
+ghost use Rattle.literal.specs.Words.{literalOf};
 ghost use Rattle.sheet_rules.specs.Blocks.{sheetOf};
 ghost use Rattle.nodes.specs.Nodes.{IsExpression, IsFormula};
 ghost use Rattle.clauses_translation.specs.Walks.{Ready, WalksExpression, WalksFormula, WalksBodies};

@@ -18,10 +18,9 @@ use Rattle.clauses.proofs.Answered.{count-fits, write-fits}
 use Rattle.dimacs.specs.Text.{textOf}
 use Rattle.dimacs.specs.Answers as dimacs
 use Rattle.dimacs.specs.Answers.{bytes, sizeAnswer, textAfter}
-use Rattle.dimacs.specs.Exact.{Exact}
 use Rattle.dimacs.proofs.Lines.{text-short}
 use Rattle.dimacs.proofs.Answers.{size-bytes}
-use Rattle.dimacs.proofs.Exact.{not-both, to-the-byte}
+use Rattle.dimacs.proofs.Exact.{Exact, not-both, to-the-byte}
 use Rattle.cnf_text.specs.Private.{PrintsText}
 use Rattle.cnf_text.specs.Printed.{textAs, clauseText, listLeft}
 

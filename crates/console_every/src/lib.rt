@@ -2,6 +2,10 @@
 ghost use mathlib.Core.Path.{_≡_};
 ghost use Prim.Native.Nat.{_≤_};
 ghost use lib.ListN.{length, take};
+ghost use Rattle.search.specs.Resuming.{start};
+ghost use Rattle.search.specs.Every.{Fresh};
+ghost use Rattle.listing.specs.Printed.{standing};
+ghost use Rattle.console_every.specs.Listed.{opened, BeginGives, Listed, ListedOrRefused};
 use cells::MOST_CELLS;
 use console_finder::print_answer;
 use console_finder::print_text;
@@ -33,7 +37,12 @@ fn print_cases(
     trail: &mut [i32; 16000],
     instance: &mut [u8; MOST_CELLS],
     text: &mut [u8; 2048],
-) -> bool {
+) -> bool
+    requires { ⌜ BeginGives (now input) (now list) v ⌝ }
+    requires { ⌜ Fresh v (standing (now values) (now trail) start) ⌝ }
+    ensures { λ r. ⌜ Listed (now (input .entry)) (now (list .entry)) v
+        (standing (now (values .entry)) (now (trail .entry)) start) r (now (text .exit)) ⌝ }
+{
     let mut at = Position {
         length: 0,
         propagations: 0,
@@ -58,23 +67,34 @@ fn print_cases(
 }
 
 // Prints the cases of a list of clauses over v variables, from open values on.
-fn list_cases(input: &[u8], list: &[i32], v: u32, text: &mut [u8; 2048]) -> bool {
+fn list_cases(input: &[u8], list: &[i32], v: u32, text: &mut [u8; 2048]) -> bool
+    requires { ⌜ BeginGives (now input) (now list) v ⌝ }
+    ensures { λ r. ⌜ Listed (now (input .entry)) (now (list .entry)) v opened r (now (text .exit)) ⌝ }
+{
     let mut values = [2u8; 16000];
     let mut trail = [0i32; 16000];
     let mut instance = [0u8; MOST_CELLS];
     print_cases(input, list, v, &mut values, &mut trail, &mut instance, text)
 }
 
+// Prints the first bytes of a text as the refusal of an input, and answers whether they were written.
+fn print_refusal(input: &[u8], text: &[u8], bytes: usize) -> bool
+    requires { ⌜ (bytes ≤ length (now text)) × (bytes ≡ length (take bytes (now text))) ⌝ }
+{
+    print_answer(input, &text[..bytes])
+}
+
 // Prints the cases of an input, or its refusal, with as much room as the finder has.
-fn answer(input: &[u8]) -> bool {
+fn answer(input: &[u8], text: &mut [u8; 2048]) -> bool
+    ensures { λ r. ⌜ ListedOrRefused (now (input .entry)) r (now (text .exit)) ⌝ }
+{
     let mut list = [0i32; 16384];
-    let mut text = [0u8; 2048];
-    let begun = begin(input, &mut list, &mut text);
+    let begun = begin(input, &mut list, text);
     match begun {
-        Begun::Refused(k) => print_answer(input, &text[..k]),
+        Begun::Refused(k) => print_refusal(input, text, k),
         Begun::Cases(size) => {
             let w = size.words;
-            list_cases(input, &list[..w], size.variables as u32, &mut text)
+            list_cases(input, &list[..w], size.variables as u32, text)
         }
     }
 }
@@ -87,7 +107,8 @@ pub fn every(fd: i32) -> bool {
         return false;
     }
     let n = read.bytes;
-    answer(&input[..n])
+    let mut text = [0u8; 2048];
+    answer(&input[..n], &mut text)
 }
 
 // The program's exit status: 0, or 1 where reading or printing failed.

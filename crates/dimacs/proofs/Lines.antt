@@ -14,7 +14,8 @@ use Rattle.prelude.specs.Tests.{all}
 use Rattle.prelude.proofs.Laws.{clash, and-left, and-right}
 use Rattle.text.specs.Texts.{decimal}
 use Rattle.text.proofs.Decimals.{decimal-few, decimal-short}
-use Rattle.literal.specs.Literals.{isLiteral, isPositive}
+use Rattle.literal.specs.Literals.{isLiteral}
+use Rattle.literal.specs.Words.{isPositive}
 use Rattle.literal.proofs.Words.{literal-high}
 use Rattle.clause_list.specs.ClauseList.{clausesOf, wordsOf, isList}
 use Rattle.clause_list.proofs.Laws.{list-clauses, list-literals, list-most-variables, list-most-words}

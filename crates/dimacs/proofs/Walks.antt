@@ -9,7 +9,8 @@ use lib.IntN.{ℤ, pos}
 use lib.ListN.{length, getD, take, drop, length-append, drop-of-length-le}
 use Rattle.prelude.specs.Tests.{all}
 use Rattle.prelude.proofs.Laws.{all-at}
-use Rattle.literal.specs.Literals.{countOf, isLiteral}
+use Rattle.literal.specs.Literals.{isLiteral}
+use Rattle.literal.specs.Words.{countOf}
 use Rattle.literal.proofs.Words.{literal-low}
 use Rattle.clause_list.specs.ClauseList.{clausesOf, isList}
 use Rattle.clause_list.proofs.Laws.{ClauseAt, clause-at, wellCutWords, list-well-cut, clauses-nil}

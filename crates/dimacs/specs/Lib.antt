@@ -1,4 +1,3 @@
 pub mod Answers
-pub mod Exact
 pub mod Private
 pub mod Text

@@ -3,7 +3,7 @@ ghost use mathlib.Core.Path.{_≡_};
 ghost use Prim.Native.Nat.{suc, _+_, _≤_};
 ghost use lib.IntN.{pos};
 ghost use lib.ListN.{length, getD};
-ghost use Rattle.literal.specs.Literals.{countOf};
+ghost use Rattle.literal.specs.Words.{countOf};
 
 // The place behind the clause whose count stands at place i.
 pub fn clause_end(list: &[i32], i: usize) -> usize

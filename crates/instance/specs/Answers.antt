@@ -23,8 +23,8 @@ answerOf Yes = yes
 answerOf No = no
 answerOf (Refused refusal) = refused (numberOf refusal)
 
--- "The check takes 1 to 9 and 11": those of reading, then 11 CELLS, "an instance of the wrong length, or a cell not 0 or 1";
--- else yes exactly when the statement holds, and no exactly when it does not
+-- "The check takes 1 to 9 and 11": those of reading, then 11 CELLS, here "an instance .. of the wrong length, or a cell
+-- not 0 or 1"; else yes exactly when the statement holds, and no exactly when it does not
 abbrev pub Answers : sheets.Answer → Bool → Type 0 → Answer → Type 0
 Answers (sheets.refused n) fine statement answer = answer ≡ refused n
 Answers (sheets.accepted layout) false statement answer = answer ≡ refused 11

@@ -23,7 +23,8 @@ use Rattle.listing.specs.declared.answer.Begun.the-variants.{Refused, Ca
 use Rattle.listing.specs.Printed.{asFinder, beginning, listBegun, begunText, begunOf, bytesIn}
 
 -- the numbers of an answer
-sized : (a : Answer) (size : Size) → Cases size ≡ begunOf a → a ≡ fits (size .variables) (size .clauses) (size .words)
+pub sized : (a : Answer) (size : Size) → Cases size ≡ begunOf a
+    → a ≡ fits (size .variables) (size .clauses) (size .words)
 sized (refused n) size e = absurd (let z : _≡_ {A = ℕ} 0 1 = cc in omega arith)
 sized (fits v c w) size e =
     let f : size ≡ record { variables = v; clauses = c; words = w } = cc in
@@ -48,7 +49,7 @@ module _ (input : List ℕ) (list : List ℤ) where
 
   -- it begins where the input is short and writing answers with numbers
   module _ (v c w : ℕ) (e : beginning input list ≡ fits v c w) where
-    begun-short : length input ≤ 4096
+    pub begun-short : length input ≤ 4096
     begun-short =
         ⊎-elim (leb-true (length input) 4096)
         (λ t.

@@ -10,6 +10,8 @@ use lib.ListN.{length, take}
 use Rattle.text.specs.Puts.{Put}
 use Rattle.text.specs.Texts.{Prints}
 use Rattle.text.proofs.Puts.{put-as, prints, counts}
+use Rattle.sheet_rules.specs.Blocks.{sheetOf}
+use Rattle.sheet_rules.specs.Reading.{reading}
 use Rattle.search_rules.specs.declared.Steps.{Steps}
 use Rattle.search_rules.specs.declared.Position.{Position}
 use Rattle.search_rules.specs.Run.{total}
@@ -20,7 +22,7 @@ use Rattle.search.specs.Following.{followedRun, following}
 use Rattle.search.proofs.Counters.{followed-limit}
 use Rattle.search.proofs.ResumedCalls.{answered}
 use Rattle.solve_rules.specs.Finding.{instanceFor}
-use Rattle.report.specs.Printed.{answerText}
+use Rattle.report.specs.Printed.{report, linesOf}
 use Rattle.listing.specs.Printed.{standing, isFound, Shown, shownOf, shown}
 
 -- an answer that is not "found"
@@ -51,13 +53,18 @@ module _ (list : List ℤ) (v : ℕ) (values : List ℕ) (trail : List ℤ) (p :
     abbrev is : Shown
     is = shown input list v (standing values trail p) budget instance
 
-    shown-is : record { text = answerText a input read; more = isFound a; left = standing vs ts q; instance = read } ≡ is
+    -- the text of the answer with an instance
+    abbrev text-of : List ℕ → List ℕ
+    text-of x = report a (linesOf (reading input) (sheetOf input) x)
+
+    shown-is : record { text = text-of read; more = isFound a; left = standing vs ts q; instance = read } ≡ is
     unfolding shown
     shown-is =
-        ap (λ (x : List ℕ). record { text = answerText a input x; more = isFound a; left = standing vs ts q; instance = x }) reads
+        ap (λ (x : List ℕ). record { text = text-of x; more = isFound a; left = standing vs ts q; instance = x }) reads
         ∙ ap (shownOf input v instance) call
 
-    pub ensured : {before after : List ℕ} {end : ℕ} {more : Bool} → Put before 0 (answerText a input read) after end → end ≤ length before
+    pub ensured : {before after : List ℕ} {end : ℕ} {more : Bool}
+        → Put before 0 (text-of read) after end → end ≤ length before
         → more ≡ isFound a
         → ((end ≤ length after) × (end ≡ length (take end after)))
         × (Prints (is .text) before after end × ((more ≡ is .more) × ((standing vs ts q ≡ is .left) × (read ≡ is .instance))))

@@ -24,11 +24,29 @@ use Rattle.solve_rules.specs.Finding.{Slices, finding}
 use Rattle.solve_rules.specs.Demand3.{FitsLimits, FitSlices}
 use Rattle.solve_rules.proofs.Finds.{finds}
 use Rattle.solve.proofs.FindLaws.{counting-declines, too-many-words, too-short}
-use Rattle.report.specs.Printed.{report, findingText}
+use Rattle.report.specs.Printed.{instanceLines, report, findingText}
 use Rattle.report.proofs.Texts.{long-text, short-text}
 use Rattle.listing.specs.Printed.{asFinder, beginning}
-use Rattle.listing.specs.Laws.{FinderSlices, SameRefusals}
 use Rattle.listing.proofs.Beginning.{long-refused, short-writes, begun-writes}
+
+-- slices as long as those of the finder
+pub record FinderSlices (lent : Slices) : Type 0 where
+  pub list : length (lent .list) ≡ 16384
+  pub values : length (lent .values) ≡ 16000
+  pub trail : length (lent .trail) ≡ 16000
+  pub instance : length (lent .instance) ≡ mostCells
+
+-- a refusal is printed as the finder prints it, within any budget
+pub record RefusedAlike (budget : ℕ) (input : List ℕ) (lent : Slices) : Type 0 where
+  -- where the listing is refused the finder prints the same
+  pub same-text : (n : ℕ) → beginning input (lent .list) ≡ count.refused n
+      → findingText budget input lent ≡ endLine (bytesOf "refused ") n
+  -- where it begins the finder does not refuse
+  pub not-refused : (v c w : ℕ) → beginning input (lent .list) ≡ count.fits v c w → (n : ℕ)
+      → finding input lent budget .answer ≡ refused n → ⊥
+
+abbrev pub SameRefusals : Type 0
+SameRefusals = (budget : ℕ) (input : List ℕ) (lent : Slices) → FinderSlices lent → RefusedAlike budget input lent
 
 -- at most 16 relations of 64 cells
 few-cells : (s : List ℕ) (l : Layout) → reading s ≡ accepted l → cellCount (sheetOf s) ≤ mostCells
@@ -71,7 +89,8 @@ module _ (budget : ℕ) (input : List ℕ) (lent : Slices) (h : FinderSlices len
       (λ t.
       let l = leb-true (length input) 4096 t in
       let r = refuses n (sym (short-writes input (lent .list) l) ∙ e) in
-      short-text budget input lent l ∙ ap (λ (a : Answer). report a (sheetOf input) (finding input lent budget .left .instance)) (sym r))
+      short-text budget input lent l ∙ ap (λ (a : Answer). report a
+      (instanceLines (sheetOf input) (finding input lent budget .left .instance))) (sym r))
       (λ f.
       let l = leb-false (length input) 4096 f in
       let r : count.refused 2 ≡ count.refused n = sym (long-refused input (lent .list) l) ∙ e in

@@ -1,4 +1,4 @@
--- What the program `every` prints, call by call (document 02, Change 6): "each case as it's found, as the finder prints one".
+-- What the program `every` prints, call by call (document 02, Change 6): each case as it is found.
 use mathlib.Core.Bool.{Bool, true, false, cond}
 use mathlib.Core.List.{List, []}
 use Prim.Native.Nat.{ℕ}
@@ -6,6 +6,8 @@ use lib.Dec.{leb}
 use lib.IntN.{ℤ}
 use lib.ListN.{length, take}
 use Rattle.text.specs.Texts.{bytesOf, endLine}
+use Rattle.sheet_rules.specs.Blocks.{sheetOf}
+use Rattle.sheet_rules.specs.Reading.{reading}
 use Rattle.clauses.specs.Answers as count
 use Rattle.clauses.specs.Answers.{countAnswer, writeAnswer, listAfter}
 use Rattle.search_rules.specs.declared.Position.{Position}
@@ -13,7 +15,7 @@ use Rattle.search.specs.Answers.{Answer, found, none, spent, refused}
 use Rattle.search.specs.Resumed.{Resumption}
 use Rattle.search.specs.Every.{Standing, leftBy, nextCall}
 use Rattle.solve_rules.specs.Finding.{instanceFor}
-use Rattle.report.specs.Printed.{answerText}
+use Rattle.report.specs.Printed.{report, linesOf}
 use Rattle.listing.specs.declared.answer.Begun.{Begun}
 use Rattle.listing.specs.declared.answer.Begun.the-variants.{Refused, Cases}
 
@@ -29,13 +31,14 @@ asFinder counted (count.fits v c w) = count.fits v c w
 
 -- how a listing begins: "An input over 4,096 bytes is printed as `refused 2` unparsed."
 unfoldable pub beginning : List ℕ → List ℤ → count.Answer
-beginning input list = cond (leb (length input) 4096) (asFinder (countAnswer input) (writeAnswer input list)) (count.refused 2)
+beginning input list = cond (leb (length input) 4096) (asFinder (countAnswer input) (writeAnswer input list))
+    (count.refused 2)
 
 -- the list that is left
 unfoldable pub listBegun : List ℕ → List ℤ → List ℤ
 listBegun input list = cond (leb (length input) 4096) (listAfter input list) list
 
--- "a refusal is printed as the finder prints it"; of cases nothing is printed yet
+-- a refusal is printed as the finder prints it; of cases nothing is printed yet
 abbrev pub begunText : count.Answer → List ℕ
 begunText (count.refused n) = endLine (bytesOf "refused ") n
 begunText (count.fits v c w) = []
@@ -72,7 +75,8 @@ abbrev pub shownOf : List ℕ → ℕ → List ℕ → Resumption → Shown
 shownOf input v instance call =
     let answer = call .outcome .answer in
     let read = instanceFor answer input (take v (call .outcome .values)) instance in
-    record { text = answerText answer input read; more = isFound answer; left = leftBy call; instance = read }
+    let lines = linesOf (reading input) (sheetOf input) read in
+    record { text = report answer lines; more = isFound answer; left = leftBy call; instance = read }
 
 -- of a call for the next over a list of clauses
 unfoldable pub shown : List ℕ → List ℤ → ℕ → Standing → ℕ → List ℕ → Shown

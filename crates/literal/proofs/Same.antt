@@ -5,7 +5,8 @@ use mathlib.Core.Logic.{⊎-elim}
 use lib.IntN.{ℤ}
 use borrow.Author.Tests.{eqb-true, eq-eqb}
 use Rattle.prelude.proofs.Laws.{decided}
-use Rattle.literal.specs.Literals.{Literal, positive, negative, opposite, isSame, wordOf, literalOf}
+use Rattle.literal.specs.Literals.{Literal, positive, negative, opposite, isSame, wordOf}
+use Rattle.literal.specs.Words.{literalOf}
 use Rattle.literal.proofs.Words.{word-literal}
 
 pub same-is : (k l : Literal) → isSame k l ≡ true → k ≡ l

@@ -7,8 +7,10 @@ use native.Mathlib.Omega.{arith}
 use lib.IntN.{ℤ, pos, negsuc, negℤ, natAbs}
 use borrow.Author.Tests.{lt-ltb, le-leb}
 use Rattle.prelude.proofs.Laws.{between-low, between-high, is-between}
-use Rattle.literal.specs.Literals.{Literal, positive, negative, wordOf, variable, literalOf}
-use Rattle.literal.specs.Literals.{isLiteral, lastVariable, oppositeWord, positiveWord, countOf}
+use Rattle.literal.specs.Literals.{Literal, positive, negative, wordOf}
+use Rattle.literal.specs.Words.{variable, literalOf}
+use Rattle.literal.specs.Literals.{isLiteral}
+use Rattle.literal.specs.Words.{lastVariable, oppositeWord, positiveWord, countOf}
 
 -- literals and their words
 pub word-variable : (l : Literal) → natAbs (wordOf l) ≡ variable l

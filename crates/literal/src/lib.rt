@@ -3,7 +3,8 @@
 ghost use mathlib.Core.Path.{_≡_};
 ghost use Prim.Native.Nat.{min, _-_, _≤_};
 ghost use lib.IntN.{pos, natAbs};
-ghost use Rattle.literal.specs.Literals.{isLiteral, isPositive, oppositeWord, positiveWord, countOf, lastVariable};
+ghost use Rattle.literal.specs.Literals.{isLiteral};
+ghost use Rattle.literal.specs.Words.{isPositive, oppositeWord, positiveWord, countOf, lastVariable};
 
 const LOWEST: i32 = -2147483648;
 

@@ -1,7 +1,7 @@
 -- Laws of the order of specs/Order.
 use mathlib.Core.Path.{_≡_, refl, sym, _∙_, ap}
 use mathlib.Core.Bool.{true}
-use mathlib.Core.List.{List, [], _∷_, map}
+use mathlib.Core.List.{List, [], _∷_, _++_, map}
 use mathlib.Core.Logic.{_⊎_, inl, inr, ⊎-elim}
 use Prim.Native.Nat.{ℕ, zero, suc, _<_}
 use native.Mathlib.Omega.{arith}
@@ -11,6 +11,12 @@ use borrow.Author.Tests.{leb-true}
 use Rattle.prelude.specs.Tests.{all}
 use Rattle.prelude.specs.Order.{Before, Each, Some, Pairs, Lists}
 use Rattle.prelude.proofs.Laws.{and-left, and-right}
+
+-- the order is strict and total on those that have a property
+pub record StrictTotalOrder (P : List ℕ → Type 0) : Type 0 where
+  pub irreflexive : (xs : List ℕ) → P xs → Before xs xs → ⊥
+  pub transitive : (xs ys zs : List ℕ) → P xs → P ys → P zs → Before xs ys → Before ys zs → Before xs zs
+  pub total : (xs ys : List ℕ) → P xs → P ys → (Before xs ys) ⊎ ((xs ≡ ys) ⊎ (Before ys xs))
 
 pub before-irreflexive : (xs : List ℕ) → Before xs xs → ⊥
 unfolding Before
@@ -86,6 +92,26 @@ module _ {A : Type 0} (P Q : A → Type 0) where
   unfolding Each
   each-map f [] h = tt
   each-map f (x ∷ xs) h = (f x (h .0), each-map f xs (h .1))
+
+-- one more at the end
+module _ {A : Type 0} where
+  pub each-more : (P : A → Type 0) (xs : List A) (x : A) → Each P xs → P x → Each P (xs ++ x ∷ [])
+  unfolding Each
+  each-more P [] x h k = (k, tt)
+  each-more P (y ∷ xs) x h k = (h .0, each-more P xs x (h .1) k)
+
+  pub some-more : (P : A → Type 0) (xs : List A) (x : A) → (Some P xs) ⊎ (P x) → Some P (xs ++ x ∷ [])
+  unfolding Some
+  some-more P [] x (inl h) = absurd h
+  some-more P [] x (inr k) = inl k
+  some-more P (y ∷ xs) x (inl h) = ⊎-elim inl (λ d. inr (some-more P xs x (inl d))) h
+  some-more P (y ∷ xs) x (inr k) = inr (some-more P xs x (inr k))
+
+  pub pairs-more : (R : A → A → Type 0) (xs : List A) (x : A) → Pairs R xs → Each (λ y. R y x) xs
+      → Pairs R (xs ++ x ∷ [])
+  unfolding Pairs Each
+  pairs-more R [] x h k = (tt, tt)
+  pairs-more R (y ∷ xs) x h k = (each-more (R y) xs x (h .0) (k .0), pairs-more R xs x (h .1) (k .1))
 
 -- what ascends is different
 pub ascending-different : (xs : List (List ℕ)) → Pairs Before xs → Pairs (λ x y. x ≡ y → ⊥) xs

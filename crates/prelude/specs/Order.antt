@@ -15,12 +15,6 @@ Before (x ∷ xs) (y ∷ ys) = ((x ≡ 0) × (y ≡ 1)) ⊎ ((x ≡ y) × Before
 abbrev pub NoneBefore : (List ℕ → Type 0) → List ℕ → Type 0
 NoneBefore P xs = (other : List ℕ) → P other → Before other xs → ⊥
 
--- the order is strict and total on those that have a property
-pub record StrictTotalOrder (P : List ℕ → Type 0) : Type 0 where
-  pub irreflexive : (xs : List ℕ) → P xs → Before xs xs → ⊥
-  pub transitive : (xs ys zs : List ℕ) → P xs → P ys → P zs → Before xs ys → Before ys zs → Before xs zs
-  pub total : (xs ys : List ℕ) → P xs → P ys → (Before xs ys) ⊎ ((xs ≡ ys) ⊎ (Before ys xs))
-
 -- a property of each of a list, and of one of it
 unfoldable pub Each : {A : Type 0} → (A → Type 0) → List A → Type 0
 Each P [] = Unit {0}

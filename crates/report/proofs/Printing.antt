@@ -16,7 +16,7 @@ use Rattle.search.specs.Answers.{Answer, found, stepsIn}
 use Rattle.solve_rules.specs.Finding.{Slices, finding}
 use Rattle.solve_rules.specs.Demand3.{FitsLimits}
 use Rattle.solve_rules.proofs.Findings.{found-fits, found-few}
-use Rattle.report.specs.Printed.{report, findingText, slicesAfter}
+use Rattle.report.specs.Printed.{instanceLines, report, findingText, slicesAfter}
 use Rattle.report.specs.Tells.{Tells}
 use Rattle.report.proofs.Tells.{printed-tells}
 use Rattle.report.proofs.Texts.{long-text, long-slices, short-text, short-slices}
@@ -48,8 +48,9 @@ module _ (budget : ℕ) (input : List ℕ) (lent : Slices) {before after : List 
   -- an input that is parsed, and what was found in the lent slices
   pub short-input : {a : Answer} {left : Slices} → length input ≤ 4096
       → a ≡ finding input lent budget .answer → left ≡ finding input lent budget .left
-      → Put before 0 (report a (sheetOf input) (left .instance)) after end → end ≤ length before
+      → Put before 0 (report a (instanceLines (sheetOf input) (left .instance))) after end → end ≤ length before
       → Ensured budget input lent left before after end
   short-input h a e p l =
-      ensured (put-as ((λ i. report (a i) (sheetOf input) (e i .instance)) ∙ sym (short-text budget input lent h)) p) l
+      ensured (put-as ((λ i. report (a i) (instanceLines (sheetOf input) (e i .instance)))
+      ∙ sym (short-text budget input lent h)) p) l
       (e ∙ sym (short-slices budget input lent h))

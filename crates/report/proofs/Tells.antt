@@ -21,7 +21,7 @@ use Rattle.search_rules.specs.declared.Steps.{Steps}
 use Rattle.search_rules.specs.Run.{total}
 use Rattle.search.specs.Answers.{Answer, found, none, spent, refused}
 use Rattle.solve_rules.specs.Finding.{Slices, finding}
-use Rattle.solve_rules.specs.Finds.{Holds, Finds}
+use Rattle.solve_rules.specs.Finds.{LeavesSmallest, Finds}
 use Rattle.solve_rules.proofs.Finds.{finds}
 use Rattle.report.specs.Printed.{cellDigit, rowDigits, relationLine, relationLines, memberDigits, memberLine}
 use Rattle.report.specs.Printed.{memberLines, instanceLines, report, findingText}
@@ -78,7 +78,8 @@ module _ (sheet : Sheet) (instance rest : List ℕ) (e : length instance ≡ cel
   pub lines-of : instanceLines sheet (instance ++ rest) ≡ instanceLines sheet instance
   lines-of = ap₂ (λ (xs ys : List ℕ). xs ++ ys) sorts-of relations-of
 
-shows : (sheet : Sheet) (lent left : List ℕ) (steps : Steps) → Holds sheet lent left → ShowsSmallest sheet (report (found steps) sheet left)
+shows : (sheet : Sheet) (lent left : List ℕ) (steps : Steps) → LeavesSmallest sheet lent left
+    → ShowsSmallest sheet (report (found steps) (instanceLines sheet left))
 shows sheet lent left steps h =
     record {
       steps = total steps;
@@ -100,7 +101,8 @@ silent : {input text : List ℕ} → (110 ≡ first text → ⊥) → (102 ≡ f
 silent n f = record { none-only = λ s. absurd (n (ap first (s .parts))); found-only = λ s. absurd (f (ap first (s .parts))) }
 
 module _ (budget : ℕ) (input : List ℕ) (lent : Slices) where
-  told : (a : Answer) (left : Slices) → Finds input lent budget a left → Tells input (report a (sheetOf input) (left .instance))
+  told : (a : Answer) (left : Slices) → Finds input lent budget a left
+      → Tells input (report a (instanceLines (sheetOf input) (left .instance)))
   told (found n) left f = record {
     none-only = λ s. absurd (omega (arith, ap first (s .parts)));
     found-only = λ s. shows (sheetOf input) (lent .instance) (left .instance) n (f .found-only n refl);

@@ -7,16 +7,17 @@ use borrow.Author.Tests.{le-leb, lt-leb}
 use Rattle.text.specs.Texts.{bytesOf, endLine}
 use Rattle.sheet_rules.specs.Blocks.{sheetOf}
 use Rattle.sheet_rules.specs.Reading as sheets
+use Rattle.sheet_rules.specs.Reading.{reading}
 use Rattle.search_rules.specs.declared.Steps.{Steps}
 use Rattle.search_rules.specs.Run.{total}
 use Rattle.search.specs.Answers.{Answer, found, none, spent, refused}
 use Rattle.solve_rules.specs.Finding.{Slices, Finding, finding}
 use Rattle.solve_rules.specs.Demand3.{FitsLimits}
-use Rattle.report.specs.Printed.{linesOf, report, answerText, findingText, slicesAfter}
+use Rattle.report.specs.Printed.{instanceLines, linesOf, report, findingText, slicesAfter}
 
--- of an accepted sheet it is the report
+-- an accepted sheet has the lines
 pub as-report : (a : Answer) (input instance : List ℕ) → ((steps : Steps) → a ≡ found steps → FitsLimits input)
-    → answerText a input instance ≡ report a (sheetOf input) instance
+    → report a (linesOf (reading input) (sheetOf input) instance) ≡ report a (instanceLines (sheetOf input) instance)
 as-report (found steps) input instance h =
     ap (λ (r : sheets.Answer). endLine (bytesOf "found ") (total steps) ++ linesOf r (sheetOf input) instance) (h steps refl .accepted)
 as-report (none steps) input instance h = refl
@@ -35,7 +36,8 @@ module _ (budget : ℕ) (input : List ℕ) (lent : Slices) where
   abbrev ended : Finding
   ended = finding input lent budget
 
-  pub short-text : length input ≤ 4096 → findingText budget input lent ≡ report (ended .answer) (sheetOf input) (ended .left .instance)
+  pub short-text : length input ≤ 4096 → findingText budget input lent
+      ≡ report (ended .answer) (instanceLines (sheetOf input) (ended .left .instance))
   unfolding findingText
   short-text h = rw (le-leb (length input) 4096 h)
 

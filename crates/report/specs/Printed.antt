@@ -7,7 +7,6 @@ use lib.ListN.{length}
 use Rattle.text.specs.Texts.{bytesOf, digit, decimal, endLine}
 use Rattle.sheet_rules.specs.Blocks.{Sheet, sheetOf, byte, sortCount, scope, isBounded, relationCount}
 use Rattle.sheet_rules.specs.Reading as sheets
-use Rattle.sheet_rules.specs.Reading.{reading}
 use Rattle.relational.specs.Cells.{memberCell, rowCount, rowLength, cell}
 use Rattle.clauses_rules.specs.Whole.{series}
 use Rattle.search_rules.specs.Run.{total}
@@ -25,7 +24,8 @@ module _ (sheet : Sheet) (instance : List ℕ) where
 
   -- "`r`, its number, then its rows as digits, separated by single spaces"
   abbrev pub relationLine : ℕ → List ℕ
-  relationLine r = bytesOf "r" ++ (decimal r ++ (series (rowCount sheet r) (λ i. bytesOf " " ++ rowDigits r i) ++ bytesOf "\n"))
+  relationLine r = bytesOf "r" ++ (decimal r ++
+      (series (rowCount sheet r) (λ i. bytesOf " " ++ rowDigits r i) ++ bytesOf "\n"))
 
   -- "a line for each relation"
   unfoldable pub relationLines : List ℕ
@@ -45,35 +45,31 @@ module _ (sheet : Sheet) (instance : List ℕ) where
   abbrev pub instanceLines : List ℕ
   instanceLines = memberLines ++ relationLines
 
--- "It prints `found N`, `none N` or `spent N` (N steps), or `refused N`. After found comes a line for each relation"; "the finder prints their
--- sum, the old step figure" (document 02, Change 3)
-abbrev pub report : Answer → Sheet → List ℕ → List ℕ
-report (found steps) sheet instance = endLine (bytesOf "found ") (total steps) ++ instanceLines sheet instance
-report (none steps) sheet instance = endLine (bytesOf "none ") (total steps)
-report (spent steps) sheet instance = endLine (bytesOf "spent ") (total steps)
-report (refused n) sheet instance = endLine (bytesOf "refused ") n
+-- "It prints `found N`, `none N` or `spent N` (N steps), or `refused N`. After found comes a line for each relation";
+-- "the finder prints their sum, the old step figure" (document 02, Change 3)
+abbrev pub report : Answer → List ℕ → List ℕ
+report (found steps) lines = endLine (bytesOf "found ") (total steps) ++ lines
+report (none steps) lines = endLine (bytesOf "none ") (total steps)
+report (spent steps) lines = endLine (bytesOf "spent ") (total steps)
+report (refused n) lines = endLine (bytesOf "refused ") n
 
--- the same of any input: it has lines of an instance where it is an accepted sheet (one that is answered "found" is)
+-- any input has lines of an instance where it is an accepted sheet (one that is answered "found" is)
 abbrev pub linesOf : sheets.Answer → Sheet → List ℕ → List ℕ
 linesOf (sheets.accepted layout) sheet instance = instanceLines sheet instance
 linesOf (sheets.refused n) sheet instance = []
-
-abbrev pub answerText : Answer → List ℕ → List ℕ → List ℕ
-answerText (found steps) input instance = endLine (bytesOf "found ") (total steps) ++ linesOf (reading input) (sheetOf input) instance
-answerText (none steps) input instance = report (none steps) (sheetOf input) instance
-answerText (spent steps) input instance = report (spent steps) (sheetOf input) instance
-answerText (refused n) input instance = report (refused n) (sheetOf input) instance
 
 -- "a budget of 1,000,000"
 abbrev pub finderBudget : ℕ
 finderBudget = 1000000
 
--- what is printed of a finding within a budget: "An input over 4,096 bytes is printed as `refused 2` unparsed." The case printed is the smallest
--- (document 02, Change 5): `Tells` says so of this text, and every function that prints it ensures `Tells`.
+-- what is printed of a finding within a budget: "An input over 4,096 bytes is printed as `refused 2` unparsed." The
+-- case printed is the smallest (document 02, Change 5): `Tells` says so of this text, and every function that prints it
+-- ensures `Tells`.
 unfoldable pub findingText : ℕ → List ℕ → Slices → List ℕ
 findingText budget input lent =
     let f = finding input lent budget in
-    cond (leb (length input) 4096) (report (f .answer) (sheetOf input) (f .left .instance)) (endLine (bytesOf "refused ") 2)
+    cond (leb (length input) 4096) (report (f .answer) (instanceLines (sheetOf input) (f .left .instance)))
+    (endLine (bytesOf "refused ") 2)
 
 -- the slices that are left
 unfoldable pub slicesAfter : ℕ → List ℕ → Slices → Slices

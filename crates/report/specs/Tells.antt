@@ -1,12 +1,12 @@
--- What a printed text tells of the instances of the sheet that was read: demand 3, and the smallest case of document 02, Change 5, from the
--- printed word on.
+-- What a printed text tells of the instances of the sheet that was read: demand 3, and the smallest case of document
+-- 02, Change 5, from the printed word on.
 use mathlib.Core.Path.{_≡_}
 use mathlib.Core.List.{List, _++_}
 use Prim.Native.Nat.{ℕ}
 use Prim.Native.String.{String}
 use Rattle.text.specs.Texts.{bytesOf, endLine}
 use Rattle.sheet_rules.specs.Blocks.{Sheet, sheetOf}
-use Rattle.clauses_rules.specs.Matching.{Solution}
+use Rattle.relational.specs.Meaning.{Solution}
 use Rattle.solve_rules.specs.Smallest.{Smallest}
 use Rattle.report.specs.Printed.{instanceLines}
 
@@ -15,8 +15,8 @@ pub record StartsWith (word : String) (text : List ℕ) : Type 0 where
   pub rest : List ℕ
   pub parts : bytesOf word ++ rest ≡ text
 
--- the text is the line `found N` and the digits of an instance within the scopes that satisfies marks and formula. "Whenever the finder prints
--- a case, no instance that satisfies marks and formula comes earlier in that order."
+-- the text is the line `found N` and the digits of an instance within the scopes that satisfies marks and formula.
+-- "Whenever the finder prints a case, no instance that satisfies marks and formula comes earlier in that order."
 pub record ShowsSmallest (sheet : Sheet) (text : List ℕ) : Type 0 where
   pub steps : ℕ
   pub instance : List ℕ

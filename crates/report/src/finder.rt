@@ -6,13 +6,14 @@ ghost use lib.ListN.{length, take};
 ghost use Rattle.text.specs.Texts.{Prints};
 ghost use Rattle.text.specs.Puts.{Put};
 ghost use Rattle.sheet_rules.specs.Blocks.{sheetOf};
+ghost use Rattle.sheet_rules.specs.Reading.{reading};
 ghost use Rattle.search_rules.specs.declared.Steps.{Steps};
 ghost use Rattle.search_rules.specs.Run.{total};
 ghost use Rattle.search_rules.specs.Held.{stepLimit};
 ghost use Rattle.search.specs.Answers.{found, answerOf, stepsIn};
 ghost use Rattle.solve_rules.specs.Finding.{slices};
 ghost use Rattle.solve_rules.specs.Demand3.{FitsLimits};
-ghost use Rattle.report.specs.Printed.{report, answerText, finderBudget, findingText, slicesAfter};
+ghost use Rattle.report.specs.Printed.{instanceLines, report, linesOf, finderBudget, findingText, slicesAfter};
 ghost use Rattle.report.specs.Tells.{Tells};
 use super::lines::put_lines;
 use cells::MOST_CELLS;
@@ -33,7 +34,8 @@ pub fn step_figure(steps: Steps) -> u64
 fn put_found(text: &mut [u8], input: &[u8], steps: Steps, instance: &[u8]) -> usize
     requires { ⌜ 2048 ≤ length (now text) ⌝ }
     requires { ⌜ total steps ≤ stepLimit ⌝ }
-    ensures { λ r. ⌜ Put (now (text .entry)) 0 (answerText (found steps) (now (input .entry)) (now (instance .entry)))
+    ensures { λ r. ⌜ Put (now (text .entry)) 0 (report (found steps)
+        (linesOf (reading (now (input .entry))) (sheetOf (now (input .entry))) (now (instance .entry))))
         (now (text .exit)) r ⌝ }
     ensures { λ r. ⌜ r ≤ 2048 ⌝ }
 {
@@ -50,7 +52,8 @@ fn put_found(text: &mut [u8], input: &[u8], steps: Steps, instance: &[u8]) -> us
 pub fn put_answer(text: &mut [u8], input: &[u8], ended: Search, instance: &[u8]) -> usize
     requires { ⌜ 2048 ≤ length (now text) ⌝ }
     requires { ⌜ ((steps : Steps) → stepsIn (answerOf ended) ≡ some steps → total steps ≤ stepLimit) ⌝ }
-    ensures { λ r. ⌜ Put (now (text .entry)) 0 (answerText (answerOf ended) (now (input .entry)) (now (instance .entry)))
+    ensures { λ r. ⌜ Put (now (text .entry)) 0 (report (answerOf ended)
+        (linesOf (reading (now (input .entry))) (sheetOf (now (input .entry))) (now (instance .entry))))
         (now (text .exit)) r ⌝ }
     ensures { λ r. ⌜ r ≤ 2048 ⌝ }
 {
@@ -67,7 +70,8 @@ pub fn put_report(text: &mut [u8], input: &[u8], ended: Search, instance: &[u8])
     requires { ⌜ 2048 ≤ length (now text) ⌝ }
     requires { ⌜ ((steps : Steps) → answerOf ended ≡ found steps → FitsLimits (now input)) ⌝ }
     requires { ⌜ ((steps : Steps) → stepsIn (answerOf ended) ≡ some steps → total steps ≤ stepLimit) ⌝ }
-    ensures { λ r. ⌜ Put (now (text .entry)) 0 (report (answerOf ended) (sheetOf (now (input .entry))) (now (instance .entry)))
+    ensures { λ r. ⌜ Put (now (text .entry)) 0
+        (report (answerOf ended) (instanceLines (sheetOf (now (input .entry))) (now (instance .entry))))
         (now (text .exit)) r ⌝ }
     ensures { λ r. ⌜ r ≤ 2048 ⌝ }
 {

@@ -3,6 +3,7 @@ use mathlib.Core.Path.{_≡_, refl}
 use mathlib.Core.List.{List, [], _∷_, map}
 use Prim.Native.Nat.{ℕ}
 use lib.IntN.{ℤ, pos, negsuc}
+use lib.ListN.{take}
 use Rattle.prelude.specs.Tests.{all, any}
 use Rattle.clause_list.specs.ClauseList.{cut, wellCut, isList}
 use Rattle.clause_list.specs.Marked.{k1, k2}
@@ -55,3 +56,9 @@ pub cases : map (λ row. outcome (row .list) (row .v) lentValues lentTrail (row 
 unfolding truthOf negated literal isFalsified isSatisfied conflict openOf sameLiteral only unitOf firstUnit lowestOpen wordOf byteOf placeOf
     valuesOf trailOf turn decide next count run answerAt valuesAt trailAt outcome all any cut wellCut isList
 cases = refl
+
+-- 13: values, then the trail, of 3 where 4 are needed, the other of 5
+pub short-slices : (outcome k1 4 (take 3 lentValues) lentTrail 9 .answer ≡ refused 13)
+    × (outcome k1 4 lentValues (take 3 lentTrail) 9 .answer ≡ refused 13)
+unfolding outcome all any cut wellCut isList
+short-slices = (refl, refl)

@@ -44,8 +44,9 @@ module _ (list : List ℤ) (v : ℕ) (values : List ℕ) (trail : List ℤ) wher
   chain-first n r steps opened emptied few chain e =
       let as-one : outcome list v values trail n ≡ r .outcome =
       sym
-      (ap (λ x. x .outcome) (same-as-one list v values trail start n r chain (none-done n few))
-      ∙ fresh-start list v values trail n opened emptied few) in
+      (ap (λ x. x .outcome)
+      (same-as-one list v values trail start n r chain (none-done n few)
+      ∙ fresh-start list v values trail n opened emptied few)) in
       subst Left as-one (once-first n steps (ap (λ o. o .answer) as-one ∙ e))
 
 pub found-first : FoundFirst

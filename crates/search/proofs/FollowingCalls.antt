@@ -41,7 +41,7 @@ module _ (list : List ℤ) (v : ℕ) (state : State) where
   not-found (inl o) e = found-ended (clausesOf list) v state e .1 (o .0) (let h = o .1 in omega (arith, length-values v state)) (o .2)
   not-found (inr c) e = clash _ c (found-ended (clausesOf list) v state e .0)
 
-  is-found : isList v list ≡ true → (OpenOrFalse list v here → ⊥) → next (clausesOf list) v state ≡ endFound
+  pub is-found : isList v list ≡ true → (OpenOrFalse list v here → ⊥) → next (clausesOf list) v state ≡ endFound
   is-found is h =
       full-found (clausesOf list) v (ranged v list (fine-list v list is)) state
       (λ i l e. h (inl (i, (omega (arith, length-values v state)), e))) (bool-false (conflict here (clausesOf list)) (λ c. h (inr c)))

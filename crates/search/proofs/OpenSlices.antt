@@ -76,4 +76,5 @@ module _ (list : List ℤ) (v : ℕ) (values : List ℕ) (trail : List ℤ) (is 
 
   pub from-open : (n : ℕ) → n ≤ stepLimit
       → resumption list v (first .values) (first .trail) start n .outcome ≡ outcome list v values trail n
-  from-open n few = fresh-start list v (first .values) (first .trail) n values-open trail-open few ∙ over-open n
+  from-open n few = ap (λ r. r .outcome) (fresh-start list v (first .values)
+      (first .trail) n values-open trail-open few) ∙ over-open n

@@ -15,7 +15,7 @@ use Rattle.search_rules.specs.Rules.{State, valuesOf, Next, endNone, endFound, 
 use Rattle.search_rules.specs.declared.Steps.{Steps}
 use Rattle.search_rules.specs.Run.{total, count, End, wasNone, wasFound, wasSpent, run}
 use Rattle.search_rules.specs.Held.{stepsOf, positionOf}
-use Rattle.search_rules.specs.Counting.{stepsAt}
+use Rattle.search_rules.specs.Inner.{stepsAt}
 use Rattle.search_rules.specs.Following.{firstStep, followingRun}
 use Rattle.search_rules.proofs.Invariant.{length-values}
 use Rattle.search_rules.proofs.StepView.{total-count, Ends, run-ends}

@@ -1,9 +1,10 @@
 -- A record of zeros over open slices is a fresh start; a chain of calls of one kind, resumed or for the next, comes to one.
-use mathlib.Core.Path.{_≡_, refl, sym, _∙_, ap}
+use mathlib.Core.Path.{_≡_, refl, sym, _∙_, ap, subst}
 use mathlib.Core.Bool.{Bool, true, false}
 use mathlib.Core.List.{List, []}
 use Prim.Native.Nat.{ℕ, _+_, _≤_}
 use native.Mathlib.Omega.{arith}
+use native.Mathlib.Nat.{zero-add}
 use lib.Dec.{leb}
 use lib.IntN.{ℤ}
 use lib.ListN.{length, take}
@@ -12,19 +13,22 @@ use Rattle.clause_list.specs.ClauseList.{clausesOf, isList}
 use Rattle.search_rules.specs.declared.Steps.{Steps}
 use Rattle.search_rules.specs.declared.Position.{Position}
 use Rattle.search_rules.specs.Rules.{State, valuesOf, trailOf}
-use Rattle.search_rules.specs.Run.{total, End, wasSpent}
+use Rattle.search_rules.specs.Run.{zeros, total, End, wasSpent, run}
 use Rattle.search_rules.specs.Held.{stepsOf, stepLimit, stateIn, WasOpen, Stored}
 use Rattle.search_rules.proofs.Ranges.{fine-list, ranged}
 use Rattle.search_rules.proofs.StateHeld.{stored-passes}
 use Rattle.search_rules.proofs.Theorems.{spent-state, again, resume}
 use Rattle.search_rules.proofs.Again.{spent-open}
 use Rattle.search_rules.proofs.Following.{following-open, following-counted, following-again}
-use Rattle.search.specs.Answers.{spent, answerAt, valuesAt, trailAt, outcome, finish, searchRun}
+use Rattle.search.specs.Answers.{spent, answerAt, valuesAt, trailAt, outcome, searchRun}
 use Rattle.search.specs.Resumed.{Resumption, finishAt, startOf, Running, takenUp, resumedRun, resumption}
-use Rattle.search.specs.Resuming.{start, FreshStart, last, spends, ComesToOne, SameAsOne}
+use Rattle.search.specs.Resuming.{start, recordOf, withRecord, FreshStart, SearchResumed, last, spends}
+use Rattle.search.specs.Resuming.{ComesToOne, SameAsOne}
 use Rattle.search.specs.Following.{followedRun, following}
 use Rattle.search.proofs.Outcomes as searched
 use Rattle.search.proofs.Outcomes.{was-spent}
+use Rattle.search.proofs.Theorems as search
+use Rattle.search.proofs.Records.{EndOpen, end-recorded, search-open}
 use Rattle.search.proofs.Resumptions as resumed
 use Rattle.search.proofs.ResumedCalls.{Runs, answered, held}
 use Rattle.search.proofs.LeftStates.{stored, takes-left}
@@ -41,31 +45,75 @@ module _ (list : List ℤ) (v : ℕ) (values : List ℕ) (trail : List ℤ) (bud
   unfolding WasOpen
   empty = stored v [] tt values trail vs ts
 
-  ends-alike : finishAt v values trail (resumedRun list v (stepsOf start) (startOf v values trail start) budget) .outcome
-      ≡ finish v values trail (searchRun list v budget)
+  ends-alike : finishAt v values trail (resumedRun list v (stepsOf start) (startOf v values trail start) budget)
+      ≡ finishAt v values trail (searchRun list v budget)
   unfolding stateIn
   ends-alike = refl
 
   by-tests : (a b c : Bool) → isList v list ≡ a → leb v (length values) ≡ b → leb v (length trail) ≡ c
-      → resumption list v values trail start budget .outcome ≡ outcome list v values trail budget
+      → resumption list v values trail start budget ≡ withRecord v (outcome list v values trail budget)
   by-tests false b c d e f =
-      ap (λ o. o .outcome) (resumed.no-list (resumedRun list v) list v values trail start budget d)
-      ∙ sym (searched.no-list list v values trail budget d)
+      resumed.no-list (resumedRun list v) list v values trail start budget d
+      ∙ ap (withRecord v) (sym (searched.no-list list v values trail budget d))
   by-tests true false c d e f =
-      ap (λ o. o .outcome) (resumed.short-values (resumedRun list v) list v values trail start budget d (leb-false _ _ e))
-      ∙ sym (searched.short-values list v values trail budget d (leb-false _ _ e))
+      resumed.short-values (resumedRun list v) list v values trail start budget d (leb-false _ _ e)
+      ∙ ap (withRecord v) (sym (searched.short-values list v values trail budget d (leb-false _ _ e)))
   by-tests true true false d e f =
-      ap (λ o. o .outcome) (resumed.short-trail (resumedRun list v) list v values trail start budget d (leb-false _ _ f))
-      ∙ sym (searched.short-trail list v values trail budget d (leb-false _ _ f))
+      resumed.short-trail (resumedRun list v) list v values trail start budget d (leb-false _ _ f)
+      ∙ ap (withRecord v) (sym (searched.short-trail list v values trail budget d (leb-false _ _ f)))
   by-tests true true true d e f =
-      ap (λ o. o .outcome) (resumed.runs (resumedRun list v) list v values trail start budget d (leb-true _ _ e) (leb-true _ _ f)
-      (stored-passes v [] _ _ 0 empty) (none-done budget few))
+      resumed.runs (resumedRun list v) list v values trail start budget d (leb-true _ _ e) (leb-true _ _ f)
+      (stored-passes v [] _ _ 0 empty) (none-done budget few)
       ∙ ends-alike
-      ∙ sym (searched.runs list v values trail budget d (leb-true _ _ e) (leb-true _ _ f))
+      ∙ sym (end-recorded v trail values (searchRun list v budget) (search-open list v budget d))
+      ∙ ap (withRecord v) (sym (searched.runs list v values trail budget d (leb-true _ _ e) (leb-true _ _ f)))
 
 pub fresh-start : FreshStart
 fresh-start list v values trail budget vs ts few =
     by-tests list v values trail budget vs ts few (isList v list) (leb v (length values)) (leb v (length trail)) refl refl refl
+
+-- a search that `search` began
+module _ (list : List ℤ) (v : ℕ) (values : List ℕ) (trail : List ℤ) (m n : ℕ) (steps : Steps)
+    (spends : outcome list v values trail m .answer ≡ spent steps) (few : m + n ≤ stepLimit) where
+  begun : search.Runs list v values trail m × (answerAt (searchRun list v m) ≡ spent steps)
+  begun = search.answered list v values trail m (spent steps)
+      (λ k d. let z : _≡_ {A = ℕ} 0 1 = cc in omega arith) spends
+
+  spent-at : (s : State) × (searchRun list v m ≡ wasSpent steps s)
+  spent-at = was-spent (searchRun list v m) steps (begun .1)
+
+  opened-there : WasOpen v (spent-at .0)
+  unfolding EndOpen
+  opened-there = subst (EndOpen v) (spent-at .1) (search-open list v m (begun .0 .is-list))
+
+  recorded : withRecord v (outcome list v values trail m) ≡ finishAt v values trail (wasSpent steps (spent-at .0))
+  recorded =
+      ap (withRecord v) (begun .0 .ends)
+      ∙ end-recorded v trail values (searchRun list v m) (search-open list v m (begun .0 .is-list))
+      ∙ ap (finishAt v values trail) (spent-at .1)
+
+  all-counted : total steps ≡ m
+  unfolding total
+  all-counted = spent-state (clausesOf list) v m zeros steps [] (spent-at .0) (spent-at .1) .1 ∙ zero-add m
+
+  goes-further : run (clausesOf list) v n steps (spent-at .0) ≡ searchRun list v (m + n)
+  unfolding again
+  goes-further = sym (resume (clausesOf list) v m n zeros [] ∙ ap (again (clausesOf list) v n) (spent-at .1))
+
+  begun-resumed : let o = outcome list v values trail m in
+      resumption list v (o .values) (o .trail) (recordOf v o) n ≡ withRecord v (outcome list v values trail (m + n))
+  unfolding valuesAt trailAt
+  begun-resumed =
+      ap (λ r. resumption list v (r .outcome .values) (r .outcome .trail) (r .position) n) recorded
+      ∙ takes-left (resumedRun list v) list v values trail steps (spent-at .0) n (begun .0 .is-list) opened-there
+      (omega (arith, all-counted))
+      ∙ ap (finishAt v values trail) goes-further
+      ∙ sym (end-recorded v trail values (searchRun list v (m + n)) (search-open list v (m + n) (begun .0 .is-list)))
+      ∙ ap (withRecord v) (sym (searched.runs list v values trail (m + n) (begun .0 .is-list) (begun .0 .wide)
+      (begun .0 .deep)))
+
+pub search-resumed : SearchResumed
+search-resumed = begun-resumed
 
 -- a run that is spent and goes on from there is one run
 pub record GoesOn (list : List ℤ) (v : ℕ) (running : Running) : Type 0 where

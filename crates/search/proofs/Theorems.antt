@@ -31,6 +31,8 @@ module _ (list : List ℤ) (v : ℕ) (values : List ℕ) (trail : List ℤ) (bud
   -- a call is refused, or runs the rules
   pub record Runs : Type 0 where
     pub is-list : isList v list ≡ true
+    pub wide : v ≤ length values
+    pub deep : v ≤ length trail
     pub ends : call ≡ finish v values trail (searchRun list v budget)
 
   abbrev Called : Type 0
@@ -43,10 +45,14 @@ module _ (list : List ℤ) (v : ℕ) (values : List ℕ) (trail : List ℤ) (bud
       by false h k d e f = inl (12, no-list list v values trail budget d)
       by true false k d e f = inl (13, short-values list v values trail budget d (leb-false _ _ e))
       by true true false d e f = inl (13, short-trail list v values trail budget d (leb-false _ _ f))
-      by true true true d e f = inr (record { is-list = d; ends = runs list v values trail budget d (leb-true _ _ e) (leb-true _ _ f) })
+      by true true true d e f =
+          let w = leb-true _ _ e in
+          let k = leb-true _ _ f in
+          inr (record { is-list = d; wide = w; deep = k; ends = runs list v values trail budget d w k })
 
   -- an answer that is no refusal is that of the run
-  answered : (a : Answer) → ((n : ℕ) → refused n ≡ a → ⊥) → call .answer ≡ a → Runs × (answerAt (searchRun list v budget) ≡ a)
+  pub answered : (a : Answer) → ((n : ℕ) → refused n ≡ a → ⊥) → call .answer ≡ a
+      → Runs × (answerAt (searchRun list v budget) ≡ a)
   answered a h e =
       ⊎-elim (λ c. absurd (h (c .0) (sym (ap (λ o. o .answer) (c .1)) ∙ e)))
       (λ r. (r, sym (ap (λ o. o .answer) (r .ends)) ∙ e)) called

@@ -1,5 +1,5 @@
--- What a call of `search` answers, and what it leaves in the lent slices (document 01, "Search" and "Answers that decline"; document 02,
--- Changes 3 and 6).
+-- What a call of `search` answers, and what it leaves in the lent slices (document 01, "Search" and "Answers that
+-- decline"; document 02, Changes 3 and 6).
 use mathlib.Core.Bool.{cond, _&&_}
 use mathlib.Core.List.{List, [], _++_}
 use mathlib.Core.Option.{Option, none as Option·none, some}
@@ -15,8 +15,8 @@ use Rattle.search_rules.specs.declared.Steps.{Steps}
 use Rattle.search_rules.specs.Rules.{valuesOf, trailOf}
 use Rattle.search_rules.specs.Run.{zeros, End, wasNone, wasFound, wasSpent, run}
 
--- the paper's answers: "found", "none" or "spent" with the steps done, or a number. "The search answer and the lent record of Change 1 show
--- forces, choices and turns, each by itself"
+-- the paper's answers: "found", "none" or "spent" with the steps done, or a number. "The search answer and the lent
+-- record of Change 1 show forces, choices and turns, each by itself"
 pub data Answer : Type 0 where
   found none spent : Steps → Answer
   refused : ℕ → Answer
@@ -41,7 +41,8 @@ answerAt (wasNone t) = none t
 answerAt (wasFound t state) = found t
 answerAt (wasSpent t state) = spent t
 
--- ""none", with values all 2 and trail all 0"; ""found" keeps its 3s in the lent values" (document 02, Change 6); "spent", where "the state stays"
+-- ""none", with values all 2 and trail all 0"; ""found" keeps its 3s in the lent values" (document 02, Change 6);
+-- "spent", where "the state stays"
 unfoldable pub valuesAt : ℕ → End → List ℕ
 valuesAt v (wasNone t) = valuesOf v []
 valuesAt v (wasFound t state) = valuesOf v state
@@ -75,5 +76,6 @@ searchRun list v budget = run (clausesOf list) v budget zeros []
 unfoldable pub outcome : List ℤ → ℕ → List ℕ → List ℤ → ℕ → Outcome
 outcome list v values trail budget =
     cond (isList v list)
-    (cond (leb v (length values) && leb v (length trail)) (finish v values trail (searchRun list v budget)) (refuse 13 values trail))
+    (cond (leb v (length values) && leb v (length trail)) (finish v values trail (searchRun list v budget))
+    (refuse 13 values trail))
     (refuse 12 values trail)

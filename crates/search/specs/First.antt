@@ -1,5 +1,5 @@
--- What is promised of "found" over any clause list (document 02, Change 5): the values that are left, with 3 taken as 0, are the first satisfying
--- assignment in variable order, 0 before 1.
+-- What is promised of "found" over any clause list (document 02, Change 5): the values that are left, with 3 taken as
+-- 0, are the first satisfying assignment in variable order, 0 before 1.
 use mathlib.Core.Path.{_≡_}
 use mathlib.Core.List.{List, [], map}
 use mathlib.Core.Option.{some}
@@ -37,6 +37,7 @@ pub record FoundFirst : Type 0 where
       → First v (clausesOf list) (bitsOf v (resumption list v values trail p budget .outcome .values))
   -- of calls one after the other from a fresh start on, each but the last spent, n steps allowed in all
   pub chained : (list : List ℤ) (v : ℕ) (values : List ℕ) (trail : List ℤ) (n : ℕ) (r : Resumption) (steps : Steps)
-      → take v values ≡ valuesOf v [] → take v trail ≡ trailOf v [] → n ≤ stepLimit → Chain (resumption list v) values trail start n r
+      → take v values ≡ valuesOf v [] → take v trail ≡ trailOf v [] → n ≤ stepLimit
+      → Chain (resumption list v) values trail start n r
       → r .outcome .answer ≡ found steps
       → First v (clausesOf list) (bitsOf v (r .outcome .values))

@@ -32,10 +32,12 @@ OpenOrFalse list v values = ((i : ℕ) × (i < v) × (getD values i 2 ≡ 2)) �
 
 -- the rule in the paper's words, for any list and state
 pub record FirstStep (list : List ℤ) (v : ℕ) (state : State) : Type 0 where
-  -- "it turns the latest choice .. or ends with "none" where no choice is left", where every variable is set and no clause is false
+  -- "it turns the latest choice .. or ends with "none" where no choice is left", where every variable is set and no
+  -- clause is false
   pub clashes : (OpenOrFalse list v (valuesOf v state) → ⊥) → firstStep (clausesOf list) v state ≡ turn state
   -- "On a state with an open variable or a false clause it acts as the resumed call."
-  pub resumes : OpenOrFalse list v (valuesOf v state) → firstStep (clausesOf list) v state ≡ next (clausesOf list) v state
+  pub resumes : OpenOrFalse list v (valuesOf v state)
+      → firstStep (clausesOf list) v state ≡ next (clausesOf list) v state
 
 -- one call, over any list, slices, record and budget
 module _ (list : List ℤ) (v : ℕ) (values : List ℕ) (trail : List ℤ) (p : Position) (budget : ℕ) where
@@ -45,10 +47,12 @@ module _ (list : List ℤ) (v : ℕ) (values : List ℕ) (trail : List ℤ) (p :
   pub record FollowingCall : Type 0 where
     pub as-resumed : OpenOrFalse list v (take v values) → call ≡ resumption list v values trail p budget
     -- "found" only with values that satisfy every clause, 3 taken as 0
-    pub found-satisfies : (steps : Steps) → call .outcome .answer ≡ found steps → Satisfying v (clausesOf list) (bitsOf v (call .outcome .values))
+    pub found-satisfies : (steps : Steps) → call .outcome .answer ≡ found steps
+        → Satisfying v (clausesOf list) (bitsOf v (call .outcome .values))
     -- each counter is the one handed in, and the steps of its kind that the call takes; the record has the answer's
     pub counts : (steps : Steps) → stepsIn (call .outcome .answer) ≡ some steps → (kind : Kind)
-        → counter kind steps ≡ counter kind (stepsOf p) + ofKind kind (followingKinds (clausesOf list) v budget (startOf v values trail p))
+        → counter kind steps
+        ≡ counter kind (stepsOf p) + ofKind kind (followingKinds (clausesOf list) v budget (startOf v values trail p))
     pub records : (steps : Steps) → stepsIn (call .outcome .answer) ≡ some steps → stepsOf (call .position) ≡ steps
 
   -- of a call over a list, with room, that 14 does not decline
@@ -62,8 +66,10 @@ module _ (list : List ℤ) (v : ℕ) (values : List ℕ) (trail : List ℤ) (p :
 
 pub record FollowingCalls : Type 0 where
   pub first-step : (list : List ℤ) (v : ℕ) (state : State) → isList v list ≡ true → FirstStep list v state
-  pub calls : (list : List ℤ) (v : ℕ) (values : List ℕ) (trail : List ℤ) (p : Position) (budget : ℕ) → FollowingCall list v values trail p budget
-  pub takes : (list : List ℤ) (v : ℕ) (values : List ℕ) (trail : List ℤ) (p : Position) (budget : ℕ) → isList v list ≡ true → v ≤ length values
+  pub calls : (list : List ℤ) (v : ℕ) (values : List ℕ) (trail : List ℤ) (p : Position) (budget : ℕ)
+      → FollowingCall list v values trail p budget
+  pub takes : (list : List ℤ) (v : ℕ) (values : List ℕ) (trail : List ℤ) (p : Position) (budget : ℕ)
+      → isList v list ≡ true → v ≤ length values
       → v ≤ length trail → declinesState v values trail p budget ≡ false → FollowingTaken list v values trail p budget
   -- a search that was spent in the middle of a call for the next is taken up by the call for the next
   pub same-as-one : (list : List ℤ) (v : ℕ) → ComesToOne (following list v)

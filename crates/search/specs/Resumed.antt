@@ -1,4 +1,5 @@
--- What a call that takes up a state answers, and what it leaves in the lent slices and in the lent record (document 02, Changes 1, 3 and 6).
+-- What a call that takes up a state answers, and what it leaves in the lent slices and in the lent record (document 02,
+-- Changes 1, 3 and 6).
 use mathlib.Core.Bool.{Bool, cond, _&&_, _||_}
 use mathlib.Core.List.{List}
 use Prim.Native.Nat.{ℕ}
@@ -19,13 +20,15 @@ pub record Resumption : Type 0 where
   pub position : Position
 
 abbrev pub left : Answer → List ℕ → List ℤ → Position → Resumption
-left answer values trail p = record { outcome = record { answer = answer; values = values; trail = trail }; position = p }
+left answer values trail p =
+    record { outcome = record { answer = answer; values = values; trail = trail }; position = p }
 
 -- a refusal changes nothing, the record included
 abbrev pub decline : ℕ → List ℕ → List ℤ → Position → Resumption
 decline number values trail p = record { outcome = refuse number values trail; position = p }
 
--- "writes the new length and the total of steps to the record (length 0 after "none")": the totals of the three kinds, each by itself
+-- "writes the new length and the total of steps to the record (length 0 after "none")": the totals of the three kinds,
+-- each by itself
 abbrev pub positionAt : End → Position
 positionAt (wasNone t) = positionOf 0 t
 positionAt (wasFound t state) = positionOf (length state) t
@@ -41,13 +44,15 @@ startOf v values trail p = stateIn (take v values) (take v trail) (p .length)
 
 -- 14 STATE
 abbrev pub declinesState : ℕ → List ℕ → List ℤ → Position → ℕ → Bool
-declinesState v values trail p budget = noState v (take v values) (take v trail) (p .length) || tooMany (stepsOf p) budget
+declinesState v values trail p budget =
+    noState v (take v values) (take v trail) (p .length) || tooMany (stepsOf p) budget
 
 -- the run of a call that takes up a state: by the steps done, the state and the budget
 abbrev pub Running : Type 0
 Running = Steps → State → ℕ → End
 
--- 12, then 13, then 14: the list, the lent slices, which need one byte and one word for each variable, and the state; then the run from the state
+-- 12, then 13, then 14: the list, the lent slices, which need one byte and one word for each variable, and the state;
+-- then the run from the state
 unfoldable pub takenUp : Running → List ℤ → ℕ → List ℕ → List ℤ → Position → ℕ → Resumption
 takenUp running list v values trail p budget =
     cond (isList v list)

@@ -147,7 +147,7 @@ pub fn next(
         ≡ following (now (list .entry)) v (now (values .entry)) (now (trail .entry)) (now (position .entry)) budget ⌝ }
 {
     let p = *position;
-    let ended = followed(list, v, values, trail, p, budget);
-    *position = ended.position;
-    ended.answer
+    let went = followed(list, v, values, trail, p, budget);
+    *position = went.position;
+    went.answer
 }

@@ -2,7 +2,7 @@
 ghost use mathlib.Core.Path.{_≡_};
 ghost use Prim.Native.Nat.{_+_, _≤_};
 ghost use lib.ListN.{length};
-ghost use Rattle.literal.specs.Literals.{lastVariable};
+ghost use Rattle.literal.specs.Words.{lastVariable};
 ghost use Rattle.search_rules.specs.Rules.{State};
 ghost use Rattle.search_rules.specs.Run.{total};
 ghost use Rattle.search_rules.specs.Held.{stepsOf, stepLimit, Stored};

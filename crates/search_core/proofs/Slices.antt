@@ -7,7 +7,7 @@ use native.Mathlib.Numerals.{add-one}
 use lib.IntN.{ℤ, pos, negsuc, negℤ}
 use lib.ListN.{length, getD, take, set, replicate}
 use lib.Seq.{getD-set-same, set-set, set-getD, take-suc-set, take-all}
-use Rattle.literal.specs.Literals.{lastVariable, oppositeWord, positiveWord}
+use Rattle.literal.specs.Words.{lastVariable, oppositeWord, positiveWord}
 use Rattle.literal.proofs.Words.{opposite-is, positive-is}
 use Rattle.search_rules.specs.Held.{InRange, WasOpen, Stored}
 use Rattle.search_core.specs.Inner.{Turned}
@@ -124,7 +124,7 @@ module _ (v : ℕ) (state : State) (values : List ℕ) (trail : List ℤ) (n : �
   pub off-top : Stored v (t .rest) (set values (placeOf (wordOf (t .e))) 2) (set trail (n - 1) (pos 0)) (n - 1)
   off-top =
       let q : getD (trailOf v (t .rest)) (length (t .rest)) (pos 0) ≡ pos 0 =
-      past v (t .rest) (length (t .rest)) (omega arith) (let b = t .below in let m = t .index in omega arith) in
+      past v (t .rest) (length (t .rest)) (omega arith) in
       record {
         values-are = values-over 2 ∙ ap (set (valuesOf v (t .rest)) (placeOf (wordOf (t .e)))) (sym was-open-here)
             ∙ set-getD (valuesOf v (t .rest)) _ 2;

@@ -11,7 +11,7 @@ use lib.IntN.{ℤ, pos, negsuc}
 use lib.ListN.{length, getD, set}
 use mir.Syntax.{w32}
 use mir.Val.{SFits}
-use Rattle.literal.specs.Literals.{lastVariable}
+use Rattle.literal.specs.Words.{lastVariable}
 use Rattle.search_core.specs.declared.steps.StepKind.the-variants.{Propagation, Decision, Backtrack}
 use Rattle.search_core.specs.declared.steps.Moved.the-variants.{NoneLeft, AllSet, To}
 use Rattle.search_rules.specs.Held.{InRange, Stored}

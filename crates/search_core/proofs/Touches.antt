@@ -6,7 +6,7 @@ use native.Mathlib.Omega.{arith}
 use lib.IntN.{ℤ}
 use lib.ListN.{length, getD, set, length-set}
 use Rattle.clause_list.specs.ClauseList.{clausesOf}
-use Rattle.literal.specs.Literals.{lastVariable}
+use Rattle.literal.specs.Words.{lastVariable}
 use Rattle.search_rules.specs.Inner.{Fine}
 use Rattle.search_index.specs.Index.{Watched}
 

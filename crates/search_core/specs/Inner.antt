@@ -16,7 +16,7 @@ use Rattle.search_rules.specs.Held.{stepsOf, Stored}
 use Rattle.search_rules.specs.Rules.{State, Kind, propagation, decision, backtrack, Next, endNone, endFound, step}
 use Rattle.search_rules.specs.Run.{wasNone, wasFound, wasSpent}
 use Rattle.search_rules.specs.Run.{End as RunEnd}
-use Rattle.search_rules.specs.Counting.{stepsAt}
+use Rattle.search_rules.specs.Inner.{stepsAt}
 
 pub record SomeStored (v : ℕ) (values : List ℕ) (trail : List ℤ) (n : ℕ) : Type 0 where
   pub state : State

@@ -6,7 +6,7 @@ ghost use lib.Dec.{eqb};
 ghost use lib.ListN.{length};
 ghost use Rattle.prelude.specs.Tests.{any};
 ghost use Rattle.clause_list.specs.ClauseList.{clausesOf};
-ghost use Rattle.literal.specs.Literals.{lastVariable};
+ghost use Rattle.literal.specs.Words.{lastVariable};
 ghost use Rattle.search_rules.specs.Rules.{State, valuesOf, endFound, next};
 ghost use Rattle.search_rules.specs.Run.{total, count, run};
 ghost use Rattle.search_rules.specs.Following.{followingRun};

@@ -6,7 +6,7 @@ ghost use Prim.Native.Nat.{_<_, _≤_};
 ghost use lib.ListN.{length, set};
 ghost use lib.IntN.{negsuc};
 ghost use Rattle.clause_list.specs.ClauseList.{clausesOf};
-ghost use Rattle.literal.specs.Literals.{lastVariable};
+ghost use Rattle.literal.specs.Words.{lastVariable};
 ghost use Rattle.search_rules.specs.Rules.{State, lowestOpen, propagated, byteOf, placeOf, turn, next};
 ghost use Rattle.search_rules.specs.Held.{InRange, Stored};
 ghost use Rattle.search_rules.specs.Inner.{Fine};

@@ -109,17 +109,18 @@ module _ (weights₀ : List ℕ) (m : ℕ) (weights : List ℕ) (b at : ℕ) (fe
             ⊎-elim (λ u. s .passed c u n t) (λ u. none-here l c u k n t) (below-or c at);
       })
 
--- the next search begins at the block where this one stopped
-pub begins-there : (weights₀ weights : List ℕ) (m r : ℕ) → m ≤ limit → Stopped weights₀ 0 m r → Same weights₀ weights → Tallied weights m
-    → Same weights₀ (set weights 17409 (r / 16)) × Tallied (set weights 17409 (r / 16)) m
-begins-there weights₀ weights m r few stop same tallied = (
+-- the next search begins at a block that is not behind the clause where this one stopped
+pub begins-there : (weights₀ weights : List ℕ) (m r b : ℕ) → m ≤ limit → Stopped weights₀ 0 m r → 16 * b ≤ r
+    → Same weights₀ weights
+    → Tallied weights m → Same weights₀ (set weights 17409 b) × Tallied (set weights 17409 b) m
+begins-there weights₀ weights m r b few stop before same tallied = (
   record {
-    long = length-set weights 17409 (r / 16) ∙ same .long;
+    long = length-set weights 17409 b ∙ same .long;
     weights-are = λ c l. other c (λ q. absurd (omega (arith, q, l))) ∙ same .weights-are c l;
     falses-are = other 17408 (λ q. absurd (omega (arith, q))) ∙ same .falses-are;
   },
   record {
-    long = length-set weights 17409 (r / 16) ∙ tallied .long;
+    long = length-set weights 17409 b ∙ tallied .long;
     flagged = λ c k e.
         let t = sym (ap told (at c k)) ∙ e in
         (other (16384 + c / 16) (λ q. absurd (omega (arith, q, k, few))) ∙ tallied .flagged c k t .0, low c k t);
@@ -127,16 +128,16 @@ begins-there weights₀ weights m r few stop same tallied = (
   },
 )
   where
-    other : (i : ℕ) → (i ≡ 17409 → ⊥) → getD (set weights 17409 (r / 16)) i 0 ≡ getD weights i 0
-    other i n = getD-set-other weights 17409 i (r / 16) 0 n
+    other : (i : ℕ) → (i ≡ 17409 → ⊥) → getD (set weights 17409 b) i 0 ≡ getD weights i 0
+    other i n = getD-set-other weights 17409 i b 0 n
 
-    at : (c : ℕ) → c < m → getD (set weights 17409 (r / 16)) c 0 ≡ getD weights c 0
+    at : (c : ℕ) → c < m → getD (set weights 17409 b) c 0 ≡ getD weights c 0
     at c k = other c (λ q. absurd (omega (arith, q, k, few)))
 
     -- a unit clause is not before the one where it stopped
-    low : (c : ℕ) → c < m → told (getD weights c 0) ≡ 2 → lowAt (set weights 17409 (r / 16)) ≤ c / 16
+    low : (c : ℕ) → c < m → told (getD weights c 0) ≡ 2 → lowAt (set weights 17409 b) ≤ c / 16
     low c k t =
-        let is = getD-set-same weights 17409 (r / 16) 0 (omega (arith, tallied .long)) in
+        let is = getD-set-same weights 17409 b 0 (omega (arith, tallied .long)) in
         ⊎-elim (λ u. absurd (stop .passed c (omega arith) u (sym (ap told (same .weights-are c (omega (arith, k, few)))) ∙ t)))
-        (λ u. omega (arith, is, u))
+        (λ u. omega (arith, is, u, before))
         (below-or c r)

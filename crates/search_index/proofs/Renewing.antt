@@ -7,7 +7,7 @@ use native.Mathlib.Omega.{arith}
 use lib.IntN.{ℤ, pos}
 use lib.ListN.{length, getD, set}
 use Rattle.clause_list.specs.ClauseList.{clausesOf, wordsOf}
-use Rattle.literal.specs.Literals.{isPositive}
+use Rattle.literal.specs.Words.{isPositive}
 use Rattle.search_rules.specs.Rules.{placeOf}
 use Rattle.search_rules.specs.Held.{InRange}
 use Rattle.search_rules.specs.Inner.{Fine}

@@ -6,7 +6,7 @@ use native.Mathlib.Omega.{arith}
 use lib.IntN.{ℤ, pos, natAbs}
 use lib.ListN.{length, getD, drop, drop-of-length-le}
 use lib.Seq.{drop-cons}
-use Rattle.literal.specs.Literals.{countOf, lastVariable}
+use Rattle.literal.specs.Words.{countOf, lastVariable}
 use Rattle.clause_list.specs.ClauseList.{clausesOf, wordsOf}
 use Rattle.search_rules.specs.Held.{InRange}
 use Rattle.search_rules.specs.Inner.{Fine}

@@ -10,7 +10,7 @@ use lib.IntN.{ℤ, natAbs}
 use lib.ListN.{length, getD, set, length-set}
 use lib.Seq.{getD-set-same, getD-set-other}
 use borrow.Author.Tests.{le-leb, eq-eqb, ne-eqb}
-use Rattle.literal.specs.Literals.{isPositive}
+use Rattle.literal.specs.Words.{isPositive}
 use Rattle.search_rules.specs.Held.{InRange}
 use Rattle.search_rules.specs.Rules.{Truth, falsified, satisfied, unassigned, truthOf, negated}
 use Rattle.search_scan.proofs.Words.{is-above, is-below}

@@ -4,7 +4,7 @@ ghost use mathlib.Core.Path.{_≡_};
 ghost use Prim.Native.Nat.{ℕ, _<_, _≤_};
 ghost use lib.ListN.{length, getD, set};
 ghost use Rattle.clause_list.specs.ClauseList.{clausesOf};
-ghost use Rattle.literal.specs.Literals.{lastVariable};
+ghost use Rattle.literal.specs.Words.{lastVariable};
 ghost use Rattle.search_rules.specs.Inner.{Fine};
 ghost use Rattle.search_scan.specs.Seen.{seenAs, seen};
 ghost use Rattle.search_index.specs.Index.{limit, chainWords, weightWords, clauseAt, Chains, Stands, Watched, Due};

@@ -1,4 +1,5 @@
--- Cases K1 to K4 of document 01 and its traps, computed by the definitions: one theorem over all rows.
+-- Cases K1 to K4 of document 01 and its traps, computed by the definitions: one theorem over all rows, and the clash of
+-- a call for the next (document 02, Change 6).
 use mathlib.Core.Path.{_≡_, refl}
 use mathlib.Core.List.{List, [], _∷_, map}
 use Prim.Native.Nat.{ℕ}
@@ -10,6 +11,7 @@ use Rattle.search_rules.specs.Rules.{truthOf, negated, literal, isFalsif
 use Rattle.search_rules.specs.Rules.{firstUnit, lowestOpen, wordOf, byteOf, placeOf, valuesOf, turn, decide, next, propagated}
 use Rattle.search_rules.specs.Rules.{decided}
 use Rattle.search_rules.specs.Run.{tally, zeros, count, End, wasNone, wasFound, wasSpent, run}
+use Rattle.search_rules.specs.Following.{firstStep, followingRun}
 
 -- clauses in 32-bit words, v, a budget, and how the run from a fresh start ends
 record Row : Type 0 where
@@ -58,9 +60,25 @@ rows =
       budget = 9;
       end = wasFound (tally 1 2 1) (decided 1 ∷ propagated (pos 1) ∷ []);
     }
+    -- (2 3) (2 -3): the choices -1 and -2, and (2 3) forces 3; now (2 -3) is false, and of two choices the latest is
+    -- turned: 2. Both clauses are true, and the choice -3 sets the last variable
+    ∷ record {
+      list = pos 2 ∷ pos 2 ∷ pos 3 ∷ pos 2 ∷ pos 2 ∷ negsuc 2 ∷ [];
+      v = 3;
+      budget = 9;
+      end = wasFound (tally 1 3 1) (decided 2 ∷ propagated (pos 2) ∷ decided 0 ∷ []);
+    }
     ∷ []
 
 pub cases : map (λ row. run (clausesOf (row .list)) (row .v) (row .budget) zeros []) rows ≡ map (λ row. row .end) rows
 unfolding truthOf negated literal isFalsified isSatisfied conflict openOf sameLiteral only unitOf firstUnit lowestOpen wordOf byteOf placeOf
     valuesOf turn decide next count run all any cut
 cases = refl
+
+-- calls for the next on full assignments, with no clause and one variable: the clash of the choice -1 is a step, the
+-- turn 1; behind it no choice is left
+pub next-cases : (followingRun [] 1 1 (tally 0 1 0) (decided 0 ∷ []) ≡ wasFound (tally 0 1 1) (propagated (pos 1) ∷ []))
+    × (followingRun [] 1 1 (tally 0 1 1) (propagated (pos 1) ∷ []) ≡ wasNone (tally 0 1 1))
+unfolding truthOf conflict firstUnit lowestOpen wordOf byteOf placeOf valuesOf turn decide next count run firstStep
+    followingRun any
+next-cases = (refl, refl)

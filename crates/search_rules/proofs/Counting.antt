@@ -9,8 +9,9 @@ use lib.IntN.{ℤ}
 use Rattle.search_rules.specs.declared.Steps.{Steps}
 use Rattle.search_rules.specs.Rules.{State, Kind, propagation, decision, backtrack, Next, endNone, endFound, step, next}
 use Rattle.search_rules.specs.Run.{count, End, wasNone, wasFound, wasSpent, run}
-use Rattle.search_rules.specs.Counting.{counter, kindsTaken, sameKind, ofKind, stepsAt, EachCounts}
+use Rattle.search_rules.specs.Counting.{counter, kindsTaken, sameKind, ofKind}
 use Rattle.search_rules.specs.Following.{firstStep, followingRun, followingKinds}
+use Rattle.search_rules.specs.Inner.{stepsAt}
 
 -- a step counts for its kind, and for no other
 one-more : (kind k : Kind) (t : Steps) (rest : ℕ)
@@ -60,5 +61,7 @@ module _ (clauses : List (List ℤ)) (v : ℕ) (kind : Kind) where
   following-counts zero t state = none-taken t state (firstStep clauses v state)
   following-counts (suc n) t state = one-taken n t state (firstStep clauses v state) (λ k s. counts n (count k t) s)
 
-pub each-counts : EachCounts
+-- of every run, from any state and after any steps
+pub each-counts : (clauses : List (List ℤ)) (v n : ℕ) (t : Steps) (state : State) (kind : Kind)
+    → counter kind (stepsAt (run clauses v n t state)) ≡ counter kind t + ofKind kind (kindsTaken clauses v n state)
 each-counts clauses v n t state kind = counts clauses v kind n t state

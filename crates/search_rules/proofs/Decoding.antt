@@ -4,7 +4,6 @@ use mathlib.Core.Bool.{Bool, true, false, cond}
 use mathlib.Core.Logic.{_⊎_, inl, inr, ⊎-elim}
 use mathlib.Core.List.{List}
 use Prim.Native.Nat.{ℕ, zero, suc, pred, _<_, _≤_}
-use native.Mathlib.Nat.{le-of-suc-le-suc, eq-or-lt-of-le}
 use native.Mathlib.Omega.{arith}
 use native.Mathlib.Decide.{ℕ-discrete}
 use lib.Dec.{eqb, ltb}
@@ -17,7 +16,7 @@ use Rattle.search_rules.specs.Rules.{propagated, decided, State, wordOf,
 use Rattle.search_rules.specs.Held.{InRange, goesWith, entryOf, stateIn, WasOpen, Stored}
 use Rattle.search_rules.proofs.Invariant.{length-values}
 use Rattle.search_rules.proofs.Found.{place-below}
-use Rattle.search_rules.proofs.Trails.{length-trail, past}
+use Rattle.search_rules.proofs.Trails.{length-trail, past, below-suc}
 use Rattle.search_rules.proofs.Conditions.{wordAt, placeAt, Off, Consistent}
 
 -- the entry of a literal and a value that goes with it has both
@@ -55,9 +54,6 @@ same-word v (negsuc n) (pos m) b r s e p q =
 same-word v (negsuc n) (negsuc m) b r s e p q = ap negsuc e
 
 -- a place below suc n is n or one below
-pub below-suc : {i n : ℕ} → i < suc n → (i ≡ n) ⊎ (i < n)
-below-suc h = eq-or-lt-of-le (le-of-suc-le-suc h)
-
 length-state : (values : List ℕ) (trail : List ℤ) (n : ℕ) → length (stateIn values trail n) ≡ n
 unfolding stateIn
 length-state values trail zero = refl
@@ -149,7 +145,8 @@ module _ (v : ℕ) (values : List ℕ) (trail : List ℤ) (n : ℕ) (c : Consist
       (below-suc b))
 
   trail-past : (i : ℕ) → n ≤ i → i < v → wordAt trail i ≡ wordAt (trailOf v (stateIn values trail n)) i
-  trail-past i l h = c .rest-zero i l h ∙ sym (past v (stateIn values trail n) i (omega (arith, length-state values trail n)) h)
+  trail-past i l h = c .rest-zero i l h
+      ∙ sym (past v (stateIn values trail n) i (omega (arith, length-state values trail n)))
 
   trail-same : (i : ℕ) → i < v → wordAt trail i ≡ wordAt (trailOf v (stateIn values trail n)) i
   trail-same i h =

@@ -10,6 +10,7 @@ pub mod First
 pub mod Theorems
 pub mod Following
 pub mod Passed
+pub mod Reaching
 pub mod Ending
 pub mod Counting
 pub mod Trails

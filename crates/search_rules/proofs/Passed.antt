@@ -16,22 +16,20 @@ use borrow.Author.Tests.{not-true}
 use Rattle.prelude.specs.Order.{Before}
 use Rattle.prelude.proofs.Order.{before-irreflexive}
 use Rattle.clause_list.specs.ClauseList.{Satisfying}
-use Rattle.search_rules.specs.declared.Steps.{Steps}
 use Rattle.search_rules.specs.Held.{WasOpen}
 use Rattle.search_rules.specs.Rules.{truthOf, Entry, propagated, decided, State, wordOf, byteOf, placeOf, valuesOf, settle}
 use Rattle.search_rules.specs.Rules.{Kind, backtrack, Next, endNone, endFound, step, turn, next}
-use Rattle.search_rules.specs.Run.{wasNone, wasFound, wasSpent}
-use Rattle.search_rules.specs.Following.{firstStep, followingRun}
+use Rattle.search_rules.specs.Following.{firstStep}
 use Rattle.search_rules.proofs.Assignments.{Assignment, assignment, holds, Has, Follows, model-of}
 use Rattle.search_rules.proofs.Ranges.{Ranged}
 use Rattle.search_rules.proofs.StepView.{Kept, Step, ends-none, ends-found, backtracks, propagates, decides, view, turn-leads}
 use Rattle.search_rules.proofs.StepView.{steps-keep}
 use Rattle.search_rules.proofs.Invariant.{length-values, Keeps, turn-keeps, follows-keeps, follows-not-none}
-use Rattle.search_rules.proofs.Found.{place-below, found-ended, found-satisfying}
+use Rattle.search_rules.proofs.Found.{place-below, found-ended}
 use Rattle.search_rules.proofs.Again.{open-kept}
 use Rattle.search_rules.proofs.First.{LowestDecided, lowest-kept, Parts, parts-later, parts-here, has-or-leaves, has-same, leaves-after}
 use Rattle.search_rules.proofs.First.{set-other, left-before}
-use Rattle.search_rules.proofs.Following.{first-cases, first-none, FollowEnds, follow-ends}
+use Rattle.search_rules.proofs.Following.{first-cases, first-none}
 
 -- the states that a search comes through, also after a full assignment was turned: each variable was open when it was set, and each decision
 -- was that of the lowest open one
@@ -136,27 +134,19 @@ pub settled-has : (v : ℕ) (state : State) → WasOpen v state → Has (assignm
 unfolding assignment
 settled-has v state o = has-if v _ state o (λ j n. ap (λ b. eqb b 1) (List·getD-map settle (valuesOf v state) j 2))
 
--- a satisfying assignment, and a call for the next
-module _ (clauses : List (List ℤ)) (v : ℕ) (ranged : Ranged v clauses) (a : List ℕ) (sat : Satisfying v clauses a) where
-  -- it was found here, or is behind
+-- an assignment at a state: it was found there or is behind, or it waits
+module _ (clauses : List (List ℤ)) (v : ℕ) (a : List ℕ) where
   abbrev pub Past : State → Type 0
   Past state = Behind v (assignment a) state ⊎ (Has (assignment a) state × (next clauses v state ≡ endFound))
 
-  -- it is neither behind nor found here
   abbrev pub Waiting : State → Type 0
   Waiting state = Follows (assignment a) state × (Has (assignment a) state → next clauses v state ≡ endFound → ⊥)
 
-  abbrev Gone : State → Type 0
-  Gone state = Sound v state × Behind v (assignment a) state
-
-  gone-keeps : (state : State) (kind : Kind) (s : State) → Gone state → next clauses v state ≡ step kind s → Gone s
-  gone-keeps state kind s h e = (
-    sound-keeps clauses v ranged state kind s (h .0) e,
-    behind-step v (assignment a) clauses state kind s (h .1) (h .0 .lowest) (next clauses v state) (view clauses v state) e,
-  )
-
-  gone-first : (state : State) → Sound v state → Past state → (kind : Kind) (s : State) → firstStep clauses v state ≡ step kind s → Gone s
-  gone-first state h p kind s e = (sound-first clauses v ranged state kind s h e, by p (first-cases clauses v state kind s e))
+  -- a step, also that of a clash, leaves behind what is past
+  pub past-on : (state : State) (kind : Kind) (s : State) → Sound v state → Past state
+      → firstStep clauses v state ≡ step kind s
+      → Behind v (assignment a) s
+  past-on state kind s h p e = by p (first-cases clauses v state kind s e)
     where
       not-both : next clauses v state ≡ endFound → next clauses v state ≡ step kind s → ⊥
       not-both d e = let z : _≡_ {A = ℕ} 0 1 = cc in omega arith
@@ -168,71 +158,6 @@ module _ (clauses : List (List ℤ)) (v : ℕ) (ranged : Ranged v clauses) (a : 
       by (inr g) (inl d) = absurd (not-both (g .1) d)
       by (inr g) (inr d) = has-turn v (assignment a) state kind s (g .0) (h .lowest) (d .1)
 
-  module _ (n : ℕ) (t t' : Steps) (state s : State) (sound : Sound v state) where
-    -- what is found after it comes later
-    pub past-found : Past state → followingRun clauses v n t state ≡ wasFound t' s → Before a (map settle (valuesOf v s)) × Past s
-    unfolding FollowEnds
-    past-found p e =
-        let h = follow-ends clauses v Gone gone-keeps n t state (wasFound t' s) (gone-first state sound p) e in (
-          left-before clauses v s (found-ended clauses v s (h .1) .1) a sat (behind-parts v (assignment a) (h .0 .0 .was-open) (h .0 .1)),
-          inl (h .0 .1),
-        )
-
-    pub past-spent : Past state → followingRun clauses v n t state ≡ wasSpent t' s → Past s
-    unfolding FollowEnds
-    past-spent p e =
-        ⊎-elim (λ d. rw d p) (λ d. inl (d .0 .1)) (follow-ends clauses v Gone gone-keeps n t state (wasSpent t' s) (gone-first state sound p) e)
-
-  abbrev Near : State → Type 0
-  Near state = Sound v state × Follows (assignment a) state
-
-  near-keeps : (state : State) (kind : Kind) (s : State) → Near state → next clauses v state ≡ step kind s → Near s
-  near-keeps state kind s h e = (
-    sound-keeps clauses v ranged state kind s (h .0) e,
-    follows-keeps clauses v (assignment a) (model-of a clauses (sat .holds)) state kind s (h .1) e,
-  )
-
-  near-first : (state : State) → Sound v state → Waiting state → (kind : Kind) (s : State) → firstStep clauses v state ≡ step kind s → Near s
-  unfolding Keeps
-  near-first state h w kind s e = (
-    sound-first clauses v ranged state kind s h e,
-    ⊎-elim (λ d. follows-keeps clauses v (assignment a) (model-of a clauses (sat .holds)) state kind s (w .0) d)
-        (λ d. rw (d .1) at (turn-keeps (assignment a) state (w .0) (λ g. w .1 g (d .0)))) (first-cases clauses v state kind s e),
-  )
-
-  module _ (n : ℕ) (t t' : Steps) (state : State) (sound : Sound v state) (waits : Waiting state) where
-    -- it is found, or comes later and waits on
-    pub waiting-found : (s : State) → followingRun clauses v n t state ≡ wasFound t' s
-        → (map settle (valuesOf v s) ≡ a) ⊎ (Before (map settle (valuesOf v s)) a × Waiting s)
-    unfolding FollowEnds
-    waiting-found s e =
-        let h = follow-ends clauses v Near near-keeps n t state (wasFound t' s) (near-first state sound waits) e in
-        let full = found-ended clauses v s (h .1) .1 in
-        ⊎-elim (λ g. inl (has-same clauses v s full a sat g))
-        (λ l.
-        let b = leaves-after clauses v s full a sat l in
-        inr (b, (h .0 .1, λ g d. before-irreflexive a (rw (has-same clauses v s full a sat g) at b))))
-        (has-or-leaves (assignment a) v s (h .0 .0 .was-open) (h .0 .0 .lowest) (h .0 .1))
-
-    pub waiting-spent : (s : State) → followingRun clauses v n t state ≡ wasSpent t' s → Waiting s
-    unfolding FollowEnds
-    waiting-spent s e =
-        ⊎-elim (λ d. rw d waits) (λ d. (d .0 .1, λ g f. d .1 f))
-        (follow-ends clauses v Near near-keeps n t state (wasSpent t' s) (near-first state sound waits) e)
-
-    -- and there is no "none" where one waits
-    pub waiting-none : followingRun clauses v n t state ≡ wasNone t' → ⊥
-    unfolding FollowEnds Keeps
-    waiting-none e =
-        ⊎-elim
-        (λ d. ⊎-elim (none-here state (waits .0)) (λ f. rw (f .1) at (turn-keeps (assignment a) state (waits .0) (λ g. waits .1 g (f .0))))
-        (first-none clauses v state d))
-        (λ d. none-here (d .0) (d .1 .1) (d .2))
-        (follow-ends clauses v Near near-keeps n t state (wasNone t') (near-first state sound waits) e)
-      where
-        none-here : (s : State) → Follows (assignment a) s → next clauses v s ≡ endNone → ⊥
-        none-here s f d = follows-not-none clauses v (assignment a) (model-of a clauses (sat .holds)) s f d
-
   -- at a fresh start all wait
   pub waiting-fresh : 1 ≤ v → Waiting []
   unfolding Follows
@@ -242,30 +167,36 @@ module _ (clauses : List (List ℤ)) (v : ℕ) (ranged : Ranged v clauses) (a : 
         (unfold valuesOf in getD-replicate v 0 2 2 (omega arith)),
   )
 
--- a call for the next keeps states sound, and what it finds satisfies the clauses and is past from then on
-module _ (clauses : List (List ℤ)) (v : ℕ) (ranged : Ranged v clauses) (n : ℕ) (t t' : Steps) (state s : State) (sound : Sound v state) where
-  pub sound-spent : followingRun clauses v n t state ≡ wasSpent t' s → Sound v s
-  unfolding FollowEnds
-  sound-spent e =
-      ⊎-elim (λ d. rw d sound) (λ d. d .0)
-      (follow-ends clauses v (Sound v) (sound-keeps clauses v ranged) n t state (wasSpent t' s)
-      (λ k r d. sound-first clauses v ranged state k r sound d) e)
+  module _ (sat : Satisfying v clauses a) where
+    -- what is found after it comes later
+    pub past-before : (s : State) → Sound v s → Behind v (assignment a) s → next clauses v s ≡ endFound
+        → Before a (map settle (valuesOf v s))
+    past-before s h b e = left-before clauses v s (found-ended clauses v s e .1) a sat
+        (behind-parts v (assignment a) (h .was-open) b)
 
-  module _ (e : followingRun clauses v n t state ≡ wasFound t' s) where
-    found-here : Sound v s × (next clauses v s ≡ endFound)
-    unfolding FollowEnds
-    found-here =
-        follow-ends clauses v (Sound v) (sound-keeps clauses v ranged) n t state (wasFound t' s)
-        (λ k r d. sound-first clauses v ranged state k r sound d) e
+    -- a step is followed by one that waits
+    pub follows-on : (state : State) (kind : Kind) (s : State) → Waiting state → firstStep clauses v state ≡ step kind s
+        → Follows (assignment a) s
+    unfolding Keeps
+    follows-on state kind s w e =
+        ⊎-elim (λ d. follows-keeps clauses v (assignment a) (model-of a clauses (sat .holds)) state kind s (w .0) d)
+        (λ d. rw (d .1) at (turn-keeps (assignment a) state (w .0) (λ g. w .1 g (d .0))))
+        (first-cases clauses v state kind s e)
 
-    pub sound-found : Sound v s
-    sound-found = found-here .0
+    -- it is found, or comes later and waits on
+    pub found-or-waits : (s : State) → Sound v s → Follows (assignment a) s → next clauses v s ≡ endFound
+        → (map settle (valuesOf v s) ≡ a) ⊎ (Before (map settle (valuesOf v s)) a × Waiting s)
+    found-or-waits s h f e =
+        let full = found-ended clauses v s e .1 in
+        ⊎-elim (λ g. inl (has-same clauses v s full a sat g))
+        (λ l.
+        let b = leaves-after clauses v s full a sat l in
+        inr (b, (f, λ g d. before-irreflexive a (rw (has-same clauses v s full a sat g) at b))))
+        (has-or-leaves (assignment a) v s (h .was-open) (h .lowest) f)
 
-    pub found-state : next clauses v s ≡ endFound
-    found-state = found-here .1
-
-    pub found-next : Satisfying v clauses (map settle (valuesOf v s))
-    found-next = found-satisfying clauses v ranged s (found-here .1)
-
-    pub found-past : Past clauses v ranged (map settle (valuesOf v s)) found-next s
-    found-past = inr (settled-has v s (sound-found .was-open), found-here .1)
+    -- and there is no "none" where it waits
+    pub waits-not-none : (state : State) → Waiting state → firstStep clauses v state ≡ endNone → ⊥
+    unfolding Keeps
+    waits-not-none state w e =
+        ⊎-elim (λ d. follows-not-none clauses v (assignment a) (model-of a clauses (sat .holds)) state (w .0) d)
+        (λ d. rw (d .1) at (turn-keeps (assignment a) state (w .0) (λ g. w .1 g (d .0)))) (first-none clauses v state e)

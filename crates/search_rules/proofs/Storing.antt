@@ -12,9 +12,8 @@ use Rattle.search_rules.specs.Rules.{Entry, propagated, decided, State, 
 use Rattle.search_rules.specs.Held.{InRange, goesWith, entryOf, stateIn, WasOpen}
 use Rattle.search_rules.proofs.Invariant.{length-values}
 use Rattle.search_rules.proofs.Found.{place-below}
-use Rattle.search_rules.proofs.Trails.{room, length-trail}
+use Rattle.search_rules.proofs.Trails.{room, length-trail, below-suc}
 use Rattle.search_rules.proofs.Conditions.{wordAt, placeAt, Off, Distinct, Consistent}
-use Rattle.search_rules.proofs.Decoding.{below-suc}
 
 -- the value of an entry goes with its literal, is not open, and gives the entry
 byte-goes : (e : Entry) → goesWith (wordOf e) (byteOf e) ≡ true

@@ -1,11 +1,13 @@
 -- The trail of a state: its length, the words past it, and the room that an open variable leaves on it.
 use mathlib.Core.Path.{_≡_, refl, _∙_}
+use mathlib.Core.Logic.{_⊎_, ⊎-elim}
 use mathlib.Core.List.{List, [], _∷_}
 use Prim.Native.Nat.{ℕ, zero, suc, _+_, _<_, _≤_}
 use native.Mathlib.Omega.{arith}
-use lib.IntN.{pos, negsuc}
-use lib.ListN.{length, getD, set, replicate, length-set, length-replicate, getD-replicate}
-use lib.Seq.{getD-set-other}
+use native.Mathlib.Nat.{eq-or-lt-of-le, le-of-suc-le-suc}
+use lib.IntN.{pos, negsuc, natAbs}
+use lib.ListN.{length, getD, set, replicate, length-set, length-replicate}
+use lib.Seq.{getD-set-same, getD-set-other}
 use Rattle.search_rules.specs.Held.{InRange, WasOpen}
 use Rattle.search_rules.specs.Rules.{Entry, propagated, decided, State, wordOf, byteOf, placeOf, valuesOf, trailOf}
 use Rattle.search_rules.proofs.Invariant.{length-values}
@@ -90,8 +92,32 @@ length-trail v [] = length-replicate v (pos 0)
 length-trail v (e ∷ state) = simp length-set (length-trail v state)
 
 -- words past the trail are 0
-pub past : (v : ℕ) (state : State) (i : ℕ) → length state ≤ i → i < v → getD (trailOf v state) i (pos 0) ≡ pos 0
+zeros-past : (v i : ℕ) → getD (replicate v (pos 0)) i (pos 0) ≡ pos 0
+zeros-past zero i = refl
+zeros-past (suc v) zero = refl
+zeros-past (suc v) (suc i) = zeros-past v i
+
+pub past : (v : ℕ) (state : State) (i : ℕ) → length state ≤ i → getD (trailOf v state) i (pos 0) ≡ pos 0
 unfolding trailOf
-past v [] i h k = getD-replicate v i (pos 0) (pos 0) k
-past v (e ∷ state) i h k =
-    getD-set-other (trailOf v state) (length state) i (wordOf e) (pos 0) (λ d. omega arith) ∙ past v state i (omega arith) k
+past v [] i h = zeros-past v i
+past v (e ∷ state) i h =
+    getD-set-other (trailOf v state) (length state) i (wordOf e) (pos 0) (λ d. omega arith)
+    ∙ past v state i (omega arith)
+
+pub below-suc : {i n : ℕ} → i < suc n → (i ≡ n) ⊎ (i < n)
+below-suc h = eq-or-lt-of-le (le-of-suc-le-suc h)
+
+-- and those on it are literals
+pub on-trail : (v : ℕ) (state : State) (i : ℕ) → WasOpen v state → i < length state
+    → 1 ≤ natAbs (getD (trailOf v state) i (pos 0))
+unfolding trailOf WasOpen
+on-trail v [] i o l = absurd (omega arith)
+on-trail v (e ∷ state) i o l =
+    let inside : length state < v = room v state (placeOf (wordOf e)) (o .2) (place-below v (wordOf e) (o .0)) (o .1) in
+    ⊎-elim
+    (λ (d : i ≡ length state).
+    rw (d, getD-set-same (trailOf v state) (length state) (wordOf e) (pos 0) (omega (arith, length-trail v state)))
+    (o .0 .0))
+    (λ d. rw (getD-set-other (trailOf v state) (length state) i (wordOf e) (pos 0) (λ q. omega arith))
+    (on-trail v state i (o .2) d))
+    (below-suc l)

@@ -1,13 +1,11 @@
--- What is promised of the counters of a run (document 02, Change 3): "Each counter equals the one handed in (0 at the start) plus the steps of
--- its kind that the rules' run takes in the call."
-use mathlib.Core.Path.{_≡_}
+-- What is promised of the counters of a run (document 02, Change 3): "Each counter equals the one handed in (0 at the
+-- start) plus the steps of its kind that the rules' run takes in the call."
 use mathlib.Core.Bool.{Bool, true, false, cond}
 use mathlib.Core.List.{List, [], _∷_}
-use Prim.Native.Nat.{ℕ, zero, suc, _+_}
+use Prim.Native.Nat.{ℕ, zero, suc}
 use lib.IntN.{ℤ}
 use Rattle.search_rules.specs.declared.Steps.{Steps}
 use Rattle.search_rules.specs.Rules.{State, Kind, propagation, decision, backtrack, endNone, endFound, step, next}
-use Rattle.search_rules.specs.Run.{End, wasNone, wasFound, wasSpent, run}
 
 -- the counter of a kind
 unfoldable pub counter : Kind → Steps → ℕ
@@ -19,7 +17,12 @@ counter backtrack t = t .backtracks
 unfoldable pub kindsTaken : List (List ℤ) → ℕ → ℕ → State → List Kind
 kindsTaken clauses v zero state = []
 kindsTaken clauses v (suc n) state =
-    elim (next clauses v state) [ endNone ↦ [] | endFound ↦ [] | step kind state' ↦ kind ∷ kindsTaken clauses v n state' ]
+    elim (next clauses v state) [
+      | endNone ↦ []
+      | endFound ↦
+          []
+      | step kind state' ↦ kind ∷ kindsTaken clauses v n state'
+    ]
 
 unfoldable pub sameKind : Kind → Kind → Bool
 sameKind propagation propagation = true
@@ -36,14 +39,3 @@ sameKind backtrack backtrack = true
 unfoldable pub ofKind : Kind → List Kind → ℕ
 ofKind kind [] = 0
 ofKind kind (k ∷ kinds) = cond (sameKind kind k) (suc (ofKind kind kinds)) (ofKind kind kinds)
-
--- the steps done when a run ends
-abbrev pub stepsAt : End → Steps
-stepsAt (wasNone t) = t
-stepsAt (wasFound t state) = t
-stepsAt (wasSpent t state) = t
-
--- of every run, from any state and after any steps
-abbrev pub EachCounts : Type 0
-EachCounts = (clauses : List (List ℤ)) (v n : ℕ) (t : Steps) (state : State) (kind : Kind)
-    → counter kind (stepsAt (run clauses v n t state)) ≡ counter kind t + ofKind kind (kindsTaken clauses v n state)

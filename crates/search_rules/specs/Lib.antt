@@ -4,4 +4,5 @@ pub mod Run
 pub mod Held
 pub mod Counting
 pub mod Following
+pub mod Reached
 pub mod Inner

@@ -13,7 +13,7 @@ use lib.Seq.{drop-cons, drop-drop, slice, slice-cons, slice-empty, take-nil}
 use mir.Syntax.{w32}
 use mir.Val.{SFits, toZ, ofZ}
 use mir.Facts.{toZ-ofZ}
-use Rattle.literal.specs.Literals.{countOf}
+use Rattle.literal.specs.Words.{countOf}
 use Rattle.literal.proofs.Signs.{same-word}
 use Rattle.clause_list.specs.ClauseList.{cut, clausesOf}
 use Rattle.search_rules.specs.Held.{InRange}

@@ -9,7 +9,7 @@ use lib.IntN.{ℤ, pos, negsuc, natAbs}
 use lib.ListN.{length, getD}
 use borrow.Author.Tests.{ltb-false}
 use Rattle.prelude.proofs.Laws.{clash}
-use Rattle.literal.specs.Literals.{isPositive}
+use Rattle.literal.specs.Words.{isPositive}
 use Rattle.search_rules.specs.Held.{InRange}
 use Rattle.search_scan.specs.Seen.{truthCode}
 use Rattle.search_rules.specs.Rules.{falsified, truthOf, negated, literal, propagated, byteOf, placeOf}

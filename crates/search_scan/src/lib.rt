@@ -3,7 +3,7 @@ ghost use mathlib.Core.Path.{_≡_};
 ghost use Prim.Native.Nat.{_≤_};
 ghost use lib.ListN.{length};
 ghost use Rattle.clause_list.specs.ClauseList.{clausesOf};
-ghost use Rattle.literal.specs.Literals.{lastVariable};
+ghost use Rattle.literal.specs.Words.{lastVariable};
 ghost use Rattle.search_rules.specs.Rules.{literal};
 ghost use Rattle.search_rules.specs.Held.{InRange};
 ghost use Rattle.search_rules.specs.Inner.{Fine};

@@ -10,7 +10,8 @@ use mir.Syntax.{w32}
 use mir.Val.{SFits, ofZ}
 use borrow.Author.Tests.{eq-eqb, eqb-true, ltb-false}
 use Rattle.prelude.proofs.Laws.{clash}
-use Rattle.literal.specs.Literals.{isLiteral, isPositive, lastVariable}
+use Rattle.literal.specs.Literals.{isLiteral}
+use Rattle.literal.specs.Words.{isPositive, lastVariable}
 use Rattle.literal.proofs.Signs.{same-word}
 use Rattle.literal.proofs.Words.{within-words}
 use Rattle.search_rules.specs.Rules.{sameLiteral, placeOf}

@@ -14,7 +14,7 @@ use Rattle.search_rules.specs.Run.{EndedWithin}
 use Rattle.search.specs.Answers.{found, Outcome}
 use Rattle.solve_rules.specs.Finding.{Slices, Finding, decline, instanceFor, findIn, finding}
 use Rattle.solve_rules.specs.Demand3.{FitsLimits, FitSlices, written, searched}
-use Rattle.solve_rules.specs.Finds.{Holds, Finds}
+use Rattle.solve_rules.specs.Finds.{LeavesSmallest, Finds}
 use Rattle.solve_rules.proofs.Calls.{writes-words}
 use Rattle.solve_rules.proofs.Demand3.{answered}
 use Rattle.solve_rules.proofs.Findings.{Declined, Ran, called}
@@ -48,7 +48,8 @@ module _ (s : List ℕ) (lent : Slices) (budget : ℕ) where
 
     -- the instance where the answer is "found"
     holds : (steps : Steps) → call .answer ≡ found steps
-        → Holds (sheetOf s) (lent .instance) (instanceFor (call .answer) s (take v (call .values)) (lent .instance))
+        → LeavesSmallest (sheetOf s) (lent .instance)
+        (instanceFor (call .answer) s (take v (call .values)) (lent .instance))
     holds steps e =
         let r = answered s lent h k budget .found-only steps e in
         record {

@@ -5,3 +5,4 @@ pub mod Findings
 pub mod MoreSteps
 pub mod Finds
 pub mod Narrower
+pub mod Resumed

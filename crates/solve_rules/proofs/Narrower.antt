@@ -8,7 +8,7 @@ use Rattle.sheet_rules.specs.Blocks.{Sheet, sheetOf, byte, fourBlocks, scope, i
 use Rattle.sheet_rules.specs.Tables.{table}
 use Rattle.relational.specs.Trees.{symbolOf, treeStep}
 use Rattle.relational.specs.Meaning.{one}
-use Rattle.clauses_rules.specs.Matching.{Solution}
+use Rattle.relational.specs.Meaning.{Solution}
 use Rattle.clauses_rules.proofs.Widened.{widened, widened-solves}
 use Rattle.search_rules.specs.declared.Steps.{Steps}
 use Rattle.search.specs.Answers.{none}

@@ -1,9 +1,24 @@
 -- The order is a strict total order on the instances of a sheet: they are lists of bits of one length. So the smallest is one.
-use mathlib.Core.Path.{sym, _∙_}
-use mathlib.Core.Logic.{⊎-elim}
-use Rattle.prelude.proofs.Order.{before-irreflexive, before-transitive, before-total}
+use mathlib.Core.Path.{_≡_, sym, _∙_}
+use mathlib.Core.Bool.{true}
+use mathlib.Core.Logic.{_↔_, ⊎-elim}
+use mathlib.Core.List.{List}
+use Prim.Native.Nat.{ℕ}
+use Rattle.prelude.proofs.Order.{StrictTotalOrder, before-irreflexive, before-transitive, before-total}
+use Rattle.sheet_rules.specs.Blocks.{Sheet}
+use Rattle.relational.specs.Cells.{hasCells}
+use Rattle.relational.specs.Meaning.{Solution}
 use Rattle.relational.proofs.Scopes.{within-size, within-bits}
-use Rattle.solve_rules.specs.Smallest.{InstancesOrdered, SameSmallest}
+use Rattle.solve_rules.specs.Smallest.{Smallest}
+
+-- that order is a strict total order on the instances of a sheet
+abbrev pub InstancesOrdered : Type 0
+InstancesOrdered = (sheet : Sheet) → StrictTotalOrder (λ (instance : List ℕ). hasCells sheet instance ≡ true)
+
+-- to "compare printed cases between releases": two sheets that the same instances satisfy have the same smallest
+abbrev pub SameSmallest : Type 0
+SameSmallest = (sheet other : Sheet) → ((instance : List ℕ) → Solution sheet instance ↔ Solution other instance)
+    → (i j : List ℕ) → Solution sheet i → Smallest sheet i → Solution other j → Smallest other j → i ≡ j
 
 pub instances-ordered : InstancesOrdered
 instances-ordered sheet =

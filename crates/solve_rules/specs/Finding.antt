@@ -1,4 +1,5 @@
--- What `find` answers, and what it leaves in the lent slices: counting, writing, search and read-back, one after the other.
+-- What `find` answers, and what it leaves in the lent slices: counting, writing, search and read-back, one after the
+-- other.
 use mathlib.Core.Bool.{Bool, _&&_, cond}
 use mathlib.Core.List.{List}
 use Prim.Native.Nat.{ℕ}
@@ -9,7 +10,7 @@ use Rattle.sheet_rules.specs.Blocks.{sheetOf}
 use Rattle.relational.specs.Cells.{cellCount}
 use Rattle.clauses.specs.Answers as count
 use Rattle.clauses.specs.Answers.{countAnswer, listAfter}
-use Rattle.search.specs.Answers.{Answer, found, none, spent, refused, outcome}
+use Rattle.search.specs.Answers.{Answer, found, none, spent, refused, Outcome, outcome}
 use Rattle.solve_rules.specs.Answers.{instanceAfter}
 
 -- the contents of the slices that a caller lends
@@ -51,10 +52,12 @@ findIn s v w lent budget =
     let searched = outcome (take w list) v (lent .values) (lent .trail) budget in
     record {
       answer = searched .answer;
-      left = slices list (searched .values) (searched .trail) (instanceFor (searched .answer) s (take v (searched .values)) (lent .instance));
+      left = slices list (searched .values) (searched .trail)
+          (instanceFor (searched .answer) s (take v (searched .values)) (lent .instance));
     }
 
--- the numbers in order: those of counting, 1 to 10; 12 LIST, "more than 2^31 - 1 words"; 13 SHORT, "a lent slice is too short"
+-- the numbers in order: those of counting, 1 to 10; 12 LIST, "more than 2^31 - 1 words"; 13 SHORT, "a lent slice is too
+-- short"
 abbrev pub findAfter : count.Answer → List ℕ → Slices → ℕ → Finding
 findAfter (count.refused n) s lent budget = decline n lent
 findAfter (count.fits v c w) s lent budget =
@@ -64,3 +67,7 @@ findAfter (count.fits v c w) s lent budget =
 
 unfoldable pub finding : List ℕ → Slices → ℕ → Finding
 finding s lent budget = findAfter (countAnswer s) s lent budget
+
+-- what `find` leaves of its search
+abbrev pub searchedBy : Finding → Outcome
+searchedBy f = record { answer = f .answer; values = f .left .values; trail = f .left .trail }

@@ -4,7 +4,7 @@ use mathlib.Core.Bool.{true, false}
 use mathlib.Core.List.{List}
 use Prim.Native.Nat.{ℕ, _≤_}
 use Rattle.sheet_rules.specs.Blocks.{Sheet, byte, scope, isBounded}
-use Rattle.clauses_rules.specs.Matching.{Solution}
+use Rattle.relational.specs.Meaning.{Solution}
 
 -- sheets that differ in scopes alone: each limited one may be smaller, exact, or both; the others stay
 pub record Narrowed (wide narrow : Sheet) : Type 0 where

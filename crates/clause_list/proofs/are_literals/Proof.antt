@@ -8,7 +8,8 @@ use borrow.Author.Needs.{needs}
 use borrow.Author.Tests.{not-true, not-false}
 use Rattle.prelude.specs.Tests.{all}
 use Rattle.prelude.proofs.Laws.{and-not-left, and-rest, all-from, all-from-end}
-use Rattle.literal.specs.Literals.{isLiteral, lastVariable}
+use Rattle.literal.specs.Literals.{isLiteral}
+use Rattle.literal.specs.Words.{lastVariable}
 use Rattle.literal.proofs.Signs.{back}
 use Rattle.literal.proofs.Words.{within-words}
 use Rattle.clause_list.proofs.are_literals.Statement.{statement}

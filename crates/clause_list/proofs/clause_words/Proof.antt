@@ -7,7 +7,8 @@ use lib.ListN.{getD, take, drop}
 use borrow.Author.Needs.{needs}
 use borrow.Author.Tests.{not-true, not-false}
 use Rattle.prelude.specs.Tests.{all}
-use Rattle.literal.specs.Literals.{isLiteral, countOf}
+use Rattle.literal.specs.Literals.{isLiteral}
+use Rattle.literal.specs.Words.{countOf}
 use Rattle.literal.proofs.Signs.{back}
 use Rattle.clause_list.proofs.Fronts.{front-empty, front-below, front-past, front-no-literal, front-words}
 use Rattle.clause_list.proofs.clause_words.Statement.{statement}

@@ -8,7 +8,8 @@ use lib.IntN.{pos}
 use mir.Syntax.{w32}
 use mir.Val.{toZ}
 use lib.ListN.{length, getD, take}
-use Rattle.literal.specs.Literals.{opposite, literalOf}
+use Rattle.literal.specs.Literals.{opposite}
+use Rattle.literal.specs.Words.{literalOf}
 use Rattle.literal.proofs.Signs.{read, back}
 use Rattle.clauses_rules.specs.Gates.{Clause}
 use Rattle.clauses_rules.specs.Whole.{pairClause}

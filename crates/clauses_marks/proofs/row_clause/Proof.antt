@@ -5,7 +5,8 @@ use Prim.Native.Nat.{ℕ, _-_}
 use native.Mathlib.Omega.{arith}
 use lib.IntN.{pos}
 use lib.ListN.{length, getD, take, drop, length-drop}
-use Rattle.literal.specs.Literals.{Literal, literalOf, opposite}
+use Rattle.literal.specs.Literals.{Literal, opposite}
+use Rattle.literal.specs.Words.{literalOf}
 use Rattle.literal.proofs.Signs.{read, back}
 use Rattle.sheet_rules.specs.Blocks.{sheetOf, firstSort}
 use Rattle.relational.specs.Cells.{memberCell}

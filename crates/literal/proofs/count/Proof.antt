@@ -6,7 +6,7 @@ use lib.IntN.{ℤ, pos, negsuc, natAbs}
 use lib.Signed.{ltZ, nonNeg}
 use native.Mathlib.Omega.{arith}
 use borrow.Author.Tests.{ltb-true}
-use Rattle.literal.specs.Literals.{countOf}
+use Rattle.literal.specs.Words.{countOf}
 use Rattle.literal.proofs.Signs.{back, not-negative, is-negative, casts}
 use Rattle.literal.proofs.count.Statement.{statement}
 use Rattle.literal.proofs.count.Tie as tie

@@ -3,7 +3,7 @@ use mathlib.Core.Path.{sym, ap, _∙_}
 use Prim.Native.Nat.{_<_}
 use lib.IntN.{natAbs}
 use native.Mathlib.Omega.{arith}
-use Rattle.literal.specs.Literals.{oppositeWord}
+use Rattle.literal.specs.Words.{oppositeWord}
 use Rattle.literal.proofs.Signs.{lowest-word, above-lowest, negated}
 use Rattle.literal.proofs.Words.{opposite-is}
 use Rattle.literal.proofs.opposite.Statement.{statement}

@@ -11,9 +11,10 @@ use borrow.Author.Needs.{needs}
 use borrow.Author.Tests.{not-true, not-false, ltb-true, ltb-false}
 use Rattle.clause_list.specs.ClauseList.{isList}
 use Rattle.clause_list.proofs.Laws.{list-most-variables}
+use Rattle.search_rules.specs.declared.Steps.{Steps}
 use Rattle.search_rules.specs.Rules.{State}
 use Rattle.search_rules.specs.Run.{total}
-use Rattle.search_rules.specs.Held.{stepsOf, noState, stepLimit, Stored}
+use Rattle.search_rules.specs.Held.{stepsOf, noState, stepLimit, tooMany, Stored}
 use Rattle.search_rules.proofs.StateHeld.{holds-state}
 use Rattle.search_rules.proofs.Ranges.{fine-list}
 use Rattle.refusal.specs.declared.Refusal.the-variants.{Short}
@@ -145,13 +146,19 @@ too-many-requires : tie.Need-too-many-requires
 too-many-requires c κs = search needs
 
 -- what the test of the steps says
+more : (done : Steps) (allowed : ℕ) → tooMany done allowed ≡ true → stepLimit < total done + allowed
+more done allowed e = ltb-true _ _ e
+
+fewer : (done : Steps) (allowed : ℕ) → tooMany done allowed ≡ false → total done + allowed ≤ stepLimit
+fewer done allowed e = ltb-false _ _ e
+
 too-many-steps : (c : tie.Then5)
     → stepLimit < total (stepsOf (from (c .before .before .before) .args .position)) + from (c .before .before .before) .args .budget
-too-many-steps c = ltb-true _ _ (sym (c .before .too-many .ensures) ∙ c .if5 .taken)
+too-many-steps c = omega (arith, more _ _ (sym (c .before .too-many .ensures) ∙ c .if5 .taken))
 
 few-steps : (c : tie.Else5)
     → total (stepsOf (from (c .before .before .before) .args .position)) + from (c .before .before .before) .args .budget ≤ stepLimit
-few-steps c = ltb-false _ _ (sym (c .before .too-many .ensures) ∙ c .if5 .left)
+few-steps c = omega (arith, fewer _ _ (sym (c .before .too-many .ensures) ∙ c .if5 .left))
 
 refused-requires-5 : tie.Need-refused-requires-5
 refused-requires-5 c κs = search needs

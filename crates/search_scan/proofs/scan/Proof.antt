@@ -9,7 +9,7 @@ use mir.Syntax.{w32}
 use mir.Val.{toZ, ofZ}
 use mir.Facts.{toZ-ofZ}
 use borrow.Author.Needs.{sfits-of, scaled-fits}
-use Rattle.literal.specs.Literals.{countOf}
+use Rattle.literal.specs.Words.{countOf}
 use Rattle.literal.proofs.Signs.{read, back}
 use Rattle.search_rules.specs.Rules.{literal}
 use Rattle.search_scan.specs.Seen.{truthCode}

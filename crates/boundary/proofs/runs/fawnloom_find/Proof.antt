@@ -1,4 +1,5 @@
 use mathlib.Core.Path.{_∙_, ap}
+use Rattle.search.specs.Answers.{answerOf}
 use Rattle.boundary.specs.Numbers.{searchNumbers}
 use borrow.Author.Needs.{needs}
 use Rattle.boundary.proofs.runs.fawnloom_find.Statement.{statement}
@@ -24,8 +25,14 @@ same-length-4 c = search needs
 
 returns : tie.Need-returns
 returns c =
-    let found = c .before .before .before .before .before .before .before .find .ensures in
-    (c .search-numbers .ensures ∙ ap searchNumbers (found .0), found .1 .0)
+    let found = c .before .before .before .before .before .before .before .find in
+    let numbers = c .search-numbers .ensures in (
+      numbers ∙ ap searchNumbers (found .ensures .0),
+      (
+        found .ensures .1 .0,
+        record { answer = answerOf (found .result); finds = found .ensures .1 .1; in-numbers = numbers },
+      ),
+    )
 
 pub fawnloom-find-spec : {M : Type 1} → statement M
 fawnloom-find-spec =

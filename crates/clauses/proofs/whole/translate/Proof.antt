@@ -7,7 +7,7 @@ use Prim.Native.Nat.{ℕ, _+_, _-_}
 use native.Mathlib.Omega.{arith}
 use lib.ListN.{take, length}
 use lib.Seq.{length-take-le}
-use Rattle.literal.specs.Literals.{literalOf}
+use Rattle.literal.specs.Words.{literalOf}
 use Rattle.literal.proofs.Signs.{read, back}
 use Rattle.sheet_rules.specs.Blocks.{sheetOf, root}
 use Rattle.sheet_rules.proofs.Acceptance.{accepted-facts}

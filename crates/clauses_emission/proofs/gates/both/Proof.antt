@@ -1,5 +1,5 @@
 -- `gates::both` meets its contract.
-use Rattle.literal.specs.Literals.{literalOf}
+use Rattle.literal.specs.Words.{literalOf}
 use Rattle.literal.proofs.Signs.{back}
 use Rattle.clauses_rules.specs.Translation as two
 use Rattle.clauses_emission.proofs.Ors.{emits-negated}

@@ -3,7 +3,7 @@ use mathlib.Core.Path.{refl, ap}
 use native.Mathlib.Omega.{arith}
 use mir.Syntax.{w32}
 use mir.Val.{SFits, ofZ}
-use Rattle.literal.specs.Literals.{literalOf}
+use Rattle.literal.specs.Words.{literalOf}
 use Rattle.literal.proofs.Signs.{back, same-as}
 use Rattle.clauses_rules.specs.Translation.{either}
 use Rattle.clauses_emission.specs.Settling.{Tells}

@@ -4,7 +4,8 @@ use mathlib.Core.List.{List, [], _∷_}
 use Prim.Native.Nat.{suc}
 use native.Mathlib.Omega.{arith}
 use lib.IntN.{pos}
-use Rattle.literal.specs.Literals.{Literal, positive, negative, opposite, literalOf}
+use Rattle.literal.specs.Literals.{Literal, positive, negative, opposite}
+use Rattle.literal.specs.Words.{literalOf}
 use Rattle.literal.proofs.Signs.{read, back}
 use Rattle.literal.proofs.Words.{positive-is}
 use Rattle.clauses_rules.specs.Gates.{Clause, gateOf}

@@ -8,7 +8,8 @@ use native.Mathlib.Omega.{arith}
 use lib.IntN.{pos}
 use lib.ListN.{length, getD, take, length-take}
 use lib.Seq.{take-all}
-use Rattle.literal.specs.Literals.{positive, opposite, literalOf}
+use Rattle.literal.specs.Literals.{positive, opposite}
+use Rattle.literal.specs.Words.{literalOf}
 use Rattle.literal.proofs.Signs.{read, back}
 use Rattle.clauses_rules.specs.Gates.{Clause, inputClauses}
 use Rattle.clauses_emission.specs.Emission.{literalsOf, Appends, Inside}

@@ -1,6 +1,7 @@
 -- `gates::implies` meets its contract.
 use mathlib.Core.Path.{_≡_}
-use Rattle.literal.specs.Literals.{opposite, literalOf}
+use Rattle.literal.specs.Literals.{opposite}
+use Rattle.literal.specs.Words.{literalOf}
 use Rattle.literal.proofs.Signs.{read, back}
 use Rattle.clauses_emission.proofs.Ranges.{opposite-read, inside-opposite}
 use borrow.Author.Needs.{needs}

@@ -5,7 +5,8 @@ use native.Mathlib.Omega.{arith}
 use lib.IntN.{ℤ, pos}
 use lib.ListN.{length, getD, take}
 use lib.Seq.{length-take-le, getD-take}
-use Rattle.literal.specs.Literals.{negative, literalOf}
+use Rattle.literal.specs.Literals.{negative}
+use Rattle.literal.specs.Words.{literalOf}
 use Rattle.literal.proofs.Signs.{back}
 use Rattle.clauses_rules.specs.Gates.{orOf, or}
 use Rattle.clauses_emission.specs.Emission.{literalsOf, Inside, Inputs}

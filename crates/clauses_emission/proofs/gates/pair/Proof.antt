@@ -3,7 +3,8 @@ use mathlib.Core.Path.{_≡_, refl, sym, ap}
 use mathlib.Core.List.{List}
 use Prim.Native.Nat.{ℕ}
 use lib.IntN.{ℤ}
-use Rattle.literal.specs.Literals.{Literal, literalOf}
+use Rattle.literal.specs.Literals.{Literal}
+use Rattle.literal.specs.Words.{literalOf}
 use Rattle.literal.proofs.Signs.{back}
 use Rattle.clauses_rules.specs.Translation.{Two}
 use Rattle.clauses_emission.specs.declared.Tape.{Tape}

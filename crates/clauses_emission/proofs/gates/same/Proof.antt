@@ -1,6 +1,6 @@
 -- `gates::same` meets its contract.
 use mathlib.Core.List.{[], _∷_}
-use Rattle.literal.specs.Literals.{literalOf}
+use Rattle.literal.specs.Words.{literalOf}
 use Rattle.literal.proofs.Signs.{back}
 use Rattle.clauses_rules.specs.Builder.{_>>=_}
 use Rattle.clauses_rules.specs.Translation as two

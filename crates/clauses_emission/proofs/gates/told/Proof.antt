@@ -6,7 +6,8 @@ use native.Mathlib.Omega.{arith}
 use lib.IntN.{ℤ, pos, negsuc}
 use mir.Syntax.{w32}
 use mir.Val.{SFits, ofZ}
-use Rattle.literal.specs.Literals.{variable, positive, opposite, literalOf}
+use Rattle.literal.specs.Literals.{positive, opposite}
+use Rattle.literal.specs.Words.{variable, literalOf}
 use Rattle.literal.proofs.Signs.{read, back, same-as, same-word}
 use Rattle.literal.proofs.Same.{one-word}
 use Rattle.clauses_rules.specs.Builder.{return}

@@ -4,7 +4,8 @@ use native.Mathlib.Omega.{arith}
 use lib.IntN.{ℤ}
 use mir.Syntax.{w32}
 use mir.Val.{SFits}
-use Rattle.literal.specs.Literals.{opposite, literalOf, oppositeWord}
+use Rattle.literal.specs.Literals.{opposite}
+use Rattle.literal.specs.Words.{literalOf, oppositeWord}
 use Rattle.literal.proofs.Signs.{read, back}
 use Rattle.clauses_emission.specs.Emission.{Inside}
 use Rattle.clauses_emission.proofs.Ranges.{opposite-read, inside-opposite}

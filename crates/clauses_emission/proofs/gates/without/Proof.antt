@@ -1,6 +1,7 @@
 -- `gates::without` meets its contract.
 use mathlib.Core.List.{[], _∷_}
-use Rattle.literal.specs.Literals.{opposite, literalOf}
+use Rattle.literal.specs.Literals.{opposite}
+use Rattle.literal.specs.Words.{literalOf}
 use Rattle.literal.proofs.Signs.{back}
 use Rattle.clauses_rules.specs.Gates.{or}
 use Rattle.literal.proofs.Same.{opposite-twice}

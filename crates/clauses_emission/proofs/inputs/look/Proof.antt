@@ -9,7 +9,8 @@ use lib.IntN.{pos}
 use lib.ListN.{length, getD, drop}
 use mir.Syntax.{w32}
 use mir.Val.{toZ, ofZ}
-use Rattle.literal.specs.Literals.{opposite, literalOf}
+use Rattle.literal.specs.Literals.{opposite}
+use Rattle.literal.specs.Words.{literalOf}
 use Rattle.literal.proofs.Signs.{back, same-word, same-as}
 use Rattle.literal.proofs.Same.{one-word}
 use Rattle.clauses_rules.specs.Translation.{absent}

@@ -7,7 +7,8 @@ use native.Mathlib.Numerals.{add-one}
 use native.Mathlib.Omega.{arith}
 use lib.IntN.{pos}
 use lib.ListN.{length, getD, take, drop, length-set}
-use Rattle.literal.specs.Literals.{opposite, literalOf}
+use Rattle.literal.specs.Literals.{opposite}
+use Rattle.literal.specs.Words.{literalOf}
 use Rattle.literal.proofs.Signs.{read}
 use Rattle.clauses_emission.specs.Emission.{literalsOf, Inside}
 use Rattle.clauses_emission.proofs.Ranges.{opposite-read, literal-at}

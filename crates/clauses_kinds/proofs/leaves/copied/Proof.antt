@@ -4,7 +4,7 @@ use Rattle.clauses_kinds.specs.Leaves.{Filled, cellFrom}
 use borrow.Author.Needs.{needs}
 use Prim.Native.Nat.{_≤_, _-_}
 use native.Mathlib.Omega.{arith}
-use Rattle.literal.specs.Literals.{literalOf}
+use Rattle.literal.specs.Words.{literalOf}
 use Rattle.literal.proofs.Signs.{back}
 use Rattle.clauses_emission.proofs.Ranges.{literal-of}
 use Rattle.clauses_kinds.proofs.Lists.{filled-none, filled-more, filled-at}

@@ -5,7 +5,7 @@ use native.Mathlib.Omega.{arith}
 use lib.Dec.{eqb}
 use lib.IntN.{ℤ}
 use mathlib.Core.Bool.{cond}
-use Rattle.literal.specs.Literals.{literalOf}
+use Rattle.literal.specs.Words.{literalOf}
 use Rattle.clauses_rules.specs.Translation.{absent}
 use Rattle.relational.proofs.Places.{square, some-column, row-below}
 use Rattle.literal.proofs.Signs.{back}

@@ -1,6 +1,6 @@
 -- `kept` meets its contract, case by case.
 use mathlib.Core.Path.{ap, refl}
-use Rattle.literal.specs.Literals.{literalOf}
+use Rattle.literal.specs.Words.{literalOf}
 use Rattle.literal.proofs.Signs.{back}
 use Rattle.clauses_kinds.proofs.leaves.kept.Statement.{statement}
 use Rattle.clauses_kinds.proofs.leaves.kept.Tie as tie

@@ -2,7 +2,8 @@
 use mathlib.Core.Path.{_≡_, sym, ap, _∙_}
 use mathlib.Core.List.{List, [], _∷_}
 use native.Mathlib.Omega.{arith}
-use Rattle.literal.specs.Literals.{literalOf, opposite}
+use Rattle.literal.specs.Literals.{opposite}
+use Rattle.literal.specs.Words.{literalOf}
 use Rattle.literal.proofs.Signs.{read, back}
 use Rattle.sheet_rules.specs.Blocks.{sheetOf}
 use Rattle.relational.specs.Cells.{memberCell}

@@ -3,7 +3,7 @@ use mathlib.Core.Path.{ap, _∙_}
 use mathlib.Core.List.{_++_}
 use native.Mathlib.Omega.{arith}
 use lib.IntN.{ℤ}
-use Rattle.literal.specs.Literals.{literalOf}
+use Rattle.literal.specs.Words.{literalOf}
 use Rattle.literal.proofs.Signs.{back}
 use Rattle.sheet_rules.specs.Blocks.{sheetOf}
 use Rattle.clauses_emission.specs.Emission.{literalsOf}

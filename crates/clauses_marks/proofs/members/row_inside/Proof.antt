@@ -3,7 +3,8 @@ use mathlib.Core.Path.{_≡_, ap, _∙_}
 use Prim.Native.Nat.{ℕ, _+_, _-_, _*_, _≤_, _<_}
 use native.Mathlib.Omega.{arith}
 use lib.ListN.{getD}
-use Rattle.literal.specs.Literals.{Literal, literalOf}
+use Rattle.literal.specs.Literals.{Literal}
+use Rattle.literal.specs.Words.{literalOf}
 use Rattle.literal.proofs.Signs.{read, back}
 use Rattle.sheet_rules.specs.Blocks.{sheetOf}
 use Rattle.relational.specs.Cells.{cell}

@@ -8,7 +8,7 @@ use native.Mathlib.Omega.{arith}
 use lib.IntN.{pos}
 use borrow.Author.Needs.{needs}
 use lib.ListN.{getD}
-use Rattle.literal.specs.Literals.{literalOf}
+use Rattle.literal.specs.Words.{literalOf}
 use Rattle.literal.proofs.Signs.{back}
 use Rattle.relational.specs.Matrices.{upto, cellAt}
 use Rattle.clauses_rules.specs.Builder.{each}

@@ -10,7 +10,8 @@ use lib.ListN.{length, getD}
 use lib.Seq.{length-take-le}
 use mir.Syntax.{w32, w64}
 use mir.Val.{Fits, SFits, ofZ, toZ}
-use Rattle.literal.specs.Literals.{Literal, literalOf}
+use Rattle.literal.specs.Literals.{Literal}
+use Rattle.literal.specs.Words.{literalOf}
 use Rattle.literal.proofs.Signs.{back}
 use Rattle.relational.specs.Matrices as matrices
 use Rattle.clauses_rules.specs.Builder.{Built, _>>=_, each}

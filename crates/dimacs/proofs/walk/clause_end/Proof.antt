@@ -4,7 +4,7 @@ use native.Mathlib.Omega.{arith}
 use lib.IntN.{pos}
 use lib.ListN.{getD}
 use borrow.Author.Needs.{needs}
-use Rattle.literal.specs.Literals.{countOf}
+use Rattle.literal.specs.Words.{countOf}
 use Rattle.literal.proofs.Signs.{back}
 use Rattle.dimacs.proofs.walk.clause_end.Statement.{statement}
 use Rattle.dimacs.proofs.walk.clause_end.Tie as tie

@@ -7,17 +7,23 @@ use borrow.Author.Needs.{needs}
 use Rattle.text.specs.Puts.{Put}
 use Rattle.text.specs.Texts.{bytesOf, endLine}
 use Rattle.text.proofs.Puts.{put-as}
+use Rattle.sheet_rules.specs.Blocks.{sheetOf}
+use Rattle.sheet_rules.specs.Reading.{reading}
 use Rattle.search.specs.declared.answer.Search.{Search}
 use Rattle.search.specs.Answers.{answerOf, stepsIn}
-use Rattle.report.specs.Printed.{answerText}
+use Rattle.report.specs.Printed.{linesOf, report}
 use Rattle.report.proofs.finder.put_answer.Statement.{statement}
 use Rattle.report.proofs.finder.put_answer.Tie as tie
 
+-- the lines of the instance
+abbrev lines-in : tie.Start → List ℕ
+lines-in s = linesOf (reading (s .args .input .now)) (sheetOf (s .args .input .now)) (s .args .instance .now)
+
 -- what was put, by the case that the end is
 shown : (s : tie.Start) {a : Search} {new : List ℕ} {end : ℕ} → s .args .ended ≡ a
-    → Put (s .args .text .now) 0 (answerText (answerOf a) (s .args .input .now) (s .args .instance .now)) new end
-    → Put (s .args .text .now) 0 (answerText (answerOf (s .args .ended)) (s .args .input .now) (s .args .instance .now)) new end
-shown s e p = put-as (ap (λ (x : Search). answerText (answerOf x) (s .args .input .now) (s .args .instance .now)) (sym e)) p
+    → Put (s .args .text .now) 0 (report (answerOf a) (lines-in s)) new end
+    → Put (s .args .text .now) 0 (report (answerOf (s .args .ended)) (lines-in s)) new end
+shown s e p = put-as (ap (λ (x : Search). report (answerOf x) (lines-in s)) (sym e)) p
 
 enum-known-ended : tie.Need-enum-known-ended
 enum-known-ended c = search needs

@@ -10,7 +10,7 @@ use mir.Val.{Fits, toZ, ofZ}
 use mir.Facts.{toZ-ofZ}
 use borrow.Author.Needs.{needs, sfits-of, scaled-fits}
 use Rattle.clause_list.specs.ClauseList.{clausesOf}
-use Rattle.literal.specs.Literals.{oppositeWord, lastVariable}
+use Rattle.literal.specs.Words.{oppositeWord, lastVariable}
 use Rattle.search_scan.proofs.Words.{place-of}
 use Rattle.search_rules.specs.Held.{Stored}
 use Rattle.search_rules.specs.Inner.{Fine}

@@ -1,7 +1,7 @@
 -- `search_core::steps::decide` meets its contract. Assumes nothing.
 use mathlib.Core.Path.{_≡_, refl, ap, _∙_}
 use lib.IntN.{negsuc}
-use Rattle.literal.specs.Literals.{oppositeWord}
+use Rattle.literal.specs.Words.{oppositeWord}
 use Rattle.literal.proofs.Signs.{read, back}
 use Rattle.search_core.proofs.Slices.{denial}
 use borrow.Author.Needs.{needs}

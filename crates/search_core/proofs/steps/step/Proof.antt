@@ -10,7 +10,7 @@ use mir.Val.{toZ, ofZ}
 use mir.Facts.{toZ-ofZ}
 use borrow.Author.Needs.{needs}
 use Rattle.clause_list.specs.ClauseList.{clausesOf}
-use Rattle.literal.specs.Literals.{lastVariable}
+use Rattle.literal.specs.Words.{lastVariable}
 use Rattle.search_rules.specs.Rules.{propagated, byteOf, placeOf}
 use Rattle.search_rules.specs.Inner.{Fine}
 use Rattle.search_scan.specs.Seen.{seenAs}

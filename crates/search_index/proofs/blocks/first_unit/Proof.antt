@@ -1,6 +1,5 @@
 -- `search_index::blocks::first_unit` meets its contract. Assumes nothing.
 use mathlib.Core.Path.{_∙_}
-use Prim.Native.Nat.{_/_}
 use native.Mathlib.Omega.{arith}
 use lib.ListN.{length-set}
 use borrow.Author.Needs.{needs}
@@ -19,13 +18,13 @@ slice-write-weights c = omega (arith, c .before .before .walk-blocks .ensures .1
 
 same-length : tie.Need-same-length
 same-length c =
-    length-set (c .before .before .walk-blocks .last .0) 17409 (c .before .before .walk-blocks .result / 16)
-    ∙ c .before .before .walk-blocks .ensures .1 .0 .long
+    length-set (c .before .before .walk-blocks .last .0) 17409 _ ∙ c .before .before .walk-blocks .ensures .1 .0 .long
 
 returns : tie.Need-returns
 returns c =
     let e = c .before .before .walk-blocks .ensures in
-    (e .0, begins-there _ _ _ _ (c .before .before .before .before .before .pre .1) (e .0) (e .1 .0) (e .1 .1))
+    let small = c .before .before .before .before .before .pre .1 in
+    (e .0, begins-there _ _ _ _ _ small (e .0) (omega arith) (e .1 .0) (e .1 .1))
 
 pub first-unit-spec : {M : Type 1} → statement M
 first-unit-spec = tie.close (tie.spec walk-blocks-requires cast-weights slice-write-weights same-length returns)

@@ -10,7 +10,7 @@ use lib.IntN.{ℤ, pos}
 use borrow.Author.Needs.{sfits-of}
 use Rattle.prelude.proofs.Laws.{clash}
 use Rattle.clause_list.specs.ClauseList.{clausesOf, wordsOf}
-use Rattle.literal.specs.Literals.{countOf}
+use Rattle.literal.specs.Words.{countOf}
 use Rattle.literal.proofs.Signs.{read, back}
 use Rattle.search_rules.specs.Rules.{placeOf}
 use Rattle.search_rules.specs.Held.{InRange}

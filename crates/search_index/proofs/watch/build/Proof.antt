@@ -8,7 +8,7 @@ use lib.ListN.{length, getD, length-set}
 use lib.IntN.{ℤ, pos}
 use borrow.Author.Needs.{sfits-of}
 use Rattle.clause_list.specs.ClauseList.{clausesOf, wordsOf}
-use Rattle.literal.specs.Literals.{countOf}
+use Rattle.literal.specs.Words.{countOf}
 use Rattle.literal.proofs.Signs.{read, back}
 use Rattle.search_index.specs.Index.{limit, clauseAt, headOf, IsHead, Spot, Linked, Roomy, Stands, weighed, looked, falsesAt, one}
 use Rattle.search_index.proofs.Parts.{count-is, high}

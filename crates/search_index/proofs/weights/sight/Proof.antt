@@ -6,7 +6,7 @@ use native.Mathlib.Omega.{arith}
 use lib.ListN.{length, getD, take, drop}
 use lib.IntN.{ℤ, pos}
 use borrow.Author.Needs.{needs, sfits-of, scaled-fits}
-use Rattle.literal.specs.Literals.{countOf}
+use Rattle.literal.specs.Words.{countOf}
 use Rattle.literal.proofs.Signs.{read, back}
 use Rattle.clause_list.specs.ClauseList.{clausesOf, wordsOf}
 use Rattle.search_scan.specs.Seen.{seen}

@@ -4,7 +4,7 @@ use mathlib.Core.Bool.{Bool, cond}
 use Prim.Native.Nat.{ℕ}
 use mir.Facts.{toZ-ofZ}
 use borrow.Author.Needs.{needs}
-use Rattle.literal.specs.Literals.{isPositive}
+use Rattle.literal.specs.Words.{isPositive}
 use Rattle.search_index.proofs.weights.sign.Statement.{statement}
 use Rattle.search_index.proofs.weights.sign.Tie as tie
 

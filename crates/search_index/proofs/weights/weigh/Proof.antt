@@ -8,7 +8,7 @@ use mir.Syntax.{w32}
 use mir.Val.{toZ, ofZ}
 use mir.Facts.{toZ-ofZ}
 use borrow.Author.Needs.{sfits-of, scaled-fits}
-use Rattle.literal.specs.Literals.{countOf}
+use Rattle.literal.specs.Words.{countOf}
 use Rattle.literal.proofs.Signs.{read, back}
 use Rattle.clause_list.specs.ClauseList.{clausesOf}
 use Rattle.search_index.specs.Index.{clauseAt, IsHead}

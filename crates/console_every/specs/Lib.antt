@@ -1,0 +1,2 @@
+-- What the program `every` does.
+pub mod Listed
