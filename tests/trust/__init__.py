@@ -1,1 +1,1 @@
-"""For tests/trusted: the crates as text, and what their public contracts reach."""
+"""For the tests of promises and documents: the crates as text, and what their public contracts say and reach."""

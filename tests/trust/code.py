@@ -4,24 +4,33 @@ import re
 from .names import Scope, names_in
 
 NO_CODE = re.compile(r'(extern "C")|//[^\n]*|"(?:\\.|[^"\\])*"|\'(?:\\.|[^\\\'])\'')
+STRING = re.compile(r'"(?:\\.|[^"\\])*"')
 USED = re.compile(r"^((?:ghost )?)(?:pub )?use ([^;]+);", re.M)
 FUNCTION = re.compile(r'^[ \t]*(pub(?:\(\w+\))? )?(?:const )?(extern "C" )?fn (\w+)', re.M)
 CLAUSE = re.compile(r"(requires|ensures)\s*(?=\{)")
 TYPE = re.compile(r"^[ \t]*(?:pub(?:\(\w+\))? )?(?:struct|enum) (\w+)\s*(?=[{(;])", re.M)
 CALL = re.compile(r"(?<![\w.:])([a-z_]\w*(?:::[a-z_]\w*)*)\(")
+BRACKETS = {"(": re.compile(r"[()]"), "{": re.compile(r"[{}]")}
 KEYWORDS = {"if", "in", "match", "return", "while"}
+
+
+def blank(text):
+    """As many blanks, in as many lines."""
+    return re.sub(r"[^\n]", " ", text)
 
 
 class Function:
     def __init__(self, source, found):
         self.source, self.name = source, found[3]
         self.public, self.exported = found[1] == "pub ", found[2] is not None
-        self.clauses = {"requires": [], "ensures": []}
+        self.clauses, self.places = {"requires": [], "ensures": []}, []
         at = source.closing(source.code.index("(", found.end()))
-        self.signature = source.code[found.end() : source.code.index("{", at)]
+        head = source.text[found.end() : source.code.index("{", at)]
+        self.signature = re.sub(r"\s(?:requires|ensures)\s*$", "", head)
         for clause in iter(lambda: CLAUSE.search(source.code, at, source.code.index("{", at) + 1), None):
             at = source.closing(clause.end())
-            self.clauses[clause[1]].append(source.code[clause.end() : at])
+            self.clauses[clause[1]].append(source.text[clause.end() : at])
+            self.places.append((clause.start(), at))
         end = source.closing(source.code.index("{", at))
         self.body = source.code[at:end]
         if re.match(r"\s*(\{|requires|ensures)", source.code[end:]):
@@ -29,8 +38,12 @@ class Function:
 
     def promises(self):
         """What its promises name."""
+        return self.named("\n".join(self.clauses["ensures"]))
+
+    def named(self, text):
+        """The definitions and types that a text of its contract names."""
         found = set()
-        for name in names_in("\n".join(self.clauses["ensures"])):
+        for name in names_in(STRING.sub(" ", text)):
             for path in self.source.scope.whole(name):
                 found |= self.source.project.meanings(path, self.source.path)
         return found
@@ -40,7 +53,7 @@ class Function:
 
     def calls(self):
         """The functions of the project that its body calls."""
-        for call in set(CALL.findall(self.body)) - KEYWORDS:
+        for call in sorted(set(CALL.findall(self.body)) - KEYWORDS):
             crate, module, name = self.source.place(call.split("::"))
             if crate in self.source.project.sources:
                 yield from self.source.project.functions(crate, module, name, self.source.path)
@@ -65,7 +78,9 @@ class Source:
     def __init__(self, project, crate, file, inner):
         self.project, self.crate, self.path, self.module = project, crate, project.short(file), inner
         self.scope, self.imports = Scope(), {}
-        self.code = NO_CODE.sub(lambda found: found[1] or " ", file.read_text())
+        text = file.read_text()
+        self.code = NO_CODE.sub(lambda found: found[1] or blank(found[0]), text)
+        self.text = NO_CODE.sub(lambda found: blank(found[0]) if found[0].startswith("//") else found[0], text)
         for ghost, path in USED.findall(self.code):
             if not ghost:
                 self.imports[path.split("::")[-1]] = path.split("::")
@@ -82,10 +97,10 @@ class Source:
     def closing(self, at):
         """The place after the bracket that closes the one at a place."""
         opening, depth = self.code[at], 0
-        for end in range(at, len(self.code)):
-            depth += {opening: 1, {"(": ")", "{": "}"}[opening]: -1}.get(self.code[end], 0)
+        for bracket in BRACKETS[opening].finditer(self.code, at):
+            depth += 1 if bracket[0] == opening else -1
             if depth == 0:
-                return end + 1
+                return bracket.end()
         raise SystemExit(f"{self.path}: a bracket is not closed")
 
     def types_in(self, text):

@@ -3,6 +3,7 @@ import re
 
 # "A name is any run of characters other than spaces and ( ) { } . ; , @ " « »" (antt's primer, 4.1)
 NAME = r'[^\s(){}.;,@"«»]+'
+STRING = re.compile(r'"(?:\\.|[^"\\])*"')
 PATH = re.compile(rf"(\.?)({NAME}(?:\.{NAME})*)")
 LABEL = re.compile(rf"([{{;]\s*){NAME}(?=\s+=\s)")
 USE = re.compile(r"(?:(?:ghost|unfoldable|pub) )*use ([^{};\s]+?)(?:\.\{([^}]*)\})?(?: as (\S+?))? ?;?")
@@ -15,8 +16,8 @@ def forms(name):
 
 
 def names_in(text):
-    """The paths that a text writes. A field (`.x`) is none, nor a label (`x =` in the braces of a record or an argument)."""
-    paths = {path for dot, path in PATH.findall(LABEL.sub(r"\1", text)) if not dot}
+    """The paths that a text writes. A field (`.x`) is none, nor a label (`x =` in the braces of a record)."""
+    paths = {path for dot, path in PATH.findall(LABEL.sub(r"\1", STRING.sub(" ", text))) if not dot}
     return paths.union(*(forms(path) for path in paths if "." not in path))  # `_+` of a section is written for `+`
 
 

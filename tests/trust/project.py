@@ -10,13 +10,23 @@ class Project:
         self.crates, self.problems = root / "crates", []
         self.sources, self.read_specs = {}, {}
         for folder in sorted(path for path in self.crates.iterdir() if path.is_dir()):
-            self.sources[folder.name] = []
-            for file in sorted((folder / "src").rglob("*.rt")):
-                inner = list(file.relative_to(folder / "src").with_suffix("").parts)
-                inner = inner[:-1] if inner[-1] in ("lib", "main", "mod") else inner
-                self.sources[folder.name].append(Source(self, folder.name, file, inner))
+            self.sources[folder.name] = [self.source(file) for file in sorted((folder / "src").rglob("*.rt"))]
         for file in sorted(self.crates.glob("*/specs/**/*.antt")):
             self.spec(file)
+
+    def source(self, file):
+        crate, _, *inner = file.relative_to(self.crates).with_suffix("").parts
+        return Source(self, crate, file, inner[:-1] if inner[-1] in ("lib", "main", "mod") else inner)
+
+    def again(self, file):
+        """Reads a file anew that has changed, and forgets what was told."""
+        self.problems = []
+        if file.suffix == ".rt":
+            made = self.source(file)
+            others = self.sources[made.crate]
+            self.sources[made.crate] = [made if other.path == made.path else other for other in others]
+        elif file in self.read_specs:
+            self.read_specs[file] = Spec(self, file)
 
     def problem(self, text):
         if text not in self.problems:
@@ -42,7 +52,8 @@ class Project:
         return [function for sources in self.sources.values() for source in sources for function in source.functions]
 
     def functions(self, crate, module, name, user):
-        found = [f for f in self.all_functions() if (f.source.crate, f.source.module, f.name) == (crate, module, name)]
+        sources = [source for source in self.sources.get(crate, ()) if source.module == module]
+        found = [function for source in sources for function in source.functions if function.name == name]
         if not found:
             self.problem(f"{user}: there is no function {'::'.join([crate, *module, name])}")
         return found

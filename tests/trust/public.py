@@ -1,9 +1,9 @@
-"""The public contracts, and the statements that the document names."""
+"""The public contracts, and the definition that was asked for."""
 import re
 
 
 def public_calls(project, readme):
-    """The calls of the README's table. They are all functions of their crates' src/lib.rt that are `pub` and ask for nothing."""
+    """The calls of the README's table: all functions of their crates' src/lib.rt that are `pub` and ask for nothing."""
     table = re.search(r"^\| Call \|.*\n\|[-|]+\n((?:\|.*\n)+)", readme, re.M)
     named = re.findall(r"`(\w+(?:::\w+)+)`", table[1] if table else "")
     if not named:
@@ -15,7 +15,7 @@ def public_calls(project, readme):
     for other in project.all_functions():
         if other.source.crate in crates and not other.source.module and other.public and not other.clauses["requires"]:
             if other not in calls:
-                project.problem(f"README.md: the table of calls does not have {other}, which is public and asks for nothing")
+                project.problem(f"README.md: the table of calls does not have {other}, which asks for nothing")
                 calls.append(other)
     for function in exported(project):
         for called in function.calls():
@@ -29,7 +29,8 @@ def exported(project):
 
 
 def printed(project):
-    """What the programs call: on the way down from each `main`, the first functions whose promises have words of the project."""
+    """What the programs call: on the way down from each `main`, the functions whose promises have words of the project,
+    and nothing below such a one that is public."""
     found = {}
     for main in project.all_functions():
         if main.name != "main" or not main.source.path.endswith("/src/main.rt"):
@@ -41,7 +42,7 @@ def printed(project):
                 seen.add(at)
                 if at.promises():
                     last[at] = None
-                else:
+                if not (at.public and at.promises()):
                     ahead += at.calls()
         if not last:
             project.problem(f"{main.source.path}: the program calls nothing that has a contract")
@@ -58,17 +59,6 @@ def roots(project, readme):
         if not function.clauses["ensures"]:
             project.problem(f"{function.source.path}: {function} is public and has no `ensures`")
     return list(dict.fromkeys(library + printed(project)))
-
-
-def statements(project, document):
-    """The definitions that the document names as "stated as `NAME` in `FILE`"."""
-    named = re.findall(r"\bstated\s+as\s+`([^`]+)`\s+in\s+`([^`]+)`", document)
-    if len(named) != len(re.findall(r"\bstated\s+(?:as|in)\b", document)) or not named:
-        project.problem("docs/ARCHITECTURE.md: a statement is named as \"stated as `NAME` in `FILE`\"")
-    found = []
-    for name, path in named:
-        found += definitions(project, path, name)
-    return found
 
 
 def definitions(project, path, name):

@@ -9,8 +9,12 @@ SIGNATURE = re.compile(rf"({NAME})(?: \{{[^}}]*\}})? :(?:\s|$)")
 CONSTRUCTORS = re.compile(rf"^\s+({NAME}(?: {NAME})*) :\s", re.M)
 
 
+def blank(text):
+    return re.sub(r"[^\n]", " ", text)
+
+
 class Definition:
-    """A signature with its clauses, a `data` with its constructors, or a `record`; and the parameters of the blocks around it."""
+    """A signature with its clauses, a `data` with its constructors, or a `record`; and the parameters around it."""
 
     def __init__(self, spec, name):
         self.spec, self.name, self.texts, self.lines = spec, name, [], 0
@@ -32,7 +36,7 @@ class Spec:
         self.scope, self.definitions, self.words = Scope(), [], {}
         text = file.read_text()
         self.count, self.comments = text.count("\n"), text.split("\n")
-        self.read(NO_CODE.sub(lambda found: re.sub(r"[^\n]", " ", found[0]), text).split("\n"), "")
+        self.read(NO_CODE.sub(lambda found: found[0] if found[0][0] == '"' else blank(found[0]), text).split("\n"), "")
 
     def read(self, lines, parameters):
         """Reads the declarations that begin at the least indentation of some lines."""

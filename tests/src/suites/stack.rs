@@ -1,5 +1,5 @@
 //! The deepest sheets through every call and every program, and one whose search goes on by an index (`ways.rs`): the answers are the
-//! reference's, and no more stack is taken than docs/ARCHITECTURE.md states.
+//! reference's, and no more stack is taken than docs/MEASURES.md states.
 
 use super::every::{is_whole, printed_lines};
 use super::programs::clause_text;
@@ -16,7 +16,7 @@ use reference::random_state::{Call, Resume};
 use reference::sheet::{Node, Sheet};
 use std::process::{Command, Stdio};
 
-/// The stated stacks in KB (docs/ARCHITECTURE.md, "Stack").
+/// The stated stacks in KB (docs/MEASURES.md, "Stack").
 const CALLS: [(&str, usize); 11] = [
     ("read", 64),
     ("check", 512),
