@@ -47,8 +47,7 @@ endNumbers end t =
       end = end;
       propagations = t .propagations;
       decisions = t .decisions;
-      backtracks = t
-          .backtracks;
+      backtracks = t .backtracks;
     }
 
 abbrev pub searchNumbers : searched.Answer → SearchAnswer

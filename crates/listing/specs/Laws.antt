@@ -12,8 +12,8 @@ use Rattle.solve_rules.specs.Answers.{instanceAfter}
 use Rattle.solve_rules.specs.Demand3.{FitsLimits, ReadsBack}
 use Rattle.report.specs.Printed.{instanceLines, report, linesOf}
 
--- the lines printed of a case are those of the instance that read-back answers, which is the one of `every-case`
--- (demand 3)
+-- the lines printed of a case are those of the instance that read-back answers, which is the one that
+-- `every-call` of demand 3 speaks of
 abbrev pub ShowsRead : Type 0
 ShowsRead = (s values lent instance : List ℕ) (steps : Steps) → FitsLimits s → ReadsBack s values lent instance
     → report (found steps) (linesOf (reading s) (sheetOf s) (instanceAfter s values lent))

@@ -24,8 +24,8 @@ module _ (sheet : Sheet) (instance : List ℕ) where
 
   -- "`r`, its number, then its rows as digits, separated by single spaces"
   abbrev pub relationLine : ℕ → List ℕ
-  relationLine r = bytesOf "r" ++ (decimal r ++
-      (series (rowCount sheet r) (λ i. bytesOf " " ++ rowDigits r i) ++ bytesOf "\n"))
+  relationLine r =
+      bytesOf "r" ++ (decimal r ++ (series (rowCount sheet r) (λ i. bytesOf " " ++ rowDigits r i) ++ bytesOf "\n"))
 
   -- "a line for each relation"
   unfoldable pub relationLines : List ℕ

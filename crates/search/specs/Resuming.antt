@@ -30,7 +30,8 @@ trailLength (l ∷ trail) = cond (eqb (natAbs l) 0) 0 (suc (trailLength trail))
 -- the record of "its trail length and the steps done so far" that goes with what `search` answers and leaves: the words
 -- of its trail, and the counters of its answer
 abbrev pub recordOf : ℕ → Outcome → Position
-recordOf v o = elim (stepsIn (o .answer))
+recordOf v o =
+    elim (stepsIn (o .answer))
     [ none ↦ start | some steps ↦ positionOf (trailLength (take v (o .trail))) steps ]
 
 abbrev pub withRecord : ℕ → Outcome → Resumption
@@ -39,10 +40,9 @@ withRecord v o = record { outcome = o; position = recordOf v o }
 -- "A record of zeros over open slices is a fresh start": it answers and leaves what `search` does, and the record that
 -- goes with that
 abbrev pub FreshStart : Type 0
-FreshStart = (list : List ℤ) (v : ℕ) (values : List ℕ) (trail : List ℤ) (budget : ℕ) → take v values ≡ valuesOf v []
-    → take v trail ≡ trailOf v []
-    → budget ≤ stepLimit → resumption list v values trail start budget
-    ≡ withRecord v (outcome list v values trail budget)
+FreshStart = (list : List ℤ) (v : ℕ) (values : List ℕ) (trail : List ℤ) (budget : ℕ)
+    → take v values ≡ valuesOf v [] → take v trail ≡ trailOf v [] → budget ≤ stepLimit
+    → resumption list v values trail start budget ≡ withRecord v (outcome list v values trail budget)
 
 -- so a search that was begun by `search`, whatever the slices held, is taken up by a resumed call with that record
 abbrev pub SearchResumed : Type 0

@@ -17,12 +17,8 @@ counter backtrack t = t .backtracks
 unfoldable pub kindsTaken : List (List ℤ) → ℕ → ℕ → State → List Kind
 kindsTaken clauses v zero state = []
 kindsTaken clauses v (suc n) state =
-    elim (next clauses v state) [
-      | endNone ↦ []
-      | endFound ↦
-          []
-      | step kind state' ↦ kind ∷ kindsTaken clauses v n state'
-    ]
+    elim (next clauses v state)
+    [ endNone ↦ [] | endFound ↦ [] | step kind state' ↦ kind ∷ kindsTaken clauses v n state' ]
 
 unfoldable pub sameKind : Kind → Kind → Bool
 sameKind propagation propagation = true

@@ -18,12 +18,8 @@ firstStep clauses v state =
 -- the run of such a call with a budget of n steps, where t counts those done before
 unfoldable pub followingRun : List (List ℤ) → ℕ → ℕ → Steps → State → End
 followingRun clauses v zero t state =
-    elim (firstStep clauses v state) [
-      | endNone ↦ wasNone t
-      | endFound ↦ wasFound t state
-      | step kind state' ↦ wasSpent
-          t state
-    ]
+    elim (firstStep clauses v state)
+    [ endNone ↦ wasNone t | endFound ↦ wasFound t state | step kind state' ↦ wasSpent t state ]
 followingRun clauses v (suc n) t state =
     elim (firstStep clauses v state)
     [ endNone ↦ wasNone t | endFound ↦ wasFound t state | step kind state' ↦ run clauses v n (count kind t) state' ]
@@ -32,12 +28,8 @@ followingRun clauses v (suc n) t state =
 unfoldable pub followingKinds : List (List ℤ) → ℕ → ℕ → State → List Kind
 followingKinds clauses v zero state = []
 followingKinds clauses v (suc n) state =
-    elim (firstStep clauses v state) [
-      | endNone ↦ []
-      | endFound ↦
-          []
-      | step kind state' ↦ kind ∷ kindsTaken clauses v n state'
-    ]
+    elim (firstStep clauses v state)
+    [ endNone ↦ [] | endFound ↦ [] | step kind state' ↦ kind ∷ kindsTaken clauses v n state' ]
 
 -- "For a call for the next, demand 3's "spent" takes the clash into the step rules: a full assignment it starts on is
 -- no end; where a choice is left the turn is the first step, else the end is "none"."
