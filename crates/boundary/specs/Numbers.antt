@@ -16,30 +16,30 @@ use Rattle.boundary.specs.declared.answer.ReadBackAnswer.{ReadBackAnswer}
 use Rattle.boundary.specs.declared.answer.TextAnswer.{TextAnswer}
 
 -- reading
-abbrev pub readNumber : sheets.Answer → ℕ
-readNumber (sheets.accepted layout) = 0
-readNumber (sheets.refused n) = n
+abbrev pub read_number : sheets.Answer → ℕ
+read_number (sheets.accepted layout) = 0
+read_number (sheets.refused n) = n
 
 -- the check of an instance
-abbrev pub checkNumbers : checked.Answer → CheckAnswer
-checkNumbers checked.yes = record { refusal = 0; satisfies = 1 }
-checkNumbers checked.no = record { refusal = 0; satisfies = 0 }
-checkNumbers (checked.refused n) = record { refusal = n; satisfies = 0 }
+abbrev pub check_numbers : checked.Answer → CheckAnswer
+check_numbers checked.yes = record { refusal = 0; satisfies = 1 }
+check_numbers checked.no = record { refusal = 0; satisfies = 0 }
+check_numbers (checked.refused n) = record { refusal = n; satisfies = 0 }
 
 -- what the numbers mean: they are those of the answer that the check must give
 pub record Checked (sheet instance : List ℕ) (numbers : CheckAnswer) : Type 0 where
   pub answer : checked.Answer
   pub answers : checked.CheckAnswers sheet instance answer
-  pub in-numbers : numbers ≡ checkNumbers answer
+  pub in_numbers : numbers ≡ check_numbers answer
 
 -- counting and writing
-abbrev pub countNumbers : counted.Answer → CountAnswer
-countNumbers (counted.fits v c w) = record { refusal = 0; variables = v; clauses = c; words = w }
-countNumbers (counted.refused n) = record { refusal = n; variables = 0; clauses = 0; words = 0 }
+abbrev pub count_numbers : counted.Answer → CountAnswer
+count_numbers (counted.fits v c w) = record { refusal = 0; variables = v; clauses = c; words = w }
+count_numbers (counted.refused n) = record { refusal = n; variables = 0; clauses = 0; words = 0 }
 
 -- the search, and the whole run
-abbrev pub endNumbers : ℕ → Steps → SearchAnswer
-endNumbers end t =
+abbrev pub end_numbers : ℕ → Steps → SearchAnswer
+end_numbers end t =
     record {
       refusal = 0;
       end = end;
@@ -48,25 +48,25 @@ endNumbers end t =
       backtracks = t.backtracks;
     }
 
-abbrev pub searchNumbers : searched.Answer → SearchAnswer
-searchNumbers (searched.found steps) = endNumbers 1 steps
-searchNumbers (searched.none steps) = endNumbers 2 steps
-searchNumbers (searched.spent steps) = endNumbers 3 steps
-searchNumbers (searched.refused n) = record { refusal = n; end = 0; propagations = 0; decisions = 0; backtracks = 0 }
+abbrev pub search_numbers : searched.Answer → SearchAnswer
+search_numbers (searched.found steps) = end_numbers 1 steps
+search_numbers (searched.none steps) = end_numbers 2 steps
+search_numbers (searched.spent steps) = end_numbers 3 steps
+search_numbers (searched.refused n) = record { refusal = n; end = 0; propagations = 0; decisions = 0; backtracks = 0 }
 
 -- what the numbers of the whole run mean: they are those of an answer of which `Finds` holds
 pub record FindsNumbers (s : List ℕ) (lent : Slices) (budget : ℕ) (numbers : SearchAnswer) (left : Slices)
     : Type 0 where
   pub answer : searched.Answer
   pub finds : Finds s lent budget answer left
-  pub in-numbers : numbers ≡ searchNumbers answer
+  pub in_numbers : numbers ≡ search_numbers answer
 
 -- clause text and its size
-abbrev pub textNumbers : text.Answer → TextAnswer
-textNumbers (text.bytes n) = record { refusal = 0; bytes = n }
-textNumbers (text.refused n) = record { refusal = n; bytes = 0 }
+abbrev pub text_numbers : text.Answer → TextAnswer
+text_numbers (text.bytes n) = record { refusal = 0; bytes = n }
+text_numbers (text.refused n) = record { refusal = n; bytes = 0 }
 
 -- read-back
-abbrev pub copyNumbers : back.Answer → ReadBackAnswer
-copyNumbers (back.copied n) = record { refusal = 0; cells = n }
-copyNumbers (back.refused n) = record { refusal = n; cells = 0 }
+abbrev pub copy_numbers : back.Answer → ReadBackAnswer
+copy_numbers (back.copied n) = record { refusal = 0; cells = n }
+copy_numbers (back.refused n) = record { refusal = n; cells = 0 }

@@ -2,14 +2,14 @@
 ghost use Rattle.std.specs.Prelude.{◌≡◌};
 ghost use Rattle.clauses.specs.Answers as counted;
 ghost use Rattle.dimacs.specs.Answers as texts;
-ghost use Rattle.boundary.specs.Numbers.{countNumbers, textNumbers};
+ghost use Rattle.boundary.specs.Numbers.{count_numbers, text_numbers};
 
 use super::answer::{CountAnswer, TextAnswer};
 use clauses::answer::Count;
 use dimacs::answer::TextSize;
 
 fn count_numbers(answer: Count) -> CountAnswer
-    ensures { result ≡ countNumbers (counted.answer_of answer) }
+    ensures { result ≡ count_numbers (counted.answer_of answer) }
 {
     match answer {
         Count::Fits(size) => CountAnswer {
@@ -29,21 +29,21 @@ fn count_numbers(answer: Count) -> CountAnswer
 
 #[unsafe(no_mangle)]
 pub extern "C" fn fawnloom_count(sheet: &[u8]) -> CountAnswer
-    ensures { result ≡ countNumbers (counted.countAnswer sheet.now) }
+    ensures { result ≡ count_numbers (counted.count_answer sheet.now) }
 {
     count_numbers(clauses::count(sheet))
 }
 
 #[unsafe(no_mangle)]
 pub extern "C" fn fawnloom_write(sheet: &[u8], list: &mut [i32]) -> CountAnswer
-    ensures value { result ≡ countNumbers (counted.writeAnswer sheet.now list.old) }
-    ensures list_after { list.new ≡ counted.listAfter sheet.now list.old }
+    ensures value { result ≡ count_numbers (counted.write_answer sheet.now list.old) }
+    ensures list_after { list.new ≡ counted.list_after sheet.now list.old }
 {
     count_numbers(clauses::write(sheet, list))
 }
 
 fn text_numbers(answer: TextSize) -> TextAnswer
-    ensures { result ≡ textNumbers (texts.answer_of answer) }
+    ensures { result ≡ text_numbers (texts.answer_of answer) }
 {
     match answer {
         TextSize::Bytes(n) => TextAnswer {
@@ -59,15 +59,15 @@ fn text_numbers(answer: TextSize) -> TextAnswer
 
 #[unsafe(no_mangle)]
 pub extern "C" fn fawnloom_text_size(list: &[i32], v: u32) -> TextAnswer
-    ensures { result ≡ textNumbers (texts.sizeAnswer v list.now) }
+    ensures { result ≡ text_numbers (texts.size_answer v list.now) }
 {
     text_numbers(dimacs::size(list, v))
 }
 
 #[unsafe(no_mangle)]
 pub extern "C" fn fawnloom_text(list: &[i32], v: u32, text: &mut [u8]) -> TextAnswer
-    ensures value { result ≡ textNumbers (texts.writeAnswer v list.now text.old) }
-    ensures text_after { text.new ≡ texts.textAfter v list.now text.old }
+    ensures value { result ≡ text_numbers (texts.write_answer v list.now text.old) }
+    ensures text_after { text.new ≡ texts.text_after v list.now text.old }
 {
     text_numbers(dimacs::write(list, v, text))
 }

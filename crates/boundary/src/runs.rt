@@ -7,14 +7,14 @@ ghost use Rattle.search.specs.Following.{following};
 ghost use Rattle.solve_rules.specs.Answers as back;
 ghost use Rattle.solve.specs.Answers.{answer_of};
 ghost use Rattle.solve_rules.specs.Finding.{slices, finding};
-ghost use Rattle.boundary.specs.Numbers.{endNumbers, searchNumbers, FindsNumbers, copyNumbers};
+ghost use Rattle.boundary.specs.Numbers.{end_numbers, search_numbers, FindsNumbers, copy_numbers};
 
 use super::answer::{ReadBackAnswer, ResumedAnswer, SearchAnswer};
 use search::answer::{Position, Resumed, Search, Steps};
 use solve::answer::ReadBack;
 
 fn end_numbers(end: u32, steps: Steps) -> SearchAnswer
-    ensures { result ≡ endNumbers end steps }
+    ensures { result ≡ end_numbers end steps }
 {
     SearchAnswer {
         refusal: 0,
@@ -26,7 +26,7 @@ fn end_numbers(end: u32, steps: Steps) -> SearchAnswer
 }
 
 fn search_numbers(answer: Search) -> SearchAnswer
-    ensures { result ≡ searchNumbers (searched.answer_of answer) }
+    ensures { result ≡ search_numbers (searched.answer_of answer) }
 {
     match answer {
         Search::Found(steps) => end_numbers(1, steps),
@@ -50,7 +50,7 @@ pub extern "C" fn fawnloom_search(
     trail: &mut [i32],
     budget: u64,
 ) -> SearchAnswer
-    ensures value { result ≡ searchNumbers (outcome list.now v values.old trail.old budget).answer }
+    ensures value { result ≡ search_numbers (outcome list.now v values.old trail.old budget).answer }
     ensures values_after { values.new ≡ (outcome list.now v values.old trail.old budget).values }
     ensures trail_after { trail.new ≡ (outcome list.now v values.old trail.old budget).trail }
 {
@@ -59,7 +59,7 @@ pub extern "C" fn fawnloom_search(
 
 // The numbers of a call that took up a state.
 fn in_numbers(ended: Resumed) -> ResumedAnswer
-    ensures { (result.answer ≡ searchNumbers (searched.answer_of ended.answer)) × (result.position ≡ ended.position) }
+    ensures { (result.answer ≡ search_numbers (searched.answer_of ended.answer)) × (result.position ≡ ended.position) }
 {
     let end = ended.answer;
     let answer = search_numbers(end);
@@ -77,7 +77,7 @@ fn resumed_answer(
     budget: u64,
 ) -> ResumedAnswer
     ensures answer_value { result.answer
-        ≡ searchNumbers (resumption list.now v values.old trail.old position budget).outcome.answer }
+        ≡ search_numbers (resumption list.now v values.old trail.old position budget).outcome.answer }
     ensures values_after { values.new
         ≡ (resumption list.now v values.old trail.old position budget).outcome.values }
     ensures trail_after { trail.new
@@ -99,7 +99,7 @@ pub extern "C" fn fawnloom_resume(
     budget: u64,
 ) -> SearchAnswer
     ensures value { result
-        ≡ searchNumbers (resumption list.now v values.old trail.old position.old budget).outcome.answer }
+        ≡ search_numbers (resumption list.now v values.old trail.old position.old budget).outcome.answer }
     ensures values_after { values.new
         ≡ (resumption list.now v values.old trail.old position.old budget).outcome.values }
     ensures trail_after { trail.new
@@ -123,7 +123,7 @@ fn followed_answer(
     budget: u64,
 ) -> ResumedAnswer
     ensures answer_value { result.answer
-        ≡ searchNumbers (following list.now v values.old trail.old position budget).outcome.answer }
+        ≡ search_numbers (following list.now v values.old trail.old position budget).outcome.answer }
     ensures values_after { values.new
         ≡ (following list.now v values.old trail.old position budget).outcome.values }
     ensures trail_after { trail.new
@@ -145,7 +145,7 @@ pub extern "C" fn fawnloom_next(
     budget: u64,
 ) -> SearchAnswer
     ensures value { result
-        ≡ searchNumbers (following list.now v values.old trail.old position.old budget).outcome.answer }
+        ≡ search_numbers (following list.now v values.old trail.old position.old budget).outcome.answer }
     ensures values_after { values.new
         ≡ (following list.now v values.old trail.old position.old budget).outcome.values }
     ensures trail_after { trail.new
@@ -160,7 +160,7 @@ pub extern "C" fn fawnloom_next(
 }
 
 fn copy_numbers(answer: ReadBack) -> ReadBackAnswer
-    ensures { result ≡ copyNumbers (answer_of answer) }
+    ensures { result ≡ copy_numbers (answer_of answer) }
 {
     match answer {
         ReadBack::Copied(cells) => ReadBackAnswer { refusal: 0, cells },
@@ -177,8 +177,8 @@ pub extern "C" fn fawnloom_read_back(
     values: &[u8],
     instance: &mut [u8],
 ) -> ReadBackAnswer
-    ensures value { result ≡ copyNumbers (back.readBackAnswer sheet.now values.now instance.old) }
-    ensures instance_after { instance.new ≡ back.instanceAfter sheet.now values.now instance.old }
+    ensures value { result ≡ copy_numbers (back.read_back_answer sheet.now values.now instance.old) }
+    ensures instance_after { instance.new ≡ back.instance_after sheet.now values.now instance.old }
 {
     copy_numbers(solve::read_back(sheet, values, instance))
 }
@@ -192,7 +192,7 @@ pub extern "C" fn fawnloom_find(
     instance: &mut [u8],
     budget: u64,
 ) -> SearchAnswer
-    ensures value { result ≡ searchNumbers
+    ensures value { result ≡ search_numbers
         (finding sheet.now
         (slices list.old values.old trail.old instance.old) budget).answer }
     ensures instance_after { slices list.new values.new trail.new instance.new

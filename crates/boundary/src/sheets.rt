@@ -3,15 +3,15 @@ ghost use Rattle.std.specs.Prelude.{◌≡◌};
 ghost use Rattle.sheet_rules.specs.Reading.{reading};
 ghost use Rattle.sheet.specs.Answers.{answer_of};
 ghost use Rattle.instance.specs.Answers as checked;
-ghost use Rattle.instance.specs.Held.{checkAnswer};
-ghost use Rattle.boundary.specs.Numbers.{readNumber, checkNumbers, Checked};
+ghost use Rattle.instance.specs.Held.{check_answer};
+ghost use Rattle.boundary.specs.Numbers.{read_number, check_numbers, Checked};
 
 use super::answer::CheckAnswer;
 use instance::answer::Check;
 use sheet::answer::Reading;
 
 fn read_number(answer: Reading) -> u32
-    ensures { result ≡ readNumber (answer_of answer) }
+    ensures { result ≡ read_number (answer_of answer) }
 {
     match answer {
         Reading::Accepted(_) => 0,
@@ -22,13 +22,13 @@ fn read_number(answer: Reading) -> u32
 // The number of a sheet's refusal, 0 for an accepted sheet.
 #[unsafe(no_mangle)]
 pub extern "C" fn fawnloom_read(sheet: &[u8]) -> u32
-    ensures { result ≡ readNumber (reading sheet.now) }
+    ensures { result ≡ read_number (reading sheet.now) }
 {
     read_number(sheet::read(sheet))
 }
 
 fn check_numbers(answer: Check) -> CheckAnswer
-    ensures { result ≡ checkNumbers (checked.answer_of answer) }
+    ensures { result ≡ check_numbers (checked.answer_of answer) }
 {
     match answer {
         Check::Yes => CheckAnswer {
@@ -49,7 +49,7 @@ fn check_numbers(answer: Check) -> CheckAnswer
 #[unsafe(no_mangle)]
 pub extern "C" fn fawnloom_check(sheet: &[u8], instance: &[u8]) -> CheckAnswer
     ensures checked { Checked sheet.now instance.now result }
-    ensures value { result ≡ checkNumbers (checkAnswer sheet.now instance.now) }
+    ensures value { result ≡ check_numbers (check_answer sheet.now instance.now) }
 {
     check_numbers(instance::check(sheet, instance))
 }

@@ -1,6 +1,6 @@
 // The blocks of an accepted sheet: each is the part of the sheet where its layout says.
 ghost use Rattle.std.specs.Prelude.{◌≡◌, ◌+◌, ◌≤◌, length, take, drop};
-ghost use Rattle.sheet_rules.specs.Blocks.{sheetOf};
+ghost use Rattle.sheet_rules.specs.Blocks.{sheet_of};
 ghost use Rattle.sheet_rules.specs.Reading.{accepted, reading};
 
 use sheet_rules::Layout;
@@ -16,7 +16,7 @@ fn part(sheet: &[u8], start: usize, size: usize) -> &[u8]
 
 pub fn sorts_of(sheet: &[u8], layout: Layout) -> &[u8]
     requires { reading sheet.now ≡ accepted layout }
-    ensures { result.now ≡ (sheetOf sheet.now).sorts }
+    ensures { result.now ≡ (sheet_of sheet.now).sorts }
 {
     let block = layout.sorts;
     part(sheet, block.start, block.count)
@@ -24,7 +24,7 @@ pub fn sorts_of(sheet: &[u8], layout: Layout) -> &[u8]
 
 pub fn variables_of(sheet: &[u8], layout: Layout) -> &[u8]
     requires { reading sheet.now ≡ accepted layout }
-    ensures { result.now ≡ (sheetOf sheet.now).variables }
+    ensures { result.now ≡ (sheet_of sheet.now).variables }
 {
     let block = layout.variables;
     part(sheet, block.start, block.count)
@@ -32,7 +32,7 @@ pub fn variables_of(sheet: &[u8], layout: Layout) -> &[u8]
 
 pub fn relations_of(sheet: &[u8], layout: Layout) -> &[u8]
     requires { reading sheet.now ≡ accepted layout }
-    ensures { result.now ≡ (sheetOf sheet.now).relations }
+    ensures { result.now ≡ (sheet_of sheet.now).relations }
 {
     let block = layout.relations;
     part(sheet, block.start, 4 * block.count)
@@ -40,7 +40,7 @@ pub fn relations_of(sheet: &[u8], layout: Layout) -> &[u8]
 
 pub fn nodes_of(sheet: &[u8], layout: Layout) -> &[u8]
     requires { reading sheet.now ≡ accepted layout }
-    ensures { result.now ≡ (sheetOf sheet.now).nodes }
+    ensures { result.now ≡ (sheet_of sheet.now).nodes }
 {
     let block = layout.nodes;
     part(sheet, block.start, 3 * block.count)

@@ -3,10 +3,10 @@
 ghost use Rattle.std.specs.Prelude.{◌≡◌, ◌+◌, ◌*◌, ◌≤◌, ◌<◌, leb};
 ghost use Rattle.prelude.specs.Tests.{all};
 ghost use Rattle.sheet_rules.specs.Blocks as spec;
-ghost use Rattle.sheet_rules.specs.Blocks.{sheetOf};
+ghost use Rattle.sheet_rules.specs.Blocks.{sheet_of};
 ghost use Rattle.sheet_rules.specs.Reading.{accepted, reading};
-ghost use Rattle.relational.specs.Cells.{mostCells, members_of, firstMember, rowCount, rowLength, cellCount};
-ghost use Rattle.cells.specs.Private.{Starts, overBounded};
+ghost use Rattle.relational.specs.Cells.{most_cells, members_of, first_member, row_count, row_length, cell_count};
+ghost use Rattle.cells.specs.Private.{Starts, over_bounded};
 
 use blocks::{relations_of, sorts_of, variables_of};
 use prelude::either;
@@ -18,7 +18,7 @@ pub mod blocks; // blocks.rt: the blocks of an accepted sheet
 // The scope of a sort; of one that is not there, 0.
 pub fn scope(sheet: &[u8], layout: Layout, sort: usize) -> usize
     requires { reading sheet.now ≡ accepted layout }
-    ensures { (result ≡ spec.scope (sheetOf sheet.now) sort) × (result ≤ 8) }
+    ensures { (result ≡ spec.scope (sheet_of sheet.now) sort) × (result ≤ 8) }
 {
     scope_at(sorts_of(sheet, layout), sort)
 }
@@ -26,7 +26,7 @@ pub fn scope(sheet: &[u8], layout: Layout, sort: usize) -> usize
 // Whether a sort is bounded.
 pub fn is_bounded(sheet: &[u8], layout: Layout, sort: usize) -> bool
     requires { reading sheet.now ≡ accepted layout }
-    ensures { result ≡ spec.isBounded (sheetOf sheet.now) sort }
+    ensures { result ≡ spec.is_bounded (sheet_of sheet.now) sort }
 {
     129 <= byte(sorts_of(sheet, layout), sort)
 }
@@ -34,7 +34,7 @@ pub fn is_bounded(sheet: &[u8], layout: Layout, sort: usize) -> bool
 // The membership cells of a sort.
 fn members_of(sheet: &[u8], layout: Layout, sort: usize) -> usize
     requires { reading sheet.now ≡ accepted layout }
-    ensures { (result ≡ members_of (sheetOf sheet.now) sort) × (result ≤ 8) }
+    ensures { (result ≡ members_of (sheet_of sheet.now) sort) × (result ≤ 8) }
 {
     if is_bounded(sheet, layout, sort) {
         return scope(sheet, layout, sort);
@@ -46,7 +46,7 @@ fn members_of(sheet: &[u8], layout: Layout, sort: usize) -> usize
 pub fn first_member(sheet: &[u8], layout: Layout, sort: usize) -> usize
     requires sheet_value { reading sheet.now ≡ accepted layout }
     requires sort_bound { sort ≤ 8 }
-    ensures { (result ≡ firstMember (sheetOf sheet.now) sort) × (result ≤ 8 * sort) }
+    ensures { (result ≡ first_member (sheet_of sheet.now) sort) × (result ≤ 8 * sort) }
 {
     let mut count: usize = 0;
     let mut k: usize = 0;
@@ -60,7 +60,7 @@ pub fn first_member(sheet: &[u8], layout: Layout, sort: usize) -> usize
 // The sort of variable x.
 pub fn sort_of_variable(sheet: &[u8], layout: Layout, x: usize) -> usize
     requires { reading sheet.now ≡ accepted layout }
-    ensures { result ≡ spec.sortOf (sheetOf sheet.now) x }
+    ensures { result ≡ spec.sort_of (sheet_of sheet.now) x }
 {
     byte(variables_of(sheet, layout), x)
 }
@@ -68,7 +68,7 @@ pub fn sort_of_variable(sheet: &[u8], layout: Layout, x: usize) -> usize
 // The scope of variable x's sort.
 pub fn scope_of_variable(sheet: &[u8], layout: Layout, x: usize) -> usize
     requires { reading sheet.now ≡ accepted layout }
-    ensures { (result ≡ spec.scope (sheetOf sheet.now) (spec.sortOf (sheetOf sheet.now) x)) × (result ≤ 8) }
+    ensures { (result ≡ spec.scope (sheet_of sheet.now) (spec.sort_of (sheet_of sheet.now) x)) × (result ≤ 8) }
 {
     scope(sheet, layout, sort_of_variable(sheet, layout, x))
 }
@@ -77,7 +77,7 @@ pub fn scope_of_variable(sheet: &[u8], layout: Layout, x: usize) -> usize
 fn declared(sheet: &[u8], layout: Layout, r: usize, k: usize) -> usize
     requires sheet_value { reading sheet.now ≡ accepted layout }
     requires r_bound { (r < 256) × (k < 4) }
-    ensures { result ≡ spec.byte (sheetOf sheet.now).relations (4 * r + k) }
+    ensures { result ≡ spec.byte (sheet_of sheet.now).relations (4 * r + k) }
 {
     field(relations_of(sheet, layout), 4, r, k)
 }
@@ -86,7 +86,7 @@ fn declared(sheet: &[u8], layout: Layout, r: usize, k: usize) -> usize
 pub fn arity(sheet: &[u8], layout: Layout, r: usize) -> usize
     requires sheet_value { reading sheet.now ≡ accepted layout }
     requires r_bound { r < 256 }
-    ensures { result ≡ spec.columns (sheetOf sheet.now) r }
+    ensures { result ≡ spec.columns (sheet_of sheet.now) r }
 {
     declared(sheet, layout, r, 0)
 }
@@ -95,7 +95,7 @@ pub fn arity(sheet: &[u8], layout: Layout, r: usize) -> usize
 pub fn multiplicity(sheet: &[u8], layout: Layout, r: usize) -> usize
     requires sheet_value { reading sheet.now ≡ accepted layout }
     requires r_bound { r < 256 }
-    ensures { result ≡ spec.multiplicity (sheetOf sheet.now) r }
+    ensures { result ≡ spec.multiplicity (sheet_of sheet.now) r }
 {
     declared(sheet, layout, r, 1)
 }
@@ -104,7 +104,7 @@ pub fn multiplicity(sheet: &[u8], layout: Layout, r: usize) -> usize
 pub fn first_sort(sheet: &[u8], layout: Layout, r: usize) -> usize
     requires sheet_value { reading sheet.now ≡ accepted layout }
     requires r_bound { r < 256 }
-    ensures { result ≡ spec.firstSort (sheetOf sheet.now) r }
+    ensures { result ≡ spec.first_sort (sheet_of sheet.now) r }
 {
     declared(sheet, layout, r, 2)
 }
@@ -113,7 +113,7 @@ pub fn first_sort(sheet: &[u8], layout: Layout, r: usize) -> usize
 pub fn second_sort(sheet: &[u8], layout: Layout, r: usize) -> usize
     requires sheet_value { reading sheet.now ≡ accepted layout }
     requires r_bound { r < 256 }
-    ensures { result ≡ spec.secondSort (sheetOf sheet.now) r }
+    ensures { result ≡ spec.second_sort (sheet_of sheet.now) r }
 {
     declared(sheet, layout, r, 3)
 }
@@ -123,7 +123,7 @@ pub fn second_sort(sheet: &[u8], layout: Layout, r: usize) -> usize
 pub fn over_bounded(sheet: &[u8], layout: Layout, r: usize) -> bool
     requires sheet_value { reading sheet.now ≡ accepted layout }
     requires r_bound { r < 256 }
-    ensures { result ≡ overBounded (sheetOf sheet.now) r }
+    ensures { result ≡ over_bounded (sheet_of sheet.now) r }
 {
     either(
         is_bounded(sheet, layout, first_sort(sheet, layout, r)),
@@ -135,7 +135,7 @@ pub fn over_bounded(sheet: &[u8], layout: Layout, r: usize) -> bool
 pub fn row_count(sheet: &[u8], layout: Layout, r: usize) -> usize
     requires sheet_value { reading sheet.now ≡ accepted layout }
     requires r_bound { r < 256 }
-    ensures { (result ≡ rowCount (sheetOf sheet.now) r) × (result ≤ 8) }
+    ensures { (result ≡ row_count (sheet_of sheet.now) r) × (result ≤ 8) }
 {
     if arity(sheet, layout, r) == 1 {
         return 1;
@@ -147,7 +147,7 @@ pub fn row_count(sheet: &[u8], layout: Layout, r: usize) -> usize
 pub fn row_length(sheet: &[u8], layout: Layout, r: usize) -> usize
     requires sheet_value { reading sheet.now ≡ accepted layout }
     requires r_bound { r < 256 }
-    ensures { (result ≡ rowLength (sheetOf sheet.now) r) × (result ≤ 8) }
+    ensures { (result ≡ row_length (sheet_of sheet.now) r) × (result ≤ 8) }
 {
     if arity(sheet, layout, r) == 1 {
         return scope(sheet, layout, first_sort(sheet, layout, r));
@@ -168,8 +168,8 @@ pub struct Cells {
 // All of these, in one pass.
 pub fn first_cells(sheet: &[u8], layout: Layout) -> Cells
     requires { reading sheet.now ≡ accepted layout }
-    ensures { (result.count ≡ cellCount (sheetOf sheet.now)) ×
-        ((result.count ≤ mostCells) × Starts (sheetOf sheet.now) result.starts) }
+    ensures { (result.count ≡ cell_count (sheet_of sheet.now)) ×
+        ((result.count ≤ most_cells) × Starts (sheet_of sheet.now) result.starts) }
 {
     let relations = layout.relations;
     let n = relations.count;
@@ -189,7 +189,7 @@ pub fn first_cells(sheet: &[u8], layout: Layout) -> Cells
 // All cells of an accepted sheet.
 pub fn cell_count(sheet: &[u8], layout: Layout) -> usize
     requires { reading sheet.now ≡ accepted layout }
-    ensures { (result ≡ cellCount (sheetOf sheet.now)) × (result ≤ mostCells) }
+    ensures { (result ≡ cell_count (sheet_of sheet.now)) × (result ≤ most_cells) }
 {
     let cells = first_cells(sheet, layout);
     cells.count

@@ -13,8 +13,8 @@ use borrow.Author.Tests.{leb-true, le-leb, lt-leb}
 use Rattle.prelude.specs.Tests.{between, all}
 use Rattle.prelude.proofs.Laws.{clash, and_left, and_right, and_both, and-rest, and-not-left, and-not-right}
 use Rattle.prelude.proofs.Laws.{between-low, between-high, is-between, below-not-between, above-not-between}
-use Rattle.literal.specs.Literals.{isLiteral}
-use Rattle.clause_list.specs.ClauseList.{cut, clausesOf, words_of, isCount, wellCut, isList}
+use Rattle.literal.specs.Literals.{is_literal}
+use Rattle.clause_list.specs.ClauseList.{cut, clauses_of, words_of, is_count, well_cut, is_list}
 
 -- any number of rounds that is not below the words cuts the same clauses
 pub cut-rounds : (r s : ℕ) (ws : List ℤ) → length ws ≤ r → length ws ≤ s → cut r ws ≡ cut s ws
@@ -30,8 +30,8 @@ cut-rounds (suc r) (suc s) (count ∷ ws) g h =
     ap (λ (cs : List (List ℤ)). take n ws ∷ cs)
     (cut-rounds r s (drop n ws) (omega (arith, length-drop n ws)) (omega (arith, length-drop n ws)))
 
-pub well-cut-rounds : (v r s : ℕ) (ws : List ℤ) → length ws ≤ r → length ws ≤ s → wellCut v r ws ≡ wellCut v s ws
-unfolding wellCut
+pub well-cut-rounds : (v r s : ℕ) (ws : List ℤ) → length ws ≤ r → length ws ≤ s → well_cut v r ws ≡ well_cut v s ws
+unfolding well_cut
 well-cut-rounds v zero zero ws g h = refl
 well-cut-rounds v zero (suc s) [] g h = refl
 well-cut-rounds v zero (suc s) (count ∷ ws) g h = absurd (not-suc-le-zero g)
@@ -40,48 +40,48 @@ well-cut-rounds v (suc r) zero (count ∷ ws) g h = absurd (not-suc-le-zero h)
 well-cut-rounds v (suc r) (suc s) [] g h = refl
 well-cut-rounds v (suc r) (suc s) (count ∷ ws) g h =
     let n = nat_abs count in
-    ap (λ (b : Bool). isCount (length ws) count && (all (isLiteral v) (take n ws) && b))
+    ap (λ (b : Bool). is_count (length ws) count && (all (is_literal v) (take n ws) && b))
     (well-cut-rounds v r s (drop n ws) (omega (arith, length-drop n ws)) (omega (arith, length-drop n ws)))
 
 -- a list in its own number of rounds
-abbrev pub wellCutWords : ℕ → List ℤ → Bool
-wellCutWords v ws = wellCut v (length ws) ws
+abbrev pub well_cut_words : ℕ → List ℤ → Bool
+well_cut_words v ws = well_cut v (length ws) ws
 
-pub clauses-nil : clausesOf [] ≡ []
+pub clauses-nil : clauses_of [] ≡ []
 unfolding cut
 clauses-nil = refl
 
 pub clauses-cons : (count : ℤ) (ws : List ℤ)
-    → clausesOf (count ∷ ws) ≡ take (nat_abs count) ws ∷ clausesOf (drop (nat_abs count) ws)
+    → clauses_of (count ∷ ws) ≡ take (nat_abs count) ws ∷ clauses_of (drop (nat_abs count) ws)
 unfolding cut
 clauses-cons count ws =
     let n = nat_abs count in
     ap (λ (cs : List (List ℤ)). take n ws ∷ cs)
     (cut-rounds (length ws) (length (drop n ws)) (drop n ws) (omega (arith, length-drop n ws)) (le_refl (length (drop n ws))))
 
-pub well-cut-nil : (v : ℕ) → wellCutWords v [] ≡ true
-unfolding wellCut
+pub well-cut-nil : (v : ℕ) → well_cut_words v [] ≡ true
+unfolding well_cut
 well-cut-nil v = refl
 
 pub well-cut-cons : (v : ℕ) (count : ℤ) (ws : List ℤ)
-    → wellCutWords v (count ∷ ws)
-    ≡ (isCount (length ws) count && (all (isLiteral v) (take (nat_abs count) ws) && wellCutWords v (drop (nat_abs count) ws)))
-unfolding wellCut
+    → well_cut_words v (count ∷ ws)
+    ≡ (is_count (length ws) count && (all (is_literal v) (take (nat_abs count) ws) && well_cut_words v (drop (nat_abs count) ws)))
+unfolding well_cut
 well-cut-cons v count ws =
     let n = nat_abs count in
-    ap (λ (b : Bool). isCount (length ws) count && (all (isLiteral v) (take n ws) && b))
+    ap (λ (b : Bool). is_count (length ws) count && (all (is_literal v) (take n ws) && b))
     (well-cut-rounds v (length ws) (length (drop n ws)) (drop n ws) (omega (arith, length-drop n ws)) (le_refl (length (drop n ws))))
 
 -- a count that passes
-pub count_word : (left : ℕ) (count : ℤ) → isCount left count ≡ true → count ≡ pos (nat_abs count)
+pub count_word : (left : ℕ) (count : ℤ) → is_count left count ≡ true → count ≡ pos (nat_abs count)
 count_word left (pos n) e = refl
 count_word left (negsuc n) e = clash false e refl
 
-pub count_low : (left : ℕ) (count : ℤ) → isCount left count ≡ true → 1 ≤ nat_abs count
+pub count_low : (left : ℕ) (count : ℤ) → is_count left count ≡ true → 1 ≤ nat_abs count
 count_low left (pos n) e = between-low 1 left n e
 count_low left (negsuc n) e = clash false e refl
 
-pub count-high : (left : ℕ) (count : ℤ) → isCount left count ≡ true → nat_abs count ≤ left
+pub count-high : (left : ℕ) (count : ℤ) → is_count left count ≡ true → nat_abs count ≤ left
 count-high left (pos n) e = between-high 1 left n e
 count-high left (negsuc n) e = clash false e refl
 
@@ -90,29 +90,29 @@ pub record ClauseAt (v : ℕ) (ws : List ℤ) (at n : ℕ) : Type 0 where
   pub head : get_or ws at (pos 0) ≡ pos n
   pub some : 1 ≤ n
   pub fits : suc (at + n) ≤ length ws
-  pub literals : all (isLiteral v) (take n (drop (suc at) ws)) ≡ true
-  pub clauses : clausesOf (drop at ws) ≡ take n (drop (suc at) ws) ∷ clausesOf (drop (suc (at + n)) ws)
-  pub rest : wellCutWords v (drop (suc (at + n)) ws) ≡ true
+  pub literals : all (is_literal v) (take n (drop (suc at) ws)) ≡ true
+  pub clauses : clauses_of (drop at ws) ≡ take n (drop (suc at) ws) ∷ clauses_of (drop (suc (at + n)) ws)
+  pub rest : well_cut_words v (drop (suc (at + n)) ws) ≡ true
 
-module _ (v : ℕ) (ws : List ℤ) (at : ℕ) (h : at < length ws) (e : wellCutWords v (drop at ws) ≡ true) where
+module _ (v : ℕ) (ws : List ℤ) (at : ℕ) (h : at < length ws) (e : well_cut_words v (drop at ws) ≡ true) where
   pub clause-at : ClauseAt v ws at (nat_abs (get_or ws at (pos 0)))
   clause-at =
       let count = get_or ws at (pos 0) in
       let n = nat_abs count in
       let tail = drop (suc at) ws in
       let d : drop at ws ≡ count ∷ tail = drop-cons ws at (pos 0) h in
-      let w : (isCount (length tail) count && (all (isLiteral v) (take n tail) && wellCutWords v (drop n tail))) ≡ true
-      = sym (well-cut-cons v count tail) ∙ ap (wellCutWords v) (sym d) ∙ e in
-      let c : isCount (length tail) count ≡ true = and_left (isCount (length tail) count) _ w in
-      let r : (all (isLiteral v) (take n tail) && wellCutWords v (drop n tail)) ≡ true = and_right (isCount (length tail) count) _ w in
+      let w : (is_count (length tail) count && (all (is_literal v) (take n tail) && well_cut_words v (drop n tail))) ≡ true
+      = sym (well-cut-cons v count tail) ∙ ap (well_cut_words v) (sym d) ∙ e in
+      let c : is_count (length tail) count ≡ true = and_left (is_count (length tail) count) _ w in
+      let r : (all (is_literal v) (take n tail) && well_cut_words v (drop n tail)) ≡ true = and_right (is_count (length tail) count) _ w in
       let m : drop n tail ≡ drop (suc (at + n)) ws = drop-drop n (suc at) ws ∙ ap (λ (k : ℕ). drop k ws) (suc-add at n) in
       record {
         head = count_word (length tail) count c;
         some = count_low (length tail) count c;
         fits = omega (arith, count-high (length tail) count c, length-drop (suc at) ws);
-        literals = and_left (all (isLiteral v) (take n tail)) _ r;
-        clauses = ap clausesOf d ∙ clauses-cons count tail ∙ ap (λ (l : List ℤ). take n tail ∷ clausesOf l) m;
-        rest = rw m at (and_right (all (isLiteral v) (take n tail)) _ r);
+        literals = and_left (all (is_literal v) (take n tail)) _ r;
+        clauses = ap clauses_of d ∙ clauses-cons count tail ∙ ap (λ (l : List ℤ). take n tail ∷ clauses_of l) m;
+        rest = rw m at (and_right (all (is_literal v) (take n tail)) _ r);
       }
 
 -- each clause takes a word at least
@@ -122,28 +122,28 @@ cut-few zero ws = omega arith
 cut-few (suc r) [] = omega arith
 cut-few (suc r) (count ∷ ws) = omega (arith, cut-few r (drop (nat_abs count) ws))
 
-pub clauses-few : (ws : List ℤ) → length (clausesOf ws) ≤ length ws
+pub clauses-few : (ws : List ℤ) → length (clauses_of ws) ≤ length ws
 clauses-few ws = cut-few (length ws) ws
 
 -- each clause has a literal, and each literal is one of the variables 1 to v
-abbrev pub hasLiteral : List ℤ → Bool
-hasLiteral clause = leb 1 (length clause)
+abbrev pub has_literal : List ℤ → Bool
+has_literal clause = leb 1 (length clause)
 
-pub clauses-literals : (v r : ℕ) (ws : List ℤ) → wellCut v r ws ≡ true → all (all (isLiteral v)) (cut r ws) ≡ true
-unfolding cut wellCut all
+pub clauses-literals : (v r : ℕ) (ws : List ℤ) → well_cut v r ws ≡ true → all (all (is_literal v)) (cut r ws) ≡ true
+unfolding cut well_cut all
 clauses-literals v zero ws e = refl
 clauses-literals v (suc r) [] e = refl
 clauses-literals v (suc r) (count ∷ ws) e =
     let n = nat_abs count in
-    let s = and_right (isCount (length ws) count) (all (isLiteral v) (take n ws) && wellCut v r (drop n ws)) e in
-    and_both (all (isLiteral v) (take n ws)) (all (all (isLiteral v)) (cut r (drop n ws)))
-    (and_left (all (isLiteral v) (take n ws)) (wellCut v r (drop n ws)) s)
-    (clauses-literals v r (drop n ws) (and_right (all (isLiteral v) (take n ws)) (wellCut v r (drop n ws)) s))
+    let s = and_right (is_count (length ws) count) (all (is_literal v) (take n ws) && well_cut v r (drop n ws)) e in
+    and_both (all (is_literal v) (take n ws)) (all (all (is_literal v)) (cut r (drop n ws)))
+    (and_left (all (is_literal v) (take n ws)) (well_cut v r (drop n ws)) s)
+    (clauses-literals v r (drop n ws) (and_right (all (is_literal v) (take n ws)) (well_cut v r (drop n ws)) s))
 
 -- what number 12 lets pass
-module _ (v : ℕ) (ws : List ℤ) (e : isList v ws ≡ true) where
+module _ (v : ℕ) (ws : List ℤ) (e : is_list v ws ≡ true) where
   pub list-variables : between 1 16000 v ≡ true
-  unfolding isList
+  unfolding is_list
   list-variables = and_left (between 1 16000 v) _ e
 
   pub list-some-variable : 1 ≤ v
@@ -153,32 +153,32 @@ module _ (v : ℕ) (ws : List ℤ) (e : isList v ws ≡ true) where
   list-most-variables = between-high 1 16000 v list-variables
 
   pub list-most-words : length ws ≤ 2147483647
-  unfolding isList
+  unfolding is_list
   list-most-words = leb-true (length ws) 2147483647 (and_left (leb (length ws) 2147483647) _ (and_right (between 1 16000 v) _ e))
 
-  pub list-well-cut : wellCutWords v ws ≡ true
-  unfolding isList
+  pub list-well-cut : well_cut_words v ws ≡ true
+  unfolding is_list
   list-well-cut = and_right (leb (length ws) 2147483647) _ (and_right (between 1 16000 v) _ e)
 
-  pub list-literals : all (all (isLiteral v)) (clausesOf ws) ≡ true
+  pub list-literals : all (all (is_literal v)) (clauses_of ws) ≡ true
   list-literals = clauses-literals v (length ws) ws list-well-cut
 
 -- the tests before the cut, in their order
 module _ (v : ℕ) (ws : List ℤ) where
-  pub no-variable : v < 1 → isList v ws ≡ false
-  unfolding isList
+  pub no-variable : v < 1 → is_list v ws ≡ false
+  unfolding is_list
   no-variable h = and-not-left (between 1 16000 v) _ (below-not-between 1 16000 v h)
 
-  pub many-variables : 16000 < v → isList v ws ≡ false
-  unfolding isList
+  pub many-variables : 16000 < v → is_list v ws ≡ false
+  unfolding is_list
   many-variables h = and-not-left (between 1 16000 v) _ (above-not-between 1 16000 v h)
 
-  pub many-words : 2147483647 < length ws → isList v ws ≡ false
-  unfolding isList
+  pub many-words : 2147483647 < length ws → is_list v ws ≡ false
+  unfolding is_list
   many-words h = and-not-right (between 1 16000 v) _ (and-not-left (leb (length ws) 2147483647) _ (lt-leb (length ws) 2147483647 h))
 
-  pub list-cut : 1 ≤ v → v ≤ 16000 → length ws ≤ 2147483647 → isList v ws ≡ wellCutWords v ws
-  unfolding isList
+  pub list-cut : 1 ≤ v → v ≤ 16000 → length ws ≤ 2147483647 → is_list v ws ≡ well_cut_words v ws
+  unfolding is_list
   list-cut l h k =
       and-rest (between 1 16000 v) _ (is-between 1 16000 v l h) ∙ and-rest (leb (length ws) 2147483647) _ (le-leb (length ws) 2147483647 k)
 
@@ -190,7 +190,7 @@ words_append (c ∷ cs) ds =
     ap (λ (ws : List ℤ). pos (length c) ∷ (c ++ ws)) (words_append cs ds)
     ∙ ap (λ (ws : List ℤ). pos (length c) ∷ ws) (sym (append_assoc c (words_of cs) (words_of ds)))
 
-pub clauses-words-append : (cs : List (List ℤ)) (ws : List ℤ) → clausesOf (words_of cs ++ ws) ≡ cs ++ clausesOf ws
+pub clauses-words-append : (cs : List (List ℤ)) (ws : List ℤ) → clauses_of (words_of cs ++ ws) ≡ cs ++ clauses_of ws
 unfolding words_of
 clauses-words-append [] ws = refl
 clauses-words-append (c ∷ cs) ws =
@@ -198,45 +198,45 @@ clauses-words-append (c ∷ cs) ws =
     clauses-cons (pos (length c)) (c ++ words_of cs ++ ws)
     ∙ rw (append_assoc c (words_of cs) ws, take-append_seam c tail, drop-append_seam c tail, clauses-words-append cs ws)
 
-pub clauses-words : (cs : List (List ℤ)) → clausesOf (words_of cs) ≡ cs
+pub clauses-words : (cs : List (List ℤ)) → clauses_of (words_of cs) ≡ cs
 clauses-words cs =
-    ap clausesOf (sym (append-nil (words_of cs))) ∙ clauses-words-append cs [] ∙ ap (λ (ds : List (List ℤ)). cs ++ ds) clauses-nil ∙ append-nil cs
+    ap clauses_of (sym (append-nil (words_of cs))) ∙ clauses-words-append cs [] ∙ ap (λ (ds : List (List ℤ)). cs ++ ds) clauses-nil ∙ append-nil cs
 
-pub well-cut-words : (v : ℕ) (cs : List (List ℤ)) → all hasLiteral cs ≡ true → all (all (isLiteral v)) cs ≡ true
-    → wellCutWords v (words_of cs) ≡ true
+pub well-cut-words : (v : ℕ) (cs : List (List ℤ)) → all has_literal cs ≡ true → all (all (is_literal v)) cs ≡ true
+    → well_cut_words v (words_of cs) ≡ true
 unfolding words_of all
 well-cut-words v [] s e = well-cut-nil v
 well-cut-words v (c ∷ cs) s e =
     let tail = words_of cs in
     well-cut-cons v (pos (length c)) (c ++ tail)
     ∙ rw (take-append_seam c tail, drop-append_seam c tail)
-    (and_both (isCount (length (c ++ tail)) (pos (length c))) (all (isLiteral v) c && wellCutWords v tail)
+    (and_both (is_count (length (c ++ tail)) (pos (length c))) (all (is_literal v) c && well_cut_words v tail)
     (is-between 1 (length (c ++ tail)) (length c)
-    (leb-true 1 (length c) (and_left (hasLiteral c) (all hasLiteral cs) s))
+    (leb-true 1 (length c) (and_left (has_literal c) (all has_literal cs) s))
     (omega (arith, length-append c tail)))
-    (and_both (all (isLiteral v) c) (wellCutWords v tail)
-    (and_left (all (isLiteral v) c) (all (all (isLiteral v)) cs) e)
+    (and_both (all (is_literal v) c) (well_cut_words v tail)
+    (and_left (all (is_literal v) c) (all (all (is_literal v)) cs) e)
     (well-cut-words v cs
-    (and_right (hasLiteral c) (all hasLiteral cs) s)
-    (and_right (all (isLiteral v) c) (all (all (isLiteral v)) cs) e))))
+    (and_right (has_literal c) (all has_literal cs) s)
+    (and_right (all (is_literal v) c) (all (all (is_literal v)) cs) e))))
 
 pub words-list : (v : ℕ) (cs : List (List ℤ)) → 1 ≤ v → v ≤ 16000 → length (words_of cs) ≤ 2147483647
-    → all hasLiteral cs ≡ true → all (all (isLiteral v)) cs ≡ true → isList v (words_of cs) ≡ true
+    → all has_literal cs ≡ true → all (all (is_literal v)) cs ≡ true → is_list v (words_of cs) ≡ true
 words-list v cs l h k s e = list-cut v (words_of cs) l h k ∙ well-cut-words v cs s e
 
 -- a list that is well cut is the words of its clauses
-pub words-clauses : (v r : ℕ) (ws : List ℤ) → length ws ≤ r → wellCut v r ws ≡ true → words_of (cut r ws) ≡ ws
-unfolding cut wellCut words_of
+pub words-clauses : (v r : ℕ) (ws : List ℤ) → length ws ≤ r → well_cut v r ws ≡ true → words_of (cut r ws) ≡ ws
+unfolding cut well_cut words_of
 words-clauses v zero [] h e = refl
 words-clauses v zero (count ∷ ws) h e = absurd (not-suc-le-zero h)
 words-clauses v (suc r) [] h e = refl
 words-clauses v (suc r) (count ∷ ws) h e =
     let n = nat_abs count in
-    let c = and_left (isCount (length ws) count) (all (isLiteral v) (take n ws) && wellCut v r (drop n ws)) e in
-    let s = and_right (isCount (length ws) count) (all (isLiteral v) (take n ws) && wellCut v r (drop n ws)) e in
-    let i = words-clauses v r (drop n ws) (omega (arith, length-drop n ws)) (and_right (all (isLiteral v) (take n ws)) (wellCut v r (drop n ws)) s) in
+    let c = and_left (is_count (length ws) count) (all (is_literal v) (take n ws) && well_cut v r (drop n ws)) e in
+    let s = and_right (is_count (length ws) count) (all (is_literal v) (take n ws) && well_cut v r (drop n ws)) e in
+    let i = words-clauses v r (drop n ws) (omega (arith, length-drop n ws)) (and_right (all (is_literal v) (take n ws)) (well_cut v r (drop n ws)) s) in
     let l : length (take n ws) ≡ n = length-take-le n ws (count-high (length ws) count c) in
     rw (l, i, take-append-drop n ws, ← count_word (length ws) count c)
 
-pub list-clauses : (v : ℕ) (ws : List ℤ) → isList v ws ≡ true → words_of (clausesOf ws) ≡ ws
+pub list-clauses : (v : ℕ) (ws : List ℤ) → is_list v ws ≡ true → words_of (clauses_of ws) ≡ ws
 list-clauses v ws e = words-clauses v (length ws) ws (le_refl (length ws)) (list-well-cut v ws e)

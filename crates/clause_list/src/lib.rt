@@ -1,9 +1,9 @@
 // Clause lists in 32-bit words: the test of number 12 (document 01, "Answers that decline").
 ghost use Rattle.std.specs.Prelude.{◌≡◌, ◌≤◌};
 ghost use Rattle.prelude.specs.Tests.{all};
-ghost use Rattle.literal.specs.Literals.{isLiteral};
-ghost use Rattle.clause_list.specs.ClauseList.{isList};
-ghost use Rattle.clause_list.specs.Private.{clauseWords};
+ghost use Rattle.literal.specs.Literals.{is_literal};
+ghost use Rattle.clause_list.specs.ClauseList.{is_list};
+ghost use Rattle.clause_list.specs.Private.{clause_words};
 
 const MOST_VARIABLES: u32 = 16000;
 
@@ -12,7 +12,7 @@ const MOST_WORDS: usize = 2147483647;
 // Whether each word is a literal of the variables 1 to v.
 fn are_literals(words: &[i32], v: u32) -> bool
     requires { v ≤ 16000 }
-    ensures { result ≡ all (isLiteral v) words.now }
+    ensures { result ≡ all (is_literal v) words.now }
 {
     let mut i = 0;
     while i < words.len() {
@@ -28,7 +28,7 @@ fn are_literals(words: &[i32], v: u32) -> bool
 // The words of the clause in front, its count's included; 0 where none stands there.
 fn clause_words(words: &[i32], v: u32) -> usize
     requires { v ≤ 16000 }
-    ensures { result ≡ clauseWords v words.now }
+    ensures { result ≡ clause_words v words.now }
 {
     if words.len() == 0 {
         return 0;
@@ -50,7 +50,7 @@ fn clause_words(words: &[i32], v: u32) -> usize
 
 // Whether number 12 does not apply to a list and its number of variables.
 pub fn is_list(list: &[i32], v: u32) -> bool
-    ensures { result ≡ isList v list.now }
+    ensures { result ≡ is_list v list.now }
 {
     if v < 1 {
         return false;

@@ -1,8 +1,8 @@
 // Counting and writing the clauses of a sheet (document 01, "Clauses").
 ghost use Rattle.std.specs.Prelude.{◌≡◌};
 ghost use Rattle.sheet_rules.specs.Reading.{accepted, reading};
-ghost use Rattle.clauses.specs.Answers.{fits, answer_of, countAnswer, writeAnswer, listAfter};
-ghost use Rattle.clauses.specs.Translating.{Numbered, sizeAnswer};
+ghost use Rattle.clauses.specs.Answers.{fits, answer_of, count_answer, write_answer, list_after};
+ghost use Rattle.clauses.specs.Translating.{Numbered, size_answer};
 
 use answer::{Count, Size};
 use clauses_emission::{LIMIT, Tape};
@@ -18,7 +18,7 @@ mod whole; // whole.rt: the clauses of an accepted sheet
 // What a whole translation comes to.
 fn size_of(tape: Tape) -> Count
     requires { Numbered tape }
-    ensures { answer_of result ≡ sizeAnswer tape }
+    ensures { answer_of result ≡ size_answer tape }
 {
     if LIMIT < tape.next {
         return Count::Refused(Refusal::Size);
@@ -34,7 +34,7 @@ fn size_of(tape: Tape) -> Count
 // Counting: the translation over an empty list.
 fn count_accepted(sheet: &[u8], layout: Layout) -> Count
     requires { reading sheet.now ≡ accepted layout }
-    ensures { answer_of result ≡ countAnswer sheet.now }
+    ensures { answer_of result ≡ count_answer sheet.now }
 {
     let mut nothing = [0i32; 1];
     let tape = translate(&mut nothing[..0], sheet, layout);
@@ -43,7 +43,7 @@ fn count_accepted(sheet: &[u8], layout: Layout) -> Count
 
 // The numbers of variables, clauses and words of a sheet's clauses.
 pub fn count(sheet: &[u8]) -> Count
-    ensures { answer_of result ≡ countAnswer sheet.now }
+    ensures { answer_of result ≡ count_answer sheet.now }
 {
     let answer = read(sheet);
     match answer {
@@ -55,9 +55,9 @@ pub fn count(sheet: &[u8]) -> Count
 // Writing, once the count is known: 13 if the list is too short, else the same translation over the list.
 fn write_counted(sheet: &[u8], layout: Layout, size: Size, list: &mut [i32]) -> Count
     requires sheet_value { reading sheet.now ≡ accepted layout }
-    requires sheet_value_2 { countAnswer sheet.now ≡ fits size.variables size.clauses size.words }
-    ensures result_value { answer_of result ≡ writeAnswer sheet.now list.old }
-    ensures list_after { list.new ≡ listAfter sheet.now list.old }
+    requires sheet_value_2 { count_answer sheet.now ≡ fits size.variables size.clauses size.words }
+    ensures result_value { answer_of result ≡ write_answer sheet.now list.old }
+    ensures list_after { list.new ≡ list_after sheet.now list.old }
 {
     if list.len() < size.words {
         return Count::Refused(Refusal::Short);
@@ -69,8 +69,8 @@ fn write_counted(sheet: &[u8], layout: Layout, size: Size, list: &mut [i32]) -> 
 // Nothing is written before the count is known to fit.
 fn write_accepted(sheet: &[u8], layout: Layout, list: &mut [i32]) -> Count
     requires { reading sheet.now ≡ accepted layout }
-    ensures result_value { answer_of result ≡ writeAnswer sheet.now list.old }
-    ensures list_after { list.new ≡ listAfter sheet.now list.old }
+    ensures result_value { answer_of result ≡ write_answer sheet.now list.old }
+    ensures list_after { list.new ≡ list_after sheet.now list.old }
 {
     let counted = count_accepted(sheet, layout);
     match counted {
@@ -81,8 +81,8 @@ fn write_accepted(sheet: &[u8], layout: Layout, list: &mut [i32]) -> Count
 
 // Writes the words of a sheet's clauses into the list; what lies after them stays.
 pub fn write(sheet: &[u8], list: &mut [i32]) -> Count
-    ensures result_value { answer_of result ≡ writeAnswer sheet.now list.old }
-    ensures list_after { list.new ≡ listAfter sheet.now list.old }
+    ensures result_value { answer_of result ≡ write_answer sheet.now list.old }
+    ensures list_after { list.new ≡ list_after sheet.now list.old }
 {
     let answer = read(sheet);
     match answer {

@@ -1,8 +1,8 @@
 // The clauses of an accepted sheet, in the order of document 01: one translation serves counting and writing.
 ghost use Rattle.std.specs.Prelude.{◌≡◌, ◌≤◌};
-ghost use Rattle.sheet_rules.specs.Blocks.{sheetOf};
+ghost use Rattle.sheet_rules.specs.Blocks.{sheet_of};
 ghost use Rattle.sheet_rules.specs.Reading.{accepted, reading};
-ghost use Rattle.relational.specs.Cells.{mostCells};
+ghost use Rattle.relational.specs.Cells.{most_cells};
 ghost use Rattle.clauses.specs.Translating.{CellWords, Translates};
 
 use cells::{MOST_CELLS, first_cells};
@@ -15,7 +15,7 @@ use sheet_rules::Layout;
 
 // The literals of n cells: 2, 3 and so on.
 fn cell_words(n: usize) -> [i32; MOST_CELLS]
-    requires { n ≤ mostCells }
+    requires { n ≤ most_cells }
     ensures { CellWords n result }
 {
     let mut words = [-1; MOST_CELLS];
@@ -31,7 +31,7 @@ fn cell_words(n: usize) -> [i32; MOST_CELLS]
 // The clause (1); the clauses of the members; the marks; the root's walk; the root's literal alone.
 pub(crate) fn translate(list: &mut [i32], sheet: &[u8], layout: Layout) -> Tape
     requires { reading sheet.now ≡ accepted layout }
-    ensures { Translates (sheetOf sheet.now) list.old list.new result }
+    ensures { Translates (sheet_of sheet.now) list.old list.new result }
 {
     let cells = first_cells(sheet, layout);
     let n = cells.count;

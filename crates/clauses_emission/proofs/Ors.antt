@@ -7,56 +7,56 @@ use lib.IntN.{ℤ, pos}
 use lib.ListN.{length, get_or, take, set, length-append, length-map}
 use lib.Seq.{take_all, take-suc, take-suc-set}
 use Rattle.literal.specs.Literals.{Literal, positive, negative, opposite, word_of}
-use Rattle.literal.specs.Words.{literalOf}
+use Rattle.literal.specs.Words.{literal_of}
 use Rattle.clause_list.specs.ClauseList.{words_of}
 use Rattle.clauses_rules.specs.Builder.{Builder, return, ◌<$>◌}
-use Rattle.clauses_rules.specs.Gates.{Clause, gateOf, or_of, inputClauses, gatesClauses}
+use Rattle.clauses_rules.specs.Gates.{Clause, gate_of, or_of, input_clauses, gates_clauses}
 use Rattle.clauses_emission.specs.declared.Tape.{Tape}
 use Rattle.clauses_emission.specs.declared.Made.{Made}
-use Rattle.clauses_emission.specs.Emission.{Inside, literalsOf, wordsFor, Appends, Room, Bounded, Within, Emits, EmitsLiteral}
+use Rattle.clauses_emission.specs.Emission.{Inside, literals_of, words_for, Appends, Room, Bounded, Within, Emits, EmitsLiteral}
 use Rattle.clauses_emission.proofs.Writes.{writes_then, writes_as, writes-length}
 use Rattle.clauses_emission.proofs.Ranges.{inside-opposite}
 use Rattle.clauses_emission.proofs.Steps.{Regular, emits-map}
 
 -- ---- the clauses of a gate's inputs
 inputs-more : (g : ℕ) (ls : List Literal) (l : Literal)
-    → inputClauses g (ls ++ (l ∷ [])) ≡ inputClauses g ls ++ ((positive g ∷ opposite l ∷ []) ∷ [])
-unfolding inputClauses
+    → input_clauses g (ls ++ (l ∷ [])) ≡ input_clauses g ls ++ ((positive g ∷ opposite l ∷ []) ∷ [])
+unfolding input_clauses
 inputs-more g [] l = refl
 inputs-more g (k ∷ ls) l = ap (λ (cs : List Clause). (positive g ∷ opposite k ∷ []) ∷ cs) (inputs-more g ls l)
 
 pub inputs-next : (g : ℕ) (ws : List ℤ) (k : ℕ) → k < length ws
-    → inputClauses g (literalsOf (take k ws)) ++ ((positive g ∷ opposite (literalOf (get_or ws k (pos 0))) ∷ []) ∷ [])
-    ≡ inputClauses g (literalsOf (take (suc k) ws))
+    → input_clauses g (literals_of (take k ws)) ++ ((positive g ∷ opposite (literal_of (get_or ws k (pos 0))) ∷ []) ∷ [])
+    ≡ input_clauses g (literals_of (take (suc k) ws))
 inputs-next g ws k h =
     sym
-    (ap (λ (l : List ℤ). inputClauses g (literalsOf l)) (take-suc ws k (pos 0) h)
-    ∙ ap (inputClauses g) (map-append literalOf (take k ws) (get_or ws k (pos 0) ∷ []))
-    ∙ inputs-more g (literalsOf (take k ws)) (literalOf (get_or ws k (pos 0))))
+    (ap (λ (l : List ℤ). input_clauses g (literals_of l)) (take-suc ws k (pos 0) h)
+    ∙ ap (input_clauses g) (map-append literal_of (take k ws) (get_or ws k (pos 0) ∷ []))
+    ∙ inputs-more g (literals_of (take k ws)) (literal_of (get_or ws k (pos 0))))
 
-inputs-clauses : (g : ℕ) (ls : List Literal) → length (inputClauses g ls) ≡ length ls
-unfolding inputClauses
+inputs-clauses : (g : ℕ) (ls : List Literal) → length (input_clauses g ls) ≡ length ls
+unfolding input_clauses
 inputs-clauses g [] = refl
 inputs-clauses g (l ∷ ls) = ap suc (inputs-clauses g ls)
 
-inputs-words : (g : ℕ) (ls : List Literal) → length (wordsFor (inputClauses g ls)) ≡ 3 * length ls
-unfolding inputClauses words_of
+inputs-words : (g : ℕ) (ls : List Literal) → length (words_for (input_clauses g ls)) ≡ 3 * length ls
+unfolding input_clauses words_of
 inputs-words g [] = refl
 inputs-words g (l ∷ ls) = omega (arith, inputs-words g ls)
 
 -- how far the inputs' clauses of a gate can come
 pub inputs-room : (tape : Tape) (ls : List Literal) (others : List ℤ) {after : Tape} {old new : List ℤ} → Bounded tape → length ls ≤ 2016
-    → length others ≤ 2016 → Appends (inputClauses tape.next ls) old tape new after → Room after others
+    → length others ≤ 2016 → Appends (input_clauses tape.next ls) old tape new after → Room after others
 inputs-room tape ls others b few o a = record {
   few = o;
   clauses = omega (arith, a.writes.clauses, inputs-clauses tape.next ls, b.clauses, b.last);
   words = omega (arith, a.writes.words, inputs-words tape.next ls, b.words, b.last);
 }
 
-pub length-literals : (ws : List ℤ) → length (literalsOf ws) ≡ length ws
-length-literals ws = length-map ws literalOf
+pub length-literals : (ws : List ℤ) → length (literals_of ws) ≡ length ws
+length-literals ws = length-map ws literal_of
 
-last-words : (g : ℕ) (ls : List Literal) → length (wordsFor ((negative g ∷ ls) ∷ [])) ≡ 2 + length ls
+last-words : (g : ℕ) (ls : List Literal) → length (words_for ((negative g ∷ ls) ∷ [])) ≡ 2 + length ls
 unfolding words_of
 last-words g ls = omega (arith, length-append (map word_of ls) [], length-words ls)
   where
@@ -66,11 +66,11 @@ last-words g ls = omega (arith, length-append (map word_of ls) [], length-words 
 
 -- ---- the gate
 module _ (tape : Tape) (ls : List Literal) (bounded : Bounded tape) (within : Within tape.next) (few : length ls ≤ 2016) where
-  pub gate-emits : {old mid new : List ℤ} {b c d : Tape} → Appends (inputClauses tape.next ls) old tape mid b
+  pub gate-emits : {old mid new : List ℤ} {b c d : Tape} → Appends (input_clauses tape.next ls) old tape mid b
       → Appends ((negative tape.next ∷ ls) ∷ []) mid b new c
       → d.next ≡ c.next + 1 → d.clauses ≡ c.clauses → d.words ≡ c.words
-      → Emits (gateOf ls tape.next) old tape (positive tape.next) new d (λ n. Inside n (positive tape.next))
-  unfolding gatesClauses
+      → Emits (gate_of ls tape.next) old tape (positive tape.next) new d (λ n. Inside n (positive tape.next))
+  unfolding gates_clauses
   gate-emits {old} {mid} {new} {b} {c} {d} p q e f h =
       let g = tape.next in
       let n : d.next ≡ suc g = omega (arith, e, p.next, q.next) in
@@ -89,54 +89,54 @@ module _ (tape : Tape) (ls : List Literal) (bounded : Bounded tape) (within : Wi
           value = refl;
           next = n;
           writes =
-              writes_as (sym (append-nil (inputClauses g ls ++ ((negative g ∷ ls) ∷ []))))
+              writes_as (sym (append-nil (input_clauses g ls ++ ((negative g ∷ ls) ∷ []))))
               (record { clauses = f ∙ w.clauses; words = h ∙ w.words; list = w.list });
         };
         over = λ o. omega (arith, n, o);
       }
 
-pub regular-gate : (ls : List Literal) → Regular (gateOf ls)
+pub regular-gate : (ls : List Literal) → Regular (gate_of ls)
 regular-gate ls = record { counts = λ g. omega arith }
 
 -- ---- what remains of an OR, by its number
-pub or-none : (ws : List ℤ) (g : ℕ) → length ws ≡ 0 → return (negative 1) g ≡ or_of (literalsOf ws) g
+pub or-none : (ws : List ℤ) (g : ℕ) → length ws ≡ 0 → return (negative 1) g ≡ or_of (literals_of ws) g
 or-none [] g e = refl
 or-none (w ∷ ws) g e = absurd (omega (arith, e))
 
-pub or-one : (ws : List ℤ) (g : ℕ) → length ws ≡ 1 → return (literalOf (get_or ws 0 (pos 0))) g ≡ or_of (literalsOf ws) g
+pub or-one : (ws : List ℤ) (g : ℕ) → length ws ≡ 1 → return (literal_of (get_or ws 0 (pos 0))) g ≡ or_of (literals_of ws) g
 or-one [] g e = absurd (omega (arith, e))
 or-one (w ∷ []) g e = refl
 or-one (w ∷ v ∷ ws) g e = absurd (omega (arith, e))
 
-pub or-many : (ws : List ℤ) (g : ℕ) → (length ws ≡ 0 → ⊥) → (length ws ≡ 1 → ⊥) → gateOf (literalsOf ws) g ≡ or_of (literalsOf ws) g
+pub or-many : (ws : List ℤ) (g : ℕ) → (length ws ≡ 0 → ⊥) → (length ws ≡ 1 → ⊥) → gate_of (literals_of ws) g ≡ or_of (literals_of ws) g
 or-many [] g e f = absurd (e refl)
 or-many (w ∷ []) g e f = absurd (f refl)
 or-many (w ∷ v ∷ ws) g e f = refl
 
 -- ---- the opposites of inputs, one after the other
 pub opposites-next : (ws out : List ℤ) (k : ℕ) (r : ℤ) → k < length ws → k < length out
-    → literalsOf (take k out) ≡ map opposite (literalsOf (take k ws)) → literalOf r ≡ opposite (literalOf (get_or ws k (pos 0)))
-    → literalsOf (take (suc k) (set out k r)) ≡ map opposite (literalsOf (take (suc k) ws))
+    → literals_of (take k out) ≡ map opposite (literals_of (take k ws)) → literal_of r ≡ opposite (literal_of (get_or ws k (pos 0)))
+    → literals_of (take (suc k) (set out k r)) ≡ map opposite (literals_of (take (suc k) ws))
 opposites-next ws out k r h l e f =
     let w = get_or ws k (pos 0) in
-    ap literalsOf (take-suc-set out k r l)
-    ∙ map-append literalOf (take k out) (r ∷ [])
+    ap literals_of (take-suc-set out k r l)
+    ∙ map-append literal_of (take k out) (r ∷ [])
     ∙ rw (e, f)
     (sym
-    (ap (λ (t : List ℤ). map opposite (literalsOf t)) (take-suc ws k (pos 0) h)
-    ∙ ap (map opposite) (map-append literalOf (take k ws) (w ∷ []))
-    ∙ map-append opposite (literalsOf (take k ws)) (literalOf w ∷ [])))
+    (ap (λ (t : List ℤ). map opposite (literals_of t)) (take-suc ws k (pos 0) h)
+    ∙ ap (map opposite) (map-append literal_of (take k ws) (w ∷ []))
+    ∙ map-append opposite (literals_of (take k ws)) (literal_of w ∷ [])))
 
 pub opposites-all : (ws out : List ℤ) (k : ℕ) → length ws ≤ k → length out ≡ length ws
-    → literalsOf (take k out) ≡ map opposite (literalsOf (take k ws)) → literalsOf out ≡ map opposite (literalsOf ws)
+    → literals_of (take k out) ≡ map opposite (literals_of (take k ws)) → literals_of out ≡ map opposite (literals_of ws)
 opposites-all ws out k h e i =
-    sym (ap literalsOf (take_all k out (omega arith))) ∙ i ∙ ap (λ (t : List ℤ). map opposite (literalsOf t)) (take_all k ws h)
+    sym (ap literals_of (take_all k out (omega arith))) ∙ i ∙ ap (λ (t : List ℤ). map opposite (literals_of t)) (take_all k ws h)
 
 -- ---- the opposite of what a step gives
 pub emits-negated : (step : Builder Literal) (x y : Made) {old new : List ℤ} {a : Tape}
     → EmitsLiteral (step a.next) old a x.literal new x.tape
-    → (y.tape ≡ x.tape) × (literalOf y.literal ≡ opposite (literalOf x.literal))
+    → (y.tape ≡ x.tape) × (literal_of y.literal ≡ opposite (literal_of x.literal))
     → EmitsLiteral ((opposite <$> step) a.next) old a y.literal new y.tape
 emits-negated step x y {old} {new} {a} p e =
     subst (EmitsLiteral ((opposite <$> step) a.next) old a y.literal new) (sym e.0)
-    (emits-map opposite step p e.1 (rw e.1 (inside-opposite (literalOf x.literal) p.fine)))
+    (emits-map opposite step p e.1 (rw e.1 (inside-opposite (literal_of x.literal) p.fine)))

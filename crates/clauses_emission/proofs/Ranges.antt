@@ -8,11 +8,11 @@ use lib.ListN.{length, get_or, get_or-map}
 use mir.Syntax.{w32}
 use mir.Val.{SFits}
 use Rattle.literal.specs.Literals.{Literal, positive, negative, opposite}
-use Rattle.literal.specs.Words.{literalOf, oppositeWord}
+use Rattle.literal.specs.Words.{literal_of, opposite_word}
 use Rattle.literal.proofs.Words.{variable-of, opposite-is}
 use Rattle.literal.proofs.Signs.{read, back}
 use Rattle.clauses_rules.specs.Translation.{absent}
-use Rattle.clauses_emission.specs.Emission.{Inside, AllInside, literalsOf}
+use Rattle.clauses_emission.specs.Emission.{Inside, AllInside, literals_of}
 
 pub inside-grows : {n m : ℕ} {l : Literal} → n ≤ m → Inside n l → Inside m l
 inside-grows h i = record { low = i.low; high = omega (arith, i.high) }
@@ -28,21 +28,21 @@ pub inside_one : (n : ℕ) → 2 ≤ n → Inside n (positive 1)
 inside_one n h = record { low = omega arith; high = omega arith }
 
 -- the opposite of a word is the word of the opposite: only 0, and a word past the range, have none
-opposite-plain : (w : ℤ) → 1 ≤ nat_abs w → literalOf (neg_ℤ w) ≡ opposite (literalOf w)
+opposite-plain : (w : ℤ) → 1 ≤ nat_abs w → literal_of (neg_ℤ w) ≡ opposite (literal_of w)
 opposite-plain (pos zero) h = absurd (omega arith)
 opposite-plain (pos (suc n)) h = refl
 opposite-plain (negsuc n) h = refl
 
-opposite-word : (n : ℕ) (w : ℤ) → n ≤ 16002 → Inside n (literalOf w) → literalOf (oppositeWord w) ≡ opposite (literalOf w)
+opposite-word : (n : ℕ) (w : ℤ) → n ≤ 16002 → Inside n (literal_of w) → literal_of (opposite_word w) ≡ opposite (literal_of w)
 opposite-word n w h i =
     let low : 1 ≤ nat_abs w = omega (arith, i.low, variable-of w) in
-    ap literalOf (opposite-is w (omega (arith, i.high, variable-of w))) ∙ opposite-plain w low
+    ap literal_of (opposite-is w (omega (arith, i.high, variable-of w))) ∙ opposite-plain w low
 
 -- what `literal::opposite` answers, as the machine hands it on
-pub opposite-read : (n : ℕ) (w r : ℤ) → n ≤ 16002 → SFits w32 w → Inside n (literalOf w) → r ≡ oppositeWord (read w) → SFits w32 r
-    → literalOf (read r) ≡ opposite (literalOf w)
+pub opposite-read : (n : ℕ) (w r : ℤ) → n ≤ 16002 → SFits w32 w → Inside n (literal_of w) → r ≡ opposite_word (read w) → SFits w32 r
+    → literal_of (read r) ≡ opposite (literal_of w)
 opposite-read n w r h f i e g =
-    ap literalOf (back r g ∙ e ∙ ap oppositeWord (back w f)) ∙ opposite-word n w h i
+    ap literal_of (back r g ∙ e ∙ ap opposite_word (back w f)) ∙ opposite-word n w h i
 
 -- ---- lists of literals
 module _ {n : ℕ} where
@@ -66,7 +66,7 @@ module _ {n : ℕ} where
   all_two l m h i j = all_more l (m ∷ []) i (all_more m [] j (all_none h))
 
 -- the literal at a place
-pub literal-at : (ws : List ℤ) (k : ℕ) → k < length ws → get_or (literalsOf ws) k absent ≡ literalOf (get_or ws k (pos 0))
+pub literal-at : (ws : List ℤ) (k : ℕ) → k < length ws → get_or (literals_of ws) k absent ≡ literal_of (get_or ws k (pos 0))
 literal-at [] k h = absurd (omega arith)
 literal-at (w ∷ ws) zero h = refl
 literal-at (w ∷ ws) (suc k) h = literal-at ws k (omega arith)
@@ -78,5 +78,5 @@ get_d_any (x ∷ l) zero d e h = refl
 get_d_any (x ∷ l) (suc i) d e h = get_d_any l i d e (omega arith)
 
 -- the literal at a place, past the end -1
-pub literal-of : (ws : List ℤ) (i : ℕ) → literalOf (get_or ws i (negsuc 0)) ≡ get_or (literalsOf ws) i absent
-literal-of ws i = sym (get_or-map literalOf ws i (negsuc 0))
+pub literal-of : (ws : List ℤ) (i : ℕ) → literal_of (get_or ws i (negsuc 0)) ≡ get_or (literals_of ws) i absent
+literal-of ws i = sym (get_or-map literal_of ws i (negsuc 0))

@@ -15,7 +15,7 @@ use Rattle.literal.specs.Literals.{Literal, positive, opposite}
 use Rattle.relational.specs.Matrices.{upto}
 use Rattle.relational.proofs.Places.{upto-suc}
 use Rattle.clauses_rules.specs.Builder.{Gate, Built, Builder, return, ◌>>=◌, ◌<$>◌, each}
-use Rattle.clauses_rules.specs.Gates.{remaining, givesTrue, or_of, or, and, gatesClauses}
+use Rattle.clauses_rules.specs.Gates.{remaining, gives_true, or_of, or, and, gates_clauses}
 use Rattle.clauses_rules.specs.Translation.{Two}
 use Rattle.clauses_rules.proofs.Gate.{gates-append}
 use Rattle.clauses_emission.specs.declared.Tape.{Tape}
@@ -56,7 +56,7 @@ regular-or-of (l ∷ k ∷ ls) = record { counts = λ g. omega arith }
 
 pub regular-or : (ls : List Literal) → Regular (or ls)
 unfolding or
-regular-or ls = go (givesTrue ls)
+regular-or ls = go (gives_true ls)
   where
     go : (t : Bool) → Regular (cond t (return (positive 1)) (or_of (remaining [] ls)))
     go true = regular-return (positive 1)
@@ -81,7 +81,7 @@ within-or-over n = ⊎_elim (λ t. inl (leb-true n 16001 t)) (λ f. inr (leb-fal
 -- ---- no step at all
 pub emits-return : {A : Type 0} (x : A) (list : List ℤ) (tape : Tape) {F : ℕ → Type 0} → Bounded tape → F tape.next
     → Emits (return x tape.next) list tape x list tape F
-unfolding gatesClauses
+unfolding gates_clauses
 emits-return x list tape b f = record {
   bounded = b;
   grows = omega arith;
@@ -99,14 +99,14 @@ exact-bind step then r {old} {mid} {new} {a} {b} {c} {x} {y} p q =
     let s = step a.next in
     let e : then x b.next ≡ then s.value s.next = rw (p.value, p.next) in
     let t = then s.value s.next in
-    let w : Writes (gatesClauses b.next t.gates) mid b new c = rw e at q.writes in
+    let w : Writes (gates_clauses b.next t.gates) mid b new c = rw e at q.writes in
     let n : b.next ≡ a.next + length s.gates = p.next ∙ r.counts a.next in
     record {
       value = q.value ∙ ap (λ (z : Built _). z.value) e;
       next = q.next ∙ ap (λ (z : Built _). z.next) e;
       writes =
           writes_as
-          (ap (λ (k : ℕ). gatesClauses a.next s.gates ++ gatesClauses k t.gates) n ∙ sym (gates-append a.next s.gates t.gates))
+          (ap (λ (k : ℕ). gates_clauses a.next s.gates ++ gates_clauses k t.gates) n ∙ sym (gates-append a.next s.gates t.gates))
           (writes_then p.writes w);
     }
 

@@ -11,19 +11,19 @@ use lib.Seq.{drop-cons}
 use Rattle.prelude.specs.Stores.{put_all}
 use Rattle.prelude.proofs.Stores.{put-none, put_next, put_then, length-put}
 use Rattle.literal.specs.Literals.{word_of}
-use Rattle.literal.specs.Words.{literalOf}
+use Rattle.literal.specs.Words.{literal_of}
 use Rattle.literal.proofs.Words.{word-literal}
 use Rattle.clause_list.specs.ClauseList.{words_of}
 use Rattle.clause_list.proofs.Laws as list
 use Rattle.clauses_rules.specs.Gates.{Clause}
 use Rattle.clauses_emission.specs.declared.Tape.{Tape}
-use Rattle.clauses_emission.specs.Emission.{literalsOf, wordsFor, Writes, Appends}
+use Rattle.clauses_emission.specs.Emission.{literals_of, words_for, Writes, Appends}
 
-pub words_append : (cs ds : List Clause) → wordsFor (cs ++ ds) ≡ wordsFor cs ++ wordsFor ds
+pub words_append : (cs ds : List Clause) → words_for (cs ++ ds) ≡ words_for cs ++ words_for ds
 words_append cs ds = ap words_of (map-append (map word_of) cs ds) ∙ list.words_append (map (map word_of) cs) (map (map word_of) ds)
 
 -- words are the words of their literals
-words_back : (ws : List ℤ) → map word_of (literalsOf ws) ≡ ws
+words_back : (ws : List ℤ) → map word_of (literals_of ws) ≡ ws
 words_back [] = refl
 words_back (w ∷ ws) = rw (word-literal w, words_back ws)
 
@@ -51,10 +51,10 @@ put-done xs ys zs new c count f first k others p q e h l i =
 
 -- the words of one clause
 pub words-one : (first : ℤ) (others : List ℤ)
-    → wordsFor ((literalOf first ∷ literalsOf others) ∷ []) ≡ pos (suc (length others)) ∷ first ∷ others
+    → words_for ((literal_of first ∷ literals_of others) ∷ []) ≡ pos (suc (length others)) ∷ first ∷ others
 unfolding words_of
 words-one first others =
-    let e : length (map word_of (literalsOf others)) ≡ length others = ap length (words_back others) in
+    let e : length (map word_of (literals_of others)) ≡ length others = ap length (words_back others) in
     rw (e, word-literal first, words_back others) (ap (λ (l : List ℤ). pos (suc (length others)) ∷ first ∷ l) (nil others))
   where
     nil : (l : List ℤ) → l ++ [] ≡ l
@@ -73,12 +73,12 @@ pub writes_then : {cs ds : List Clause} {old mid new : List ℤ} {a b c : Tape}
     → Writes cs old a mid b → Writes ds mid b new c → Writes (cs ++ ds) old a new c
 writes_then {cs} {ds} {old} {mid} {new} {a} {b} {c} p q = record {
   clauses = omega (arith, p.clauses, q.clauses, length-append cs ds);
-  words = omega (arith, p.words, q.words, ap length (words_append cs ds), length-append (wordsFor cs) (wordsFor ds));
+  words = omega (arith, p.words, q.words, ap length (words_append cs ds), length-append (words_for cs) (words_for ds));
   list =
       q.list
-      ∙ ap (λ (l : List ℤ). put_all l b.words (wordsFor ds)) p.list
-      ∙ ap (λ (k : ℕ). put_all (put_all old a.words (wordsFor cs)) k (wordsFor ds)) p.words
-      ∙ put_then old a.words (wordsFor cs) (wordsFor ds)
+      ∙ ap (λ (l : List ℤ). put_all l b.words (words_for ds)) p.list
+      ∙ ap (λ (k : ℕ). put_all (put_all old a.words (words_for cs)) k (words_for ds)) p.words
+      ∙ put_then old a.words (words_for cs) (words_for ds)
       ∙ ap (put_all old a.words) (sym (words_append cs ds));
 }
 
@@ -86,7 +86,7 @@ pub writes_as : {cs ds : List Clause} {old new : List ℤ} {a b : Tape} → cs �
 writes_as {cs} {ds} {old} {new} {a} {b} e p = rw e at p
 
 pub writes-length : {cs : List Clause} {old new : List ℤ} {a b : Tape} → Writes cs old a new b → length new ≡ length old
-writes-length {cs} {old} {new} {a} {b} p = ap length p.list ∙ length-put old a.words (wordsFor cs)
+writes-length {cs} {old} {new} {a} {b} p = ap length p.list ∙ length-put old a.words (words_for cs)
 
 pub appends-none : (list : List ℤ) (tape : Tape) → Appends [] list tape list tape
 appends-none list tape = record { next = refl; writes = writes-none list tape }

@@ -8,10 +8,10 @@
 use Rattle.std.specs.Prelude.{◌≡◌, List, map, ℕ, ◌+◌, ◌*◌, ◌≤◌, ◌<◌, ℤ, length, get_or}
 use Rattle.prelude.specs.Stores.{put_all}
 use Rattle.literal.specs.Literals.{Literal, word_of}
-use Rattle.literal.specs.Words.{variable, literalOf}
+use Rattle.literal.specs.Words.{variable, literal_of}
 use Rattle.clause_list.specs.ClauseList.{words_of}
 use Rattle.clauses_rules.specs.Builder.{Built, Builder}
-use Rattle.clauses_rules.specs.Gates.{Clause, gatesClauses}
+use Rattle.clauses_rules.specs.Gates.{Clause, gates_clauses}
 use Rattle.clauses_rules.specs.Translation.{Two, absent, either, both, without, implies, same, apart}
 use Rattle.clauses_emission.specs.declared.Tape.{Tape}
 use Rattle.clauses_emission.specs.declared.Pairing.{Pairing}
@@ -27,27 +27,27 @@ pub record Inside (n : ℕ) (l : Literal) : Type 0 where
 abbrev pub AllInside : ℕ → List Literal → Type 0
 AllInside n ls = (i : ℕ) → Inside n (get_or ls i absent)
 
-abbrev pub literalsOf : List ℤ → List Literal
-literalsOf ws = map literalOf ws
+abbrev pub literals_of : List ℤ → List Literal
+literals_of ws = map literal_of ws
 
 -- the most literals in an OR: the pairs of 64 cells
-abbrev pub mostInputs : ℕ
-mostInputs = 2016
+abbrev pub most_inputs : ℕ
+most_inputs = 2016
 
 -- words that go into an OR
 pub record Inputs (n : ℕ) (ws : List ℤ) : Type 0 where
-  pub few : length ws ≤ mostInputs
-  pub inside : AllInside n (literalsOf ws)
+  pub few : length ws ≤ most_inputs
+  pub inside : AllInside n (literals_of ws)
 
 -- ---- clauses
-abbrev pub wordsFor : List Clause → List ℤ
-wordsFor clauses = words_of (map (map word_of) clauses)
+abbrev pub words_for : List Clause → List ℤ
+words_for clauses = words_of (map (map word_of) clauses)
 
 -- these clauses were written after what was there
 pub record Writes (given : List Clause) (old : List ℤ) (before : Tape) (new : List ℤ) (after : Tape) : Type 0 where
   pub clauses : after.clauses ≡ before.clauses + length given
-  pub words : after.words ≡ before.words + length (wordsFor given)
-  pub list : new ≡ put_all old before.words (wordsFor given)
+  pub words : after.words ≡ before.words + length (words_for given)
+  pub list : new ≡ put_all old before.words (words_for given)
 
 -- and no variable was taken
 pub record Appends (clauses : List Clause) (old : List ℤ) (before : Tape) (new : List ℤ) (after : Tape) : Type 0 where
@@ -56,7 +56,7 @@ pub record Appends (clauses : List Clause) (old : List ℤ) (before : Tape) (new
 
 -- room for one more clause of a first literal and others
 pub record Room (tape : Tape) (others : List ℤ) : Type 0 where
-  pub few : length others ≤ mostInputs
+  pub few : length others ≤ most_inputs
   pub clauses : tape.clauses ≤ 1000000000
   pub words : tape.words ≤ 1000000000
 
@@ -79,7 +79,7 @@ module _ {A : Type 0} (built : Built A) (old : List ℤ) (before : Tape) (made :
   pub record Exact : Type 0 where
     pub value : made ≡ built.value
     pub next : after.next ≡ built.next
-    pub writes : Writes (gatesClauses before.next built.gates) old before new after
+    pub writes : Writes (gates_clauses before.next built.gates) old before new after
 
   -- the step was done, or given up; what it gives is fine for what comes next
   pub record Emits (Fine : ℕ → Type 0) : Type 0 where
@@ -92,14 +92,14 @@ module _ {A : Type 0} (built : Built A) (old : List ℤ) (before : Tape) (made :
 
 -- a literal
 abbrev pub EmitsLiteral : Built Literal → List ℤ → Tape → ℤ → List ℤ → Tape → Type 0
-EmitsLiteral built old before word new after = Emits built old before (literalOf word) new after (λ n. Inside n (literalOf word))
+EmitsLiteral built old before word new after = Emits built old before (literal_of word) new after (λ n. Inside n (literal_of word))
 
 -- the same of a step over a list of words, over two words
 abbrev pub EmitsList : (List Literal → Builder Literal) → List ℤ → List ℤ → Tape → ℤ → List ℤ → Tape → Type 0
-EmitsList step ws old before = EmitsLiteral (step (literalsOf ws) before.next) old before
+EmitsList step ws old before = EmitsLiteral (step (literals_of ws) before.next) old before
 
 abbrev pub EmitsTwo : (Two → Builder Literal) → ℤ → ℤ → List ℤ → Tape → ℤ → List ℤ → Tape → Type 0
-EmitsTwo step p q old before = EmitsLiteral (step (literalOf p, literalOf q) before.next) old before
+EmitsTwo step p q old before = EmitsLiteral (step (literal_of p, literal_of q) before.next) old before
 
 -- ---- two literals
 abbrev pub pairing : Pairing → Two → Builder Literal

@@ -1,55 +1,55 @@
 -- What the code does with the inputs of an OR before a gate is made: one after the other, beside those that are kept so far.
 -- No public contract reaches this file: nothing here needs belief.
 use Rattle.std.specs.Prelude.{◌≡◌, cond, List, [], ◌∷◌, ◌++◌, ℕ, ◌≤◌, ℤ, pos, length, take}
-use Rattle.literal.specs.Literals.{Literal, positive, opposite, isSame}
-use Rattle.literal.specs.Words.{literalOf}
+use Rattle.literal.specs.Literals.{Literal, positive, opposite, is_same}
+use Rattle.literal.specs.Words.{literal_of}
 use Rattle.clauses_rules.specs.Builder.{Builder, return}
 use Rattle.clauses_rules.specs.Translation.{Two, absent, either}
 use Rattle.clauses_emission.specs.declared.Seen.{Seen}
 use Rattle.clauses_emission.specs.declared.Seen.TheVariants.{Nothing, Itself, Opposite}
-use Rattle.clauses_emission.specs.Emission.{Inside, literalsOf}
+use Rattle.clauses_emission.specs.Emission.{Inside, literals_of}
 
 -- what comes first among literals: a literal itself, its opposite, or neither
-unfoldable pub seenIn : List Literal → Literal → Seen
-seenIn [] l = Nothing
-seenIn (k ∷ ks) l = cond (isSame l k) Itself (cond (isSame (opposite l) k) Opposite (seenIn ks l))
+unfoldable pub seen_in : List Literal → Literal → Seen
+seen_in [] l = Nothing
+seen_in (k ∷ ks) l = cond (is_same l k) Itself (cond (is_same (opposite l) k) Opposite (seen_in ks l))
 
-abbrev pub bySight : {A : Type 0} → Seen → A → A → A → A
-bySight Nothing x y z = x
-bySight Itself x y z = y
-bySight Opposite x y z = z
+abbrev pub by_sight : {A : Type 0} → Seen → A → A → A → A
+by_sight Nothing x y z = x
+by_sight Itself x y z = y
+by_sight Opposite x y z = z
 
 -- -1 counts as kept: it is struck out wherever it stands, and 1 is its opposite
-unfoldable pub settledBy : List Literal → List Literal → List Literal
-settledBy kept [] = kept
-settledBy kept (l ∷ ls) =
-    bySight (seenIn (absent ∷ kept) l) (settledBy (kept ++ (l ∷ [])) ls) (settledBy kept ls) (positive 1 ∷ [])
+unfoldable pub settled_by : List Literal → List Literal → List Literal
+settled_by kept [] = kept
+settled_by kept (l ∷ ls) =
+    by_sight (seen_in (absent ∷ kept) l) (settled_by (kept ++ (l ∷ [])) ls) (settled_by kept ls) (positive 1 ∷ [])
 
 -- what remains of a list, or 1 alone where the list gives 1
 abbrev pub settled : List Literal → List Literal
-settled ls = settledBy [] ls
+settled ls = settled_by [] ls
 
 -- it stands in the first n words
 pub record Settles (old new : List ℤ) (n : ℕ) : Type 0 where
   pub few : n ≤ length old
-  pub rest : literalsOf (take n new) ≡ settled (literalsOf old)
+  pub rest : literals_of (take n new) ≡ settled (literals_of old)
 
 -- ---- two inputs
 -- two that are no constants, not the same and no opposites
 pub record Apart (p q : Literal) : Type 0 where
   pub first_absent : p ≡ absent → ⊥
-  pub second-absent : q ≡ absent → ⊥
+  pub second_absent : q ≡ absent → ⊥
   pub repeat : p ≡ q → ⊥
   pub first_one : p ≡ positive 1 → ⊥
-  pub second-one : q ≡ positive 1 → ⊥
+  pub second_one : q ≡ positive 1 → ⊥
   pub opposites : p ≡ opposite q → ⊥
 
 -- a step over two words gives this word, and makes no gate
 pub record Told (step : Two → Builder Literal) (p q r : ℤ) : Type 0 where
-  pub value : (g : ℕ) → return (literalOf r) g ≡ step (literalOf p, literalOf q) g
-  pub inside : {n : ℕ} → 2 ≤ n → Inside n (literalOf p) → Inside n (literalOf q) → Inside n (literalOf r)
+  pub value : (g : ℕ) → return (literal_of r) g ≡ step (literal_of p, literal_of q) g
+  pub inside : {n : ℕ} → 2 ≤ n → Inside n (literal_of p) → Inside n (literal_of q) → Inside n (literal_of r)
 
 -- what OR of two words gives, or 0 where it is a gate
 pub record Tells (p q r : ℤ) : Type 0 where
-  pub gate : r ≡ pos 0 → Apart (literalOf p) (literalOf q)
+  pub gate : r ≡ pos 0 → Apart (literal_of p) (literal_of q)
   pub told : (r ≡ pos 0 → ⊥) → Told either p q r

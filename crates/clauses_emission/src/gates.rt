@@ -1,11 +1,11 @@
 // OR, AND and IFF (document 01, "Clauses", second paragraph; document 02, Change 2). Past the limit of variables no gate is made.
 ghost use Rattle.std.specs.Prelude.{◌≡◌, pos};
 ghost use Rattle.literal.specs.Literals.{opposite};
-ghost use Rattle.literal.specs.Words.{literalOf};
+ghost use Rattle.literal.specs.Words.{literal_of};
 ghost use Rattle.clauses_rules.specs.Gates as spec;
-ghost use Rattle.clauses_rules.specs.Gates.{gateOf, inputClauses};
+ghost use Rattle.clauses_rules.specs.Gates.{gate_of, input_clauses};
 ghost use Rattle.clauses_rules.specs.Translation as two;
-ghost use Rattle.clauses_emission.specs.Emission.{literalsOf, Inside, Inputs, Appends, Bounded, Within, EmitsList, EmitsTwo, pairing};
+ghost use Rattle.clauses_emission.specs.Emission.{literals_of, Inside, Inputs, Appends, Bounded, Within, EmitsList, EmitsTwo, pairing};
 ghost use Rattle.clauses_emission.specs.Settling.{Told, Tells};
 
 use super::inputs::{settle, turn};
@@ -18,7 +18,7 @@ fn gate_inputs(list: &mut [i32], tape: Tape, g: i32, inputs: &[i32]) -> Tape
     requires within { Within tape.next }
     requires inputs { Inputs tape.next inputs.now }
     requires g_value { g ≡ pos tape.next }
-    ensures { Appends (inputClauses tape.next (literalsOf inputs.now))
+    ensures { Appends (input_clauses tape.next (literals_of inputs.now))
         list.old tape list.new result }
 {
     let mut after = tape;
@@ -36,7 +36,7 @@ fn gate_inputs(list: &mut [i32], tape: Tape, g: i32, inputs: &[i32]) -> Tape
 fn gate(list: &mut [i32], tape: Tape, inputs: &[i32]) -> Made
     requires bounded { Bounded tape }
     requires inputs { Inputs tape.next inputs.now }
-    ensures { EmitsList gateOf inputs.now list.old tape result.literal list.new result.tape }
+    ensures { EmitsList gate_of inputs.now list.old tape result.literal list.new result.tape }
 {
     if LIMIT < tape.next {
         return Made { literal: 1, tape };
@@ -74,8 +74,8 @@ pub fn or(list: &mut [i32], tape: Tape, inputs: &mut [i32]) -> Made
 // Not: the opposite literal.
 pub fn negate(made: Made) -> Made
     requires bounded { Bounded made.tape }
-    requires inside { Inside made.tape.next (literalOf made.literal) }
-    ensures { (result.tape ≡ made.tape) × (literalOf result.literal ≡ opposite (literalOf made.literal)) }
+    requires inside { Inside made.tape.next (literal_of made.literal) }
+    ensures { (result.tape ≡ made.tape) × (literal_of result.literal ≡ opposite (literal_of made.literal)) }
 {
     let tape = made.tape;
     Made {
@@ -97,8 +97,8 @@ pub fn and(list: &mut [i32], tape: Tape, inputs: &mut [i32]) -> Made
 
 // OR(p, q) where constants, a repeat or opposites tell it; where it is a gate, 0, which is no literal.
 fn told(p: i32, q: i32) -> i32
-    requires inside { Inside 16002 (literalOf p) }
-    requires inside_2 { Inside 16002 (literalOf q) }
+    requires inside { Inside 16002 (literal_of p) }
+    requires inside_2 { Inside 16002 (literal_of q) }
     ensures { Tells p q result }
 {
     if p == -1 {
@@ -124,8 +124,8 @@ fn told(p: i32, q: i32) -> i32
 
 // The same of AND(p, q).
 pub fn told_both(p: i32, q: i32) -> i32
-    requires inside { Inside 16002 (literalOf p) }
-    requires inside_2 { Inside 16002 (literalOf q) }
+    requires inside { Inside 16002 (literal_of p) }
+    requires inside_2 { Inside 16002 (literal_of q) }
     ensures { (result ≡ pos 0 → ⊥) → Told two.both p q result }
 {
     literal::opposite(told(literal::opposite(p), literal::opposite(q)))
@@ -134,8 +134,8 @@ pub fn told_both(p: i32, q: i32) -> i32
 // OR(p, q): a gate is made only where nothing tells it.
 pub fn either(list: &mut [i32], tape: Tape, p: i32, q: i32) -> Made
     requires bounded { Bounded tape }
-    requires inside { Inside tape.next (literalOf p) }
-    requires inside_2 { Inside tape.next (literalOf q) }
+    requires inside { Inside tape.next (literal_of p) }
+    requires inside_2 { Inside tape.next (literal_of q) }
     ensures { EmitsTwo two.either p q list.old tape result.literal list.new result.tape }
 {
     let l = told(p, q);
@@ -148,8 +148,8 @@ pub fn either(list: &mut [i32], tape: Tape, p: i32, q: i32) -> Made
 
 pub fn implies(list: &mut [i32], tape: Tape, p: i32, q: i32) -> Made
     requires bounded { Bounded tape }
-    requires inside { Inside tape.next (literalOf p) }
-    requires inside_2 { Inside tape.next (literalOf q) }
+    requires inside { Inside tape.next (literal_of p) }
+    requires inside_2 { Inside tape.next (literal_of q) }
     ensures { EmitsTwo two.implies p q list.old tape result.literal list.new result.tape }
 {
     either(list, tape, literal::opposite(p), q)
@@ -157,8 +157,8 @@ pub fn implies(list: &mut [i32], tape: Tape, p: i32, q: i32) -> Made
 
 pub fn apart(list: &mut [i32], tape: Tape, p: i32, q: i32) -> Made
     requires bounded { Bounded tape }
-    requires inside { Inside tape.next (literalOf p) }
-    requires inside_2 { Inside tape.next (literalOf q) }
+    requires inside { Inside tape.next (literal_of p) }
+    requires inside_2 { Inside tape.next (literal_of q) }
     ensures { EmitsTwo two.apart p q list.old tape result.literal list.new result.tape }
 {
     either(list, tape, literal::opposite(p), literal::opposite(q))
@@ -166,8 +166,8 @@ pub fn apart(list: &mut [i32], tape: Tape, p: i32, q: i32) -> Made
 
 pub fn both(list: &mut [i32], tape: Tape, p: i32, q: i32) -> Made
     requires bounded { Bounded tape }
-    requires inside { Inside tape.next (literalOf p) }
-    requires inside_2 { Inside tape.next (literalOf q) }
+    requires inside { Inside tape.next (literal_of p) }
+    requires inside_2 { Inside tape.next (literal_of q) }
     ensures { EmitsTwo two.both p q list.old tape result.literal list.new result.tape }
 {
     let made = apart(list, tape, p, q);
@@ -177,8 +177,8 @@ pub fn both(list: &mut [i32], tape: Tape, p: i32, q: i32) -> Made
 // AND(p, -q): the opposite of OR(-p, q).
 pub fn without(list: &mut [i32], tape: Tape, p: i32, q: i32) -> Made
     requires bounded { Bounded tape }
-    requires inside { Inside tape.next (literalOf p) }
-    requires inside_2 { Inside tape.next (literalOf q) }
+    requires inside { Inside tape.next (literal_of p) }
+    requires inside_2 { Inside tape.next (literal_of q) }
     ensures { EmitsTwo two.without p q list.old tape result.literal list.new result.tape }
 {
     let made = implies(list, tape, p, q);
@@ -188,8 +188,8 @@ pub fn without(list: &mut [i32], tape: Tape, p: i32, q: i32) -> Made
 // IFF(p, q): AND(OR(-p, q), OR(-q, p)).
 pub fn same(list: &mut [i32], tape: Tape, p: i32, q: i32) -> Made
     requires bounded { Bounded tape }
-    requires inside { Inside tape.next (literalOf p) }
-    requires inside_2 { Inside tape.next (literalOf q) }
+    requires inside { Inside tape.next (literal_of p) }
+    requires inside_2 { Inside tape.next (literal_of q) }
     ensures { EmitsTwo two.same p q list.old tape result.literal list.new result.tape }
 {
     let x = implies(list, tape, p, q);
@@ -202,8 +202,8 @@ pub fn same(list: &mut [i32], tape: Tape, p: i32, q: i32) -> Made
 // One of these.
 pub fn pair(list: &mut [i32], tape: Tape, kind: Pairing, p: i32, q: i32) -> Made
     requires bounded { Bounded tape }
-    requires inside { Inside tape.next (literalOf p) }
-    requires inside_2 { Inside tape.next (literalOf q) }
+    requires inside { Inside tape.next (literal_of p) }
+    requires inside_2 { Inside tape.next (literal_of q) }
     ensures { EmitsTwo (pairing kind) p q list.old tape result.literal list.new result.tape }
 {
     match kind {

@@ -1,8 +1,8 @@
 // Clauses in the lent list, each headed by its literal count: what lies past the list's end is counted and not stored.
 ghost use Rattle.std.specs.Prelude.{◌≡◌, [], ◌∷◌, suc, ◌≤◌, pos, negsuc, length, get_or, set};
 ghost use Rattle.prelude.specs.Stores.{put_all};
-ghost use Rattle.literal.specs.Words.{literalOf};
-ghost use Rattle.clauses_emission.specs.Emission.{literalsOf, mostInputs, Appends, Room};
+ghost use Rattle.literal.specs.Words.{literal_of};
+ghost use Rattle.clauses_emission.specs.Emission.{literals_of, most_inputs, Appends, Room};
 
 use super::Tape;
 
@@ -17,7 +17,7 @@ fn put(list: &mut [i32], at: usize, word: i32)
 
 // The clause writer: writes a clause from the start of the part not yet filled.
 fn write_clause(rest: &mut [i32], first: i32, others: &[i32])
-    requires { length others.now ≤ mostInputs }
+    requires { length others.now ≤ most_inputs }
     ensures { rest.new ≡ put_all rest.old 0
         (pos (suc (length others.now)) ∷ first ∷ others.now) }
 {
@@ -34,7 +34,7 @@ fn write_clause(rest: &mut [i32], first: i32, others: &[i32])
 
 // Lends the part not yet filled, if the list reaches that far, to the clause writer.
 fn write_at(list: &mut [i32], at: usize, first: i32, others: &[i32])
-    requires { length others.now ≤ mostInputs }
+    requires { length others.now ≤ most_inputs }
     ensures { list.new ≡ put_all list.old at
         (pos (suc (length others.now)) ∷ first ∷ others.now) }
 {
@@ -46,7 +46,7 @@ fn write_at(list: &mut [i32], at: usize, first: i32, others: &[i32])
 // One more clause: a first literal, and others.
 pub fn emit_clause(list: &mut [i32], tape: Tape, first: i32, others: &[i32]) -> Tape
     requires { Room tape others.now }
-    ensures { Appends ((literalOf first ∷ literalsOf others.now) ∷ []) list.old tape list.new result }
+    ensures { Appends ((literal_of first ∷ literals_of others.now) ∷ []) list.old tape list.new result }
 {
     let at = tape.words;
     write_at(list, at, first, others);

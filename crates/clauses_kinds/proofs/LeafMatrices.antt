@@ -11,29 +11,29 @@ use lib.IntN.{ℤ, pos, negsuc}
 use lib.ListN.{length, get_or, take, get_or-eq_default}
 use lib.Seq.{get_or-take}
 use Rattle.literal.specs.Literals.{Literal, word_of}
-use Rattle.literal.specs.Words.{literalOf}
-use Rattle.sheet_rules.specs.Blocks.{Sheet, scope, isBounded, relationCount}
+use Rattle.literal.specs.Words.{literal_of}
+use Rattle.sheet_rules.specs.Blocks.{Sheet, scope, is_bounded, relation_count}
 use Rattle.sheet_rules.specs.Blocks as blocks
 use Rattle.sheet_rules.specs.Facts.{Facts}
 use Rattle.relational.specs.Trees.{Leaf, relation, atoms, identity}
-use Rattle.relational.specs.Cells.{firstMember, rowCount, rowLength, firstCell}
+use Rattle.relational.specs.Cells.{first_member, row_count, row_length, first_cell}
 use Rattle.relational.specs.Meaning.{Environment}
-use Rattle.relational.specs.Matrices.{from, upto, Place, places, Matrix, setOf, relationOf, leafMatrix}
+use Rattle.relational.specs.Matrices.{from, upto, Place, places, Matrix, set_of, relation_of, leaf_matrix}
 use Rattle.relational.proofs.Places.{length-map-from, from_at, upto-at, length-places, places-at, row_below}
 use Rattle.relational.proofs.Places.{column-below, square}
 use Rattle.cells.proofs.Layouts.{set-rows}
 use Rattle.cells.proofs.Members.{bounded-upto}
-use Rattle.clauses_rules.specs.Translation.{constant, absent, literalAt}
-use Rattle.clauses_emission.specs.Emission.{Inside, AllInside, literalsOf}
+use Rattle.clauses_rules.specs.Translation.{constant, absent, literal_at}
+use Rattle.clauses_emission.specs.Emission.{Inside, AllInside, literals_of}
 use Rattle.clauses_matrix.specs.declared.Literals.{Literals}
-use Rattle.clauses_matrix.specs.Matrices.{matrixOf, cells_of, Operand}
+use Rattle.clauses_matrix.specs.Matrices.{matrix_of, cells_of, Operand}
 use Rattle.clauses_emission.proofs.Ranges.{get_d_any, literal-of, inside-absent}
-use Rattle.clauses_kinds.specs.Leaves.{Filled, cellFrom, LeafIs, Constants, Diagonal}
+use Rattle.clauses_kinds.specs.Leaves.{Filled, cell_from, LeafIs, Constants, Diagonal}
 use Rattle.clauses_kinds.proofs.Lists.{filled_is, filled-cells, filled-fine}
 
-pub constant-word : (b : Bool) {w : ℤ} → w ≡ word_of (constant b) → literalOf w ≡ constant b
-constant-word true e = ap literalOf e
-constant-word false e = ap literalOf e
+pub constant-word : (b : Bool) {w : ℤ} → w ≡ word_of (constant b) → literal_of w ≡ constant b
+constant-word true e = ap literal_of e
+constant-word false e = ap literal_of e
 
 constant-inside : (b : Bool) (n : ℕ) → 2 ≤ n → Inside n (constant b)
 constant-inside true n h = record { low = omega arith; high = omega arith }
@@ -42,14 +42,14 @@ constant-inside false n h = record { low = omega arith; high = omega arith }
 -- all cells are constants
 module _ (n : ℕ) (f : ℕ → Bool) (ws : List ℤ) where
   pub set-from : n ≤ 8 → Filled (λ i. constant (f i)) n ws
-      → Constants (setOf n (map (λ i. constant (f i)) (upto n))) (record { arity = 1; rows = 1; columns = n; cells = ws })
+      → Constants (set_of n (map (λ i. constant (f i)) (upto n))) (record { arity = 1; rows = 1; columns = n; cells = ws })
   set-from l h =
       record {
         is = rw (one-mul n, filled-cells (λ i. constant (f i)) h (omega arith));
         fine = λ k two.
             record {
-              arity-low = omega arith;
-              arity-high = omega arith;
+              arity_low = omega arith;
+              arity_high = omega arith;
               set = λ e. refl;
               rows = omega arith;
               columns = l;
@@ -69,29 +69,29 @@ two-columns k (inr e) = (omega (arith, e), omega (arith, e))
 
 -- the identity on the atoms of a set, as code reads them
 abbrev pub diagonal : Literals → ℕ → Literal
-diagonal p k = cond (eqb (k / p.columns) (k % p.columns)) (literalOf (get_or p.cells (k / p.columns) (negsuc 0)))
+diagonal p k = cond (eqb (k / p.columns) (k % p.columns)) (literal_of (get_or p.cells (k / p.columns) (negsuc 0)))
     absent
 
 module _ (p : Literals) (ws : List ℤ) (l : p.columns ≤ 8) (h : Filled (diagonal p) (p.columns * p.columns) ws) where
   abbrev diagonal-matrix : Literals
   diagonal-matrix = record { arity = 2; rows = p.columns; columns = p.columns; cells = ws }
 
-  module _ (n : ℕ) (f : ℕ → Literal) (e : matrixOf p ≡ setOf n (map f (upto n))) where
+  module _ (n : ℕ) (f : ℕ → Literal) (e : matrix_of p ≡ set_of n (map f (upto n))) where
     wide : p.columns ≡ n
     wide = ap (λ (m : Matrix Literal). m.columns) e
 
-    atom-at : (i : ℕ) → i < p.columns → literalOf (get_or p.cells i (negsuc 0)) ≡ f i
+    atom-at : (i : ℕ) → i < p.columns → literal_of (get_or p.cells i (negsuc 0)) ≡ f i
     atom-at i b =
         let one : p.rows ≡ 1 = ap (λ (m : Matrix Literal). m.rows) e in
         let all : i < p.rows * p.columns = rw one (omega arith) in
-        ap literalOf (sym (get_or-take (p.rows * p.columns) p.cells i (negsuc 0) all))
+        ap literal_of (sym (get_or-take (p.rows * p.columns) p.cells i (negsuc 0) all))
         ∙ literal-of (take (p.rows * p.columns) p.cells) i
         ∙ ap (λ (m : Matrix Literal). get_or m.cells i absent) e ∙ upto-at f absent n i (omega (arith, wide))
 
     abbrev on : Place → Literal
     on t = cond (eqb t.0 t.1) (f t.0) (constant false)
 
-    diagonal-is : matrixOf diagonal-matrix ≡ relationOf n n (map on (places n n))
+    diagonal-is : matrix_of diagonal-matrix ≡ relation_of n n (map on (places n n))
     diagonal-is =
         let c : ℕ = p.columns in
         let cells : List Literal = map on (places c c) in
@@ -110,8 +110,8 @@ module _ (p : Literals) (ws : List ℤ) (l : p.columns ≤ 8) (h : Filled (diago
         room = h.room;
         fine = λ k two o.
             record {
-              arity-low = omega arith;
-              arity-high = omega arith;
+              arity_low = omega arith;
+              arity_high = omega arith;
               set = λ e. absurd (omega arith);
               rows = l;
               columns = l;
@@ -121,7 +121,7 @@ module _ (p : Literals) (ws : List ℤ) (l : p.columns ≤ 8) (h : Filled (diago
       }
     where
       inside : (k : ℕ) → 2 ≤ k → Operand k p → (b : Bool) (i : ℕ)
-          → Inside k (cond b (literalOf (get_or p.cells i (negsuc 0))) absent)
+          → Inside k (cond b (literal_of (get_or p.cells i (negsuc 0))) absent)
       inside k two o true i = rw (literal-of p.cells i) (o.cells.inside i)
       inside k two o false i = inside-absent k two
 
@@ -133,12 +133,12 @@ inside-two k ls inside =
 
 -- a leaf of constants
 pub constant-leaf : {sheet : Sheet} {given : List ℤ} {l : Leaf} {a : ℕ} {env : Environment} {matrix : Matrix Literal} {m : Literals}
-    → Constants matrix m → matrix ≡ leafMatrix sheet (literalAt sheet (literalsOf given)) constant l a env → LeafIs sheet given l a env m
+    → Constants matrix m → matrix ≡ leaf_matrix sheet (literal_at sheet (literals_of given)) constant l a env → LeafIs sheet given l a env m
 constant-leaf {given = given} h e =
     record {
       matrix = h.is ∙ e;
       room = (h.fine 2 (omega arith)).cells.room;
-      fine = λ n i. h.fine n (inside-two n (literalsOf given) i);
+      fine = λ n i. h.fine n (inside-two n (literals_of given) i);
     }
 
 -- the word that code reads, in its array
@@ -149,25 +149,25 @@ read_word p i l e q = q ∙ get_d_any p.cells i (pos 0) (negsuc 0) (omega (arith
 -- the atoms of a bounded sort: its membership cells
 pub members-from : {sheet : Sheet} (given : List ℤ) (k : ℕ) (env : Environment) {n first : ℕ} (ws : List ℤ)
     → (n ≡ scope sheet k) × (n ≤ 8)
-    → first ≡ firstMember sheet k → isBounded sheet k ≡ true → Filled (cellFrom given first) n ws
+    → first ≡ first_member sheet k → is_bounded sheet k ≡ true → Filled (cell_from given first) n ws
     → LeafIs sheet given atoms k env (record { arity = 1; rows = 1; columns = n; cells = ws })
 members-from {sheet} given k env {n} {first} ws en ef b h =
-    let lit : ℕ → Literal = literalAt sheet (literalsOf given) in
+    let lit : ℕ → Literal = literal_at sheet (literals_of given) in
     record {
       matrix =
-          rw (one-mul n) (ap (setOf n) (filled-cells (cellFrom given first) h (omega (arith, en.1))))
+          rw (one-mul n) (ap (set_of n) (filled-cells (cell_from given first) h (omega (arith, en.1))))
           ∙ bounded-upto sheet lit constant k env en.0 ef b;
       room = h.room;
       fine = λ m inside.
           record {
-            arity-low = omega arith;
-            arity-high = omega arith;
+            arity_low = omega arith;
+            arity_high = omega arith;
             set = λ e. refl;
             rows = omega arith;
             columns = en.1;
             cells =
                 rw (one-mul n)
-                (filled-fine (cellFrom given first) h (omega (arith, en.1)) (inside-two m (literalsOf given) inside) λ
+                (filled-fine (cell_from given first) h (omega (arith, en.1)) (inside-two m (literals_of given) inside) λ
                 i p. inside (first + i));
           };
     }
@@ -180,34 +180,34 @@ identity-leaf {given = given} h d =
     record {
       matrix = d.is _ _ h.matrix;
       room = d.room;
-      fine = λ n inside. d.fine n (inside-two n (literalsOf given) inside) (h.fine n inside);
+      fine = λ n inside. d.fine n (inside-two n (literals_of given) inside) (h.fine n inside);
     }
 
 -- the cells of a relation
 module _ {sheet : Sheet} (facts : Facts sheet) (given : List ℤ) (r : ℕ) (env : Environment)
     {arity rows columns first : ℕ} (ws : List ℤ) where
-  pub relation-from : r < relationCount sheet → arity ≡ blocks.columns sheet r → (rows ≡ rowCount sheet r) × (rows ≤ 8)
-      → (columns ≡ rowLength sheet r) × (columns ≤ 8) → first ≡ firstCell sheet r → Filled (cellFrom given first) (rows * columns) ws
+  pub relation-from : r < relation_count sheet → arity ≡ blocks.columns sheet r → (rows ≡ row_count sheet r) × (rows ≤ 8)
+      → (columns ≡ row_length sheet r) × (columns ≤ 8) → first ≡ first_cell sheet r → Filled (cell_from given first) (rows * columns) ws
       → LeafIs sheet given relation r env (record { arity = arity; rows = rows; columns = columns; cells = ws })
   relation-from there ea er ec ef h =
       let n : ℕ = rows * columns in
-      let two : (1 ≤ arity) × (arity ≤ 2) = rw ea (two-columns (blocks.columns sheet r) (facts.columns-two r there)) in
-      let cells : List Literal = map (literalAt sheet (literalsOf given)) (from first n) in
+      let two : (1 ≤ arity) × (arity ≤ 2) = rw ea (two-columns (blocks.columns sheet r) (facts.columns_two r there)) in
+      let cells : List Literal = map (literal_at sheet (literals_of given)) (from first n) in
       let e : cells_of n ws ≡ cells =
-      filled_is (cellFrom given first) h (square er.1 ec.1) cells (length-map-from (literalAt sheet (literalsOf given)) first n)
-      λ i p. from_at (literalAt sheet (literalsOf given)) absent first n i p in
+      filled_is (cell_from given first) h (square er.1 ec.1) cells (length-map-from (literal_at sheet (literals_of given)) first n)
+      λ i p. from_at (literal_at sheet (literals_of given)) absent first n i p in
       record {
         matrix = matrix-same ea er.0 ec.0 (e ∙ rw (er.0, ec.0, ef));
         room = h.room;
         fine = λ k inside.
             record {
-              arity-low = two.0;
-              arity-high = two.1;
+              arity_low = two.0;
+              arity_high = two.1;
               set = λ one. er.0 ∙ sym (set-rows sheet r ea one);
               rows = er.1;
               columns = ec.1;
               cells =
-                  filled-fine (cellFrom given first) h (square er.1 ec.1) (inside-two k (literalsOf given) inside)
+                  filled-fine (cell_from given first) h (square er.1 ec.1) (inside-two k (literals_of given) inside)
                   λ i p. inside (first + i);
             };
       }

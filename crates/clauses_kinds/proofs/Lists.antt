@@ -9,11 +9,11 @@ use lib.ListN.{length, get_or, set, take, replicate, length-set, length-map, get
 use lib.ListN.{get_or-eq_default}
 use lib.Seq.{get_or-set_same, get_or-set_other, get_or-take, length-take-le, ext_get_or}
 use Rattle.literal.specs.Literals.{Literal}
-use Rattle.literal.specs.Words.{literalOf}
+use Rattle.literal.specs.Words.{literal_of}
 use Rattle.relational.specs.Matrices.{upto}
 use Rattle.relational.proofs.Places.{upto-at, length-map-from}
 use Rattle.clauses_rules.specs.Translation.{absent}
-use Rattle.clauses_emission.specs.Emission.{Inside, literalsOf}
+use Rattle.clauses_emission.specs.Emission.{Inside, literals_of}
 use Rattle.clauses_matrix.specs.Matrices.{Cells, cells_of}
 use Rattle.clauses_emission.proofs.Ranges.{literal-of, literal-at, inside-absent}
 use Rattle.clauses_kinds.specs.Leaves.{Filled}
@@ -27,7 +27,7 @@ module _ (f : ℕ → Literal) where
         rest = λ i l h. get_or-replicate 64 i (negsuc 0) (pos 0) h;
       }
 
-  pub filled_more : {k : ℕ} {ws : List ℤ} (w : ℤ) → Filled f k ws → k < 64 → literalOf w ≡ f k → Filled f (k + 1) (set ws k w)
+  pub filled_more : {k : ℕ} {ws : List ℤ} (w : ℤ) → Filled f k ws → k < 64 → literal_of w ≡ f k → Filled f (k + 1) (set ws k w)
   filled_more {k} {ws} w h l e =
       record {
         room = length-set ws k w ∙ h.room;
@@ -35,9 +35,9 @@ module _ (f : ℕ → Literal) where
         rest = λ i p q. get_or-set_other ws k i w (pos 0) (λ z. absurd (omega arith)) ∙ h.rest i (omega arith) q;
       }
     where
-      here : (i : ℕ) → i < k + 1 → Dec (i ≡ k) → literalOf (get_or (set ws k w) i (pos 0)) ≡ f i
-      here i p (yes z) = rw z (ap literalOf (get_or-set_same ws k w (pos 0) (omega (arith, h.room))) ∙ e)
-      here i p (no z) = ap literalOf (get_or-set_other ws k i w (pos 0) z) ∙ h.done i (omega arith)
+      here : (i : ℕ) → i < k + 1 → Dec (i ≡ k) → literal_of (get_or (set ws k w) i (pos 0)) ≡ f i
+      here i p (yes z) = rw z (ap literal_of (get_or-set_same ws k w (pos 0) (omega (arith, h.room))) ∙ e)
+      here i p (no z) = ap literal_of (get_or-set_other ws k i w (pos 0) z) ∙ h.done i (omega arith)
 
   pub filled_at : {n : ℕ} {ws : List ℤ} → Filled f n ws → (k : ℕ) → k ≤ n → n ≤ k → Filled f k ws
   filled_at {n} h k p q = let e : n ≡ k = omega arith in rw e at h
@@ -45,10 +45,10 @@ module _ (f : ℕ → Literal) where
   pub filled-cell : {n : ℕ} {ws : List ℤ} → Filled f n ws → n ≤ 64 → (i : ℕ) → i < n → get_or (cells_of n ws) i absent ≡ f i
   filled-cell {n} {ws} h l i p =
       let q : length (take n ws) ≡ n = length-take-le n ws (omega (arith, h.room)) in
-      literal-at (take n ws) i (omega arith) ∙ ap literalOf (get_or-take n ws i (pos 0) p) ∙ h.done i p
+      literal-at (take n ws) i (omega arith) ∙ ap literal_of (get_or-take n ws i (pos 0) p) ∙ h.done i p
 
   pub filled-length : {n : ℕ} {ws : List ℤ} → Filled f n ws → n ≤ 64 → length (cells_of n ws) ≡ n
-  filled-length {n} {ws} h l = length-map (take n ws) literalOf ∙ length-take-le n ws (omega (arith, h.room))
+  filled-length {n} {ws} h l = length-map (take n ws) literal_of ∙ length-take-le n ws (omega (arith, h.room))
 
   -- the cells are those of any list that has them
   pub filled_is : {n : ℕ} {ws : List ℤ} → Filled f n ws → n ≤ 64 → (ls : List Literal) → length ls ≡ n
@@ -70,7 +70,7 @@ module _ (f : ℕ → Literal) where
         inside = λ i. at i (dec_lt i 64) (dec_lt i n);
       }
     where
-      at : (i : ℕ) → Dec (i < 64) → Dec (i < n) → Inside m (get_or (literalsOf ws) i absent)
+      at : (i : ℕ) → Dec (i < 64) → Dec (i < n) → Inside m (get_or (literals_of ws) i absent)
       at i (yes p) (yes q) = rw (literal-at ws i (omega (arith, h.room)), h.done i q) (inside i q)
       at i (yes p) (no q) = rw (literal-at ws i (omega (arith, h.room)), h.rest i (omega arith) p) (inside-absent m two)
       at i (no p) d = rw (← literal-of ws i, get_or-eq_default ws (negsuc 0) {n = i} (omega (arith, h.room))) (inside-absent m two)

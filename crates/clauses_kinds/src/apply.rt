@@ -1,16 +1,16 @@
 // The operators, by kind (document 01, "Clauses", the last list). What an operand left on the tape is where the operator starts.
 ghost use Rattle.std.specs.Prelude.{◌≡◌};
-ghost use Rattle.literal.specs.Words.{literalOf};
+ghost use Rattle.literal.specs.Words.{literal_of};
 ghost use Rattle.relational.specs.Trees.{Binary, Unary, Comparison, Test, Connective, Quantifier};
 ghost use Rattle.relational.specs.Trees.{binary-symbol, unary-symbol, comparison-symbol, test-symbol, connective-symbol};
 ghost use Rattle.relational.specs.Trees.{quantifier-symbol, symbol_of, intersection, for_some};
 ghost use Rattle.relational.specs.Meaning.{Environment};
-ghost use Rattle.sheet_rules.specs.Blocks.{sheetOf};
+ghost use Rattle.sheet_rules.specs.Blocks.{sheet_of};
 ghost use Rattle.sheet_rules.specs.Reading.{accepted, reading};
-ghost use Rattle.clauses_rules.specs.Translation.{translateBinary, translateUnary, translateComparison};
-ghost use Rattle.clauses_rules.specs.Translation.{translateTest, translateConnective, translateQuantifier, range};
-ghost use Rattle.clauses_emission.specs.Emission.{Inside, literalsOf, Bounded, EmitsLiteral, EmitsTwo};
-ghost use Rattle.clauses_matrix.specs.Matrices.{matrixOf, Operand, EmitsMatrix, EmitsBinary, EmitsUnary, EmitsTest};
+ghost use Rattle.clauses_rules.specs.Translation.{translate_binary, translate_unary, translate_comparison};
+ghost use Rattle.clauses_rules.specs.Translation.{translate_test, translate_connective, translate_quantifier, range};
+ghost use Rattle.clauses_emission.specs.Emission.{Inside, literals_of, Bounded, EmitsLiteral, EmitsTwo};
+ghost use Rattle.clauses_matrix.specs.Matrices.{matrix_of, Operand, EmitsMatrix, EmitsBinary, EmitsUnary, EmitsTest};
 ghost use Rattle.clauses_kinds.specs.Leaves.{Bodies};
 
 use super::leaves;
@@ -27,7 +27,7 @@ pub fn binary(list: &mut [i32], kind: usize, p: MadeMatrix, q: MadeMatrix) -> Ma
     requires operand { Operand q.tape.next p.matrix }
     requires operand_2 { Operand q.tape.next q.matrix }
     ensures { (o : Binary) → symbol_of kind ≡ binary-symbol o
-        → EmitsBinary (translateBinary o) p.matrix q.matrix
+        → EmitsBinary (translate_binary o) p.matrix q.matrix
         list.old q.tape result.matrix list.new result.tape }
 {
     let left = p.matrix;
@@ -47,7 +47,7 @@ pub fn unary(list: &mut [i32], kind: usize, p: MadeMatrix) -> MadeMatrix
     requires bounded { Bounded p.tape }
     requires operand { Operand p.tape.next p.matrix }
     ensures { (o : Unary) → symbol_of kind ≡ unary-symbol o
-        → EmitsUnary (translateUnary o) p.matrix list.old p.tape result.matrix list.new result.tape }
+        → EmitsUnary (translate_unary o) p.matrix list.old p.tape result.matrix list.new result.tape }
 {
     let operand = p.matrix;
     let tape = p.tape;
@@ -63,7 +63,7 @@ pub fn compare(list: &mut [i32], kind: usize, p: MadeMatrix, q: MadeMatrix) -> M
     requires operand { Operand q.tape.next p.matrix }
     requires operand_2 { Operand q.tape.next q.matrix }
     ensures { (o : Comparison) → symbol_of kind ≡ comparison-symbol o
-        → EmitsLiteral (translateComparison o (matrixOf p.matrix) (matrixOf q.matrix) q.tape.next)
+        → EmitsLiteral (translate_comparison o (matrix_of p.matrix) (matrix_of q.matrix) q.tape.next)
         list.old q.tape result.literal list.new result.tape }
 {
     let left = p.matrix;
@@ -80,7 +80,7 @@ pub fn test(list: &mut [i32], kind: usize, p: MadeMatrix) -> Made
     requires bounded { Bounded p.tape }
     requires operand { Operand p.tape.next p.matrix }
     ensures { (o : Test) → symbol_of kind ≡ test-symbol o
-        → EmitsTest (translateTest o) p.matrix list.old p.tape result.literal list.new result.tape }
+        → EmitsTest (translate_test o) p.matrix list.old p.tape result.literal list.new result.tape }
 {
     let operand = p.matrix;
     let tape = p.tape;
@@ -94,10 +94,10 @@ pub fn test(list: &mut [i32], kind: usize, p: MadeMatrix) -> Made
 // Kinds 31 to 34: and, or, implies, iff.
 pub fn connect(list: &mut [i32], kind: usize, p: Made, q: Made) -> Made
     requires bounded { Bounded q.tape }
-    requires inside { Inside q.tape.next (literalOf p.literal) }
-    requires inside_2 { Inside q.tape.next (literalOf q.literal) }
+    requires inside { Inside q.tape.next (literal_of p.literal) }
+    requires inside_2 { Inside q.tape.next (literal_of q.literal) }
     ensures { (o : Connective) → symbol_of kind ≡ connective-symbol o
-        → EmitsTwo (translateConnective o) p.literal q.literal
+        → EmitsTwo (translate_connective o) p.literal q.literal
         list.old q.tape result.literal list.new result.tape }
 {
     let tape = q.tape;
@@ -115,7 +115,7 @@ fn quantify(list: &mut [i32], kind: usize, atoms: Literals, p: MadeMatrix) -> Ma
     requires operand { Operand p.tape.next atoms }
     requires operand_2 { Operand p.tape.next p.matrix }
     ensures { (o : Quantifier) → symbol_of kind ≡ quantifier-symbol o
-        → EmitsLiteral (translateQuantifier o (matrixOf atoms) (matrixOf p.matrix) p.tape.next)
+        → EmitsLiteral (translate_quantifier o (matrix_of atoms) (matrix_of p.matrix) p.tape.next)
         list.old p.tape result.literal list.new result.tape }
 {
     let bodies = p.matrix;
@@ -131,7 +131,7 @@ fn some_matched(list: &mut [i32], tape: Tape, p: Literals, q: Literals) -> Made
     requires bounded { Bounded tape }
     requires operand { Operand tape.next p }
     requires operand_2 { Operand tape.next q }
-    ensures { EmitsLiteral (translateQuantifier for_some (matrixOf p) (matrixOf q) tape.next)
+    ensures { EmitsLiteral (translate_quantifier for_some (matrix_of p) (matrix_of q) tape.next)
         list.old tape result.literal list.new result.tape }
 {
     let made = matched(list, tape, Pairing::Both, p, q);
@@ -153,9 +153,9 @@ pub fn quantify_over(
     requires sheet_value { reading sheet.now ≡ accepted layout }
     requires bodies { Bodies given.now p }
     ensures { (env : Environment) (o : Quantifier) → symbol_of kind ≡ quantifier-symbol o
-        → EmitsLiteral (translateQuantifier o
-        (range (sheetOf sheet.now) (literalsOf given.now) x env)
-        (matrixOf p.matrix) p.tape.next)
+        → EmitsLiteral (translate_quantifier o
+        (range (sheet_of sheet.now) (literals_of given.now) x env)
+        (matrix_of p.matrix) p.tape.next)
         list.old p.tape result.literal list.new result.tape }
 {
     let atoms = leaves::range(sheet, layout, given, x);
@@ -174,9 +174,9 @@ pub fn comprehend(
     requires sheet_value { reading sheet.now ≡ accepted layout }
     requires bodies { Bodies given.now p }
     ensures { (env : Environment)
-        → EmitsMatrix (translateBinary intersection
-        (range (sheetOf sheet.now) (literalsOf given.now) x env)
-        (matrixOf p.matrix) p.tape.next)
+        → EmitsMatrix (translate_binary intersection
+        (range (sheet_of sheet.now) (literals_of given.now) x env)
+        (matrix_of p.matrix) p.tape.next)
         list.old p.tape result.matrix list.new result.tape }
 {
     let atoms = leaves::range(sheet, layout, given, x);

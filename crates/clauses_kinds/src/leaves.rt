@@ -1,19 +1,19 @@
 // The matrices of relations, variables, sorts and identities (document 01, "Clauses").
 ghost use Rattle.std.specs.Prelude.{◌≡◌, true, cond, map, ℕ, ◌≤◌, ◌<◌, eqb, length};
 ghost use Rattle.literal.specs.Literals.{word_of};
-ghost use Rattle.literal.specs.Words.{literalOf};
-ghost use Rattle.sheet_rules.specs.Blocks.{relationCount, sortOf, sheetOf};
+ghost use Rattle.literal.specs.Words.{literal_of};
+ghost use Rattle.sheet_rules.specs.Blocks.{relation_count, sort_of, sheet_of};
 ghost use Rattle.sheet_rules.specs.Reading.{accepted, reading};
 ghost use Rattle.relational.specs.Trees.{Leaf, leaf-symbol, symbol_of};
 ghost use Rattle.relational.specs.Trees as trees;
 ghost use Rattle.relational.specs.Meaning.{Environment};
-ghost use Rattle.relational.specs.Cells.{mostCells};
-ghost use Rattle.relational.specs.Matrices.{setOf, upto};
+ghost use Rattle.relational.specs.Cells.{most_cells};
+ghost use Rattle.relational.specs.Matrices.{set_of, upto};
 ghost use Rattle.cells.specs.Private.{Located};
 ghost use Rattle.nodes.specs.Environments.{environment};
 ghost use Rattle.clauses_rules.specs.Translation.{constant, absent};
 ghost use Rattle.clauses_matrix.specs.Matrices.{Operand};
-ghost use Rattle.clauses_kinds.specs.Leaves.{Filled, cellFrom, LeafIs, Constants, Diagonal};
+ghost use Rattle.clauses_kinds.specs.Leaves.{Filled, cell_from, LeafIs, Constants, Diagonal};
 
 use cells::{
     arity, first_member, is_bounded, row_count, row_length, scope, scope_of_variable,
@@ -33,8 +33,8 @@ fn truth(b: bool) -> i32
 
 // The words of size cells, from the first on.
 fn copied(given: &[i32], first: usize, size: usize) -> [i32; 64]
-    requires { (first ≤ mostCells) × (size ≤ 64) }
-    ensures { Filled (cellFrom given.now first) size result }
+    requires { (first ≤ most_cells) × (size ≤ 64) }
+    ensures { Filled (cell_from given.now first) size result }
 {
     let mut cells = [-1; 64];
     let mut k: usize = 0;
@@ -49,8 +49,8 @@ fn copied(given: &[i32], first: usize, size: usize) -> [i32; 64]
 // The literals of a relation's cells.
 fn relation(sheet: &[u8], layout: Layout, given: &[i32], starts: &[usize], r: usize) -> Literals
     requires located { Located sheet.now layout starts.now }
-    requires r_bound { r < relationCount (sheetOf sheet.now) }
-    ensures { (env : Environment) → LeafIs (sheetOf sheet.now) given.now trees.relation r env result }
+    requires r_bound { r < relation_count (sheet_of sheet.now) }
+    ensures { (env : Environment) → LeafIs (sheet_of sheet.now) given.now trees.relation r env result }
 {
     let first = starts[r];
     let arity = arity(sheet, layout, r);
@@ -68,7 +68,7 @@ fn relation(sheet: &[u8], layout: Layout, given: &[i32], starts: &[usize], r: us
 // One atom of a sort of n.
 fn single(n: usize, atom: usize) -> Literals
     requires { n ≤ 8 }
-    ensures { Constants (setOf n (map (λ (i : ℕ). constant (eqb i atom)) (upto n))) result }
+    ensures { Constants (set_of n (map (λ (i : ℕ). constant (eqb i atom)) (upto n))) result }
 {
     let mut cells = [-1; 64];
     let mut k: usize = 0;
@@ -88,7 +88,7 @@ fn single(n: usize, atom: usize) -> Literals
 // All atoms of a sort of n that is not bounded.
 fn full(n: usize) -> Literals
     requires { n ≤ 8 }
-    ensures { Constants (setOf n (map (λ (i : ℕ). constant true) (upto n))) result }
+    ensures { Constants (set_of n (map (λ (i : ℕ). constant true) (upto n))) result }
 {
     let mut cells = [-1; 64];
     let mut k: usize = 0;
@@ -108,7 +108,7 @@ fn full(n: usize) -> Literals
 fn atoms(sheet: &[u8], layout: Layout, given: &[i32], sort: usize) -> Literals
     requires { reading sheet.now ≡ accepted layout }
     ensures { (env : Environment)
-        → LeafIs (sheetOf sheet.now) given.now trees.atoms sort env result }
+        → LeafIs (sheet_of sheet.now) given.now trees.atoms sort env result }
 {
     let columns = scope(sheet, layout, sort);
     if is_bounded(sheet, layout, sort) {
@@ -127,15 +127,15 @@ fn atoms(sheet: &[u8], layout: Layout, given: &[i32], sort: usize) -> Literals
 pub(crate) fn range(sheet: &[u8], layout: Layout, given: &[i32], x: usize) -> Literals
     requires { reading sheet.now ≡ accepted layout }
     ensures { (env : Environment)
-        → LeafIs (sheetOf sheet.now) given.now trees.atoms
-        (sortOf (sheetOf sheet.now) x) env result }
+        → LeafIs (sheet_of sheet.now) given.now trees.atoms
+        (sort_of (sheet_of sheet.now) x) env result }
 {
     atoms(sheet, layout, given, sort_of_variable(sheet, layout, x))
 }
 
 // A literal, or that of false.
 fn kept(test: bool, l: i32) -> i32
-    ensures { literalOf result ≡ cond test (literalOf l) absent }
+    ensures { literal_of result ≡ cond test (literal_of l) absent }
 {
     if test { l } else { -1 }
 }
@@ -173,9 +173,9 @@ pub fn leaf(
     a: usize,
 ) -> Literals
     requires located { Located sheet.now layout starts.now }
-    requires a_bound { kind ≡ 1 → a < relationCount (sheetOf sheet.now) }
+    requires a_bound { kind ≡ 1 → a < relation_count (sheet_of sheet.now) }
     ensures { (l : Leaf) → symbol_of kind ≡ leaf-symbol l
-        → LeafIs (sheetOf sheet.now) given.now l a (environment env) result }
+        → LeafIs (sheet_of sheet.now) given.now l a (environment env) result }
 {
     match kind {
         1 => relation(sheet, layout, given, starts, a),

@@ -3,16 +3,16 @@
 use Rattle.std.specs.Prelude.{◌≡◌, Bool, false, cond, List, [], ◌∷◌, ◌++◌, map, ℕ, ◌+◌, ◌≤◌, ◌<◌, ℤ, length}
 use Rattle.literal.specs.Literals.{Literal, opposite}
 use Rattle.sheet_rules.specs.declared.Layout.{Layout}
-use Rattle.sheet_rules.specs.Blocks.{Sheet, isBounded, multiplicity, firstSort, sheetOf}
+use Rattle.sheet_rules.specs.Blocks.{Sheet, is_bounded, multiplicity, first_sort, sheet_of}
 use Rattle.sheet_rules.specs.Reading.{accepted, reading}
-use Rattle.relational.specs.Cells.{is_set, rowCount, rowLength, cellCount}
+use Rattle.relational.specs.Cells.{is_set, row_count, row_length, cell_count}
 use Rattle.cells.specs.Private.{Located}
 use Rattle.clauses_rules.specs.Gates.{Clause}
 use Rattle.clauses_rules.specs.Translation.{Two}
-use Rattle.clauses_rules.specs.Whole.{series, rowClauses, rowLiterals, memberLiterals, rowMembers, cellMembers}
-use Rattle.clauses_rules.specs.Whole.{cellClauses}
+use Rattle.clauses_rules.specs.Whole.{series, row_clauses, row_literals, member_literals, row_members, cell_members}
+use Rattle.clauses_rules.specs.Whole.{cell_clauses}
 use Rattle.clauses_emission.specs.declared.Tape.{Tape}
-use Rattle.clauses_emission.specs.Emission.{AllInside, literalsOf, Appends}
+use Rattle.clauses_emission.specs.Emission.{AllInside, literals_of, Appends}
 
 -- clauses and words so far
 pub record Small (most : ℕ) (tape : Tape) : Type 0 where
@@ -22,7 +22,7 @@ pub record Small (most : ℕ) (tape : Tape) : Type 0 where
 -- literals of a row
 pub record Members (most : ℕ) (ws : List ℤ) : Type 0 where
   pub few : length ws ≤ most
-  pub inside : AllInside 16002 (literalsOf ws)
+  pub inside : AllInside 16002 (literals_of ws)
 
 pub record Some (ws : List ℤ) : Type 0 where
   pub some : 1 ≤ length ws
@@ -30,19 +30,19 @@ pub record Some (ws : List ℤ) : Type 0 where
 -- these clauses were written after what was there, and they are few
 pub record Adds (most : ℕ) (clauses : List Clause) (old : List ℤ) (before : Tape) (new : List ℤ) (after : Tape) : Type 0 where
   pub appends : Appends clauses old before new after
-  pub few-clauses : after.clauses ≤ before.clauses + most
+  pub few_clauses : after.clauses ≤ before.clauses + most
   pub few_words : after.words ≤ before.words + most
 
 -- the literals of an accepted sheet's cells, in order
 pub record Given (sheet : List ℕ) (layout : Layout) (given : List ℤ) (starts : List ℕ) : Type 0 where
   pub located : Located sheet layout starts
-  pub size : length given ≡ cellCount (sheetOf sheet)
-  pub inside : AllInside 16002 (literalsOf given)
+  pub size : length given ≡ cell_count (sheet_of sheet)
+  pub inside : AllInside 16002 (literals_of given)
 
 -- an accepted sheet, and literals of its cells
 pub record Accepts (sheet : List ℕ) (layout : Layout) (given : List ℤ) : Type 0 where
   pub taken : reading sheet ≡ accepted layout
-  pub inside : AllInside 16002 (literalsOf given)
+  pub inside : AllInside 16002 (literals_of given)
 
 -- the literals of row i of relation r
 pub record RowOf (sheet : List ℕ) (layout : Layout) (given : List ℤ) (r i : ℕ) (row : List ℤ) : Type 0 where
@@ -53,35 +53,35 @@ pub record RowOf (sheet : List ℕ) (layout : Layout) (given : List ℤ) (r i : 
   pub some : Some row
 
 -- the pairs with one first member
-abbrev pub pairsWith : Literal → List Literal → List Two
-pairsWith p qs = map {B = Two} (λ q. (p, q)) qs
+abbrev pub pairs_with : Literal → List Literal → List Two
+pairs_with p qs = map {B = Two} (λ q. (p, q)) qs
 
 -- the whole row, from its member on where there is one
-abbrev pub isGuarded : Sheet → ℕ → Bool
-isGuarded sheet r = cond (is_set sheet r) false (isBounded sheet (firstSort sheet r))
+abbrev pub is_guarded : Sheet → ℕ → Bool
+is_guarded sheet r = cond (is_set sheet r) false (is_bounded sheet (first_sort sheet r))
 
-abbrev pub rowClause : Sheet → List Literal → ℕ → ℕ → List Literal → List Clause
-rowClause sheet cells r i row = (map opposite (rowMembers sheet cells r i) ++ row) ∷ []
+abbrev pub row_clause : Sheet → List Literal → ℕ → ℕ → List Literal → List Clause
+row_clause sheet cells r i row = (map opposite (row_members sheet cells r i) ++ row) ∷ []
 
 -- a row of a relation, and all rows of it
-abbrev pub rowMarks : Sheet → List Literal → ℕ → ℕ → List Clause
-rowMarks sheet cells r i = rowClauses (multiplicity sheet r) (rowMembers sheet cells r i) (rowLiterals sheet cells r i)
+abbrev pub row_marks : Sheet → List Literal → ℕ → ℕ → List Clause
+row_marks sheet cells r i = row_clauses (multiplicity sheet r) (row_members sheet cells r i) (row_literals sheet cells r i)
 
-abbrev pub relationClauses : Sheet → List Literal → ℕ → List Clause
-relationClauses sheet cells r = series (rowCount sheet r) (rowMarks sheet cells r)
+abbrev pub relation_clauses : Sheet → List Literal → ℕ → List Clause
+relation_clauses sheet cells r = series (row_count sheet r) (row_marks sheet cells r)
 
 -- (-cell, member): of an atom, of a cell's columns, of a row, of a relation
-abbrev pub memberClause : Literal → Literal → Clause
-memberClause l m = opposite l ∷ m ∷ []
+abbrev pub member_clause : Literal → Literal → Clause
+member_clause l m = opposite l ∷ m ∷ []
 
-abbrev pub atomClauses : Sheet → List Literal → Literal → ℕ → ℕ → List Clause
-atomClauses sheet cells l k i = map (memberClause l) (memberLiterals sheet cells k i)
+abbrev pub atom_clauses : Sheet → List Literal → Literal → ℕ → ℕ → List Clause
+atom_clauses sheet cells l k i = map (member_clause l) (member_literals sheet cells k i)
 
-abbrev pub columnClauses : Sheet → List Literal → Literal → ℕ → ℕ → ℕ → List Clause
-columnClauses sheet cells l r i j = map (memberClause l) (cellMembers sheet cells r i j)
+abbrev pub column_clauses : Sheet → List Literal → Literal → ℕ → ℕ → ℕ → List Clause
+column_clauses sheet cells l r i j = map (member_clause l) (cell_members sheet cells r i j)
 
-abbrev pub rowInside : Sheet → List Literal → ℕ → ℕ → List Clause
-rowInside sheet cells r i = series (rowLength sheet r) (cellClauses sheet cells r i)
+abbrev pub row_inside : Sheet → List Literal → ℕ → ℕ → List Clause
+row_inside sheet cells r i = series (row_length sheet r) (cell_clauses sheet cells r i)
 
-abbrev pub relationInside : Sheet → List Literal → ℕ → List Clause
-relationInside sheet cells r = series (rowCount sheet r) (rowInside sheet cells r)
+abbrev pub relation_inside : Sheet → List Literal → ℕ → List Clause
+relation_inside sheet cells r = series (row_count sheet r) (row_inside sheet cells r)

@@ -1,16 +1,16 @@
 // The clauses of the marks (document 01, "Clauses"): relation by relation, row by row.
 ghost use Rattle.std.specs.Prelude.{◌≡◌, map, ◌<◌};
-ghost use Rattle.literal.specs.Words.{literalOf};
+ghost use Rattle.literal.specs.Words.{literal_of};
 ghost use Rattle.sheet_rules.specs.Blocks as spec;
-ghost use Rattle.sheet_rules.specs.Blocks.{relationCount, sheetOf};
+ghost use Rattle.sheet_rules.specs.Blocks.{relation_count, sheet_of};
 ghost use Rattle.sheet_rules.specs.Reading.{accepted, reading};
-ghost use Rattle.relational.specs.Cells.{memberCell};
+ghost use Rattle.relational.specs.Cells.{member_cell};
 ghost use Rattle.relational.specs.Matrices.{pairs};
-ghost use Rattle.clauses_rules.specs.Translation.{literalAt};
-ghost use Rattle.clauses_rules.specs.Whole.{pairClause, rowClauses, rowMembers, markClauses};
-ghost use Rattle.clauses_emission.specs.Emission.{Inside, literalsOf};
-ghost use Rattle.clauses_marks.specs.Marking.{Small, Members, Adds, Given, RowOf, pairsWith, isGuarded};
-ghost use Rattle.clauses_marks.specs.Marking.{rowClause, relationClauses};
+ghost use Rattle.clauses_rules.specs.Translation.{literal_at};
+ghost use Rattle.clauses_rules.specs.Whole.{pair_clause, row_clauses, row_members, mark_clauses};
+ghost use Rattle.clauses_emission.specs.Emission.{Inside, literals_of};
+ghost use Rattle.clauses_marks.specs.Marking.{Small, Members, Adds, Given, RowOf, pairs_with, is_guarded};
+ghost use Rattle.clauses_marks.specs.Marking.{row_clause, relation_clauses};
 
 use cells::{arity, first_member, first_sort, is_bounded, multiplicity, row_count, row_length};
 use clauses_emission::Tape;
@@ -22,9 +22,9 @@ pub mod members; // members.rt: cells of members only
 // (-p, -q) for each q of the others, in order.
 fn pairs_with(list: &mut [i32], tape: Tape, p: i32, others: &[i32]) -> Tape
     requires small { Small 80000 tape }
-    requires inside { Inside 16002 (literalOf p) }
+    requires inside { Inside 16002 (literal_of p) }
     requires members { Members 7 others.now }
-    ensures { Adds 21 (map pairClause (pairsWith (literalOf p) (literalsOf others.now)))
+    ensures { Adds 21 (map pair_clause (pairs_with (literal_of p) (literals_of others.now)))
         list.old tape list.new result }
 {
     let first = literal::opposite(p);
@@ -43,7 +43,7 @@ fn pairs_with(list: &mut [i32], tape: Tape, p: i32, others: &[i32]) -> Tape
 fn row_pairs(list: &mut [i32], tape: Tape, row: &[i32]) -> Tape
     requires small { Small 70000 tape }
     requires members { Members 8 row.now }
-    ensures { Adds 168 (map pairClause (pairs (literalsOf row.now))) list.old tape list.new result }
+    ensures { Adds 168 (map pair_clause (pairs (literals_of row.now))) list.old tape list.new result }
 {
     let mut after = tape;
     let mut k: usize = 0;
@@ -61,7 +61,7 @@ fn row_pairs(list: &mut [i32], tape: Tape, row: &[i32]) -> Tape
 fn is_guarded(sheet: &[u8], layout: Layout, r: usize) -> bool
     requires sheet_value { reading sheet.now ≡ accepted layout }
     requires r_bound { r < 256 }
-    ensures { result ≡ isGuarded (sheetOf sheet.now) r }
+    ensures { result ≡ is_guarded (sheet_of sheet.now) r }
 {
     if arity(sheet, layout, r) == 1 {
         return false;
@@ -73,9 +73,9 @@ fn is_guarded(sheet: &[u8], layout: Layout, r: usize) -> bool
 fn member(sheet: &[u8], layout: Layout, given: &[i32], sort: usize, i: usize) -> i32
     requires sheet_value { reading sheet.now ≡ accepted layout }
     requires sort_bound { (sort < 8) × (i < 8) }
-    ensures { literalOf result ≡
-        literalAt (sheetOf sheet.now) (literalsOf given.now)
-        (memberCell (sheetOf sheet.now) sort i) }
+    ensures { literal_of result ≡
+        literal_at (sheet_of sheet.now) (literals_of given.now)
+        (member_cell (sheet_of sheet.now) sort i) }
 {
     word_at(given, first_member(sheet, layout, sort) + i)
 }
@@ -94,7 +94,7 @@ fn row_clause(
     requires small { Small 70000 tape }
     requires row_of { RowOf sheet.now layout given.now r i row.now }
     ensures { Adds 10
-        (rowClause (sheetOf sheet.now) (literalsOf given.now) r i (literalsOf row.now))
+        (row_clause (sheet_of sheet.now) (literals_of given.now) r i (literals_of row.now))
         list.old tape list.new result }
 {
     if is_guarded(sheet, layout, r) {
@@ -124,9 +124,9 @@ fn row_marks(
 ) -> Tape
     requires small { Small 60000 tape }
     requires row_of { RowOf sheet.now layout given.now r i row.now }
-    ensures { Adds 178 (rowClauses (spec.multiplicity (sheetOf sheet.now) r)
-        (rowMembers (sheetOf sheet.now) (literalsOf given.now) r i)
-        (literalsOf row.now))
+    ensures { Adds 178 (row_clauses (spec.multiplicity (sheet_of sheet.now) r)
+        (row_members (sheet_of sheet.now) (literals_of given.now) r i)
+        (literals_of row.now))
         list.old tape list.new result }
 {
     let mark = multiplicity(sheet, layout, r);
@@ -152,8 +152,8 @@ fn relation_marks(
 ) -> Tape
     requires small { Small 50000 tape }
     requires given { Given sheet.now layout given.now starts.now }
-    requires r_bound { r < relationCount (sheetOf sheet.now) }
-    ensures { Adds 1424 (relationClauses (sheetOf sheet.now) (literalsOf given.now) r)
+    requires r_bound { r < relation_count (sheet_of sheet.now) }
+    ensures { Adds 1424 (relation_clauses (sheet_of sheet.now) (literals_of given.now) r)
         list.old tape list.new result }
 {
     let rows = row_count(sheet, layout, r);
@@ -181,7 +181,7 @@ pub fn marks(
 ) -> Tape
     requires small { Small 10000 tape }
     requires given { Given sheet.now layout given.now starts.now }
-    ensures { Adds 22784 (markClauses (sheetOf sheet.now) (literalsOf given.now))
+    ensures { Adds 22784 (mark_clauses (sheet_of sheet.now) (literals_of given.now))
         list.old tape list.new result }
 {
     let relations = layout.relations;

@@ -1,13 +1,13 @@
 // "a clause (-cell, member) for each relation cell and each of its columns over a limited sort, first column first,
 // ahead of the marks" (document 02, Change 8).
 ghost use Rattle.std.specs.Prelude.{◌≡◌, ◌<◌, ◌≤◌};
-ghost use Rattle.literal.specs.Words.{literalOf};
-ghost use Rattle.sheet_rules.specs.Blocks.{relationCount, sheetOf};
-ghost use Rattle.relational.specs.Cells.{mostCells, cell};
-ghost use Rattle.clauses_rules.specs.Whole.{memberClauses};
-ghost use Rattle.clauses_emission.specs.Emission.{Inside, literalsOf};
-ghost use Rattle.clauses_marks.specs.Marking.{Small, Adds, Given, Accepts, atomClauses, columnClauses, rowInside};
-ghost use Rattle.clauses_marks.specs.Marking.{relationInside};
+ghost use Rattle.literal.specs.Words.{literal_of};
+ghost use Rattle.sheet_rules.specs.Blocks.{relation_count, sheet_of};
+ghost use Rattle.relational.specs.Cells.{most_cells, cell};
+ghost use Rattle.clauses_rules.specs.Whole.{member_clauses};
+ghost use Rattle.clauses_emission.specs.Emission.{Inside, literals_of};
+ghost use Rattle.clauses_marks.specs.Marking.{Small, Adds, Given, Accepts, atom_clauses, column_clauses, row_inside};
+ghost use Rattle.clauses_marks.specs.Marking.{relation_inside};
 
 use super::member;
 use cells::{arity, first_sort, is_bounded, over_bounded, row_count, row_length, second_sort};
@@ -28,9 +28,9 @@ fn atom_clause(
 ) -> Tape
     requires small { Small 90000 tape }
     requires accepts { Accepts sheet.now layout given.now }
-    requires inside { Inside 16002 (literalOf cell) × (i < 8) }
+    requires inside { Inside 16002 (literal_of cell) × (i < 8) }
     ensures { Adds 3
-        (atomClauses (sheetOf sheet.now) (literalsOf given.now) (literalOf cell) sort i)
+        (atom_clauses (sheet_of sheet.now) (literals_of given.now) (literal_of cell) sort i)
         list.old tape list.new result }
 {
     if is_bounded(sheet, layout, sort) {
@@ -54,9 +54,9 @@ fn cell_clauses(
 ) -> Tape
     requires small { Small 80000 tape }
     requires accepts { Accepts sheet.now layout given.now }
-    requires inside { Inside 16002 (literalOf cell) × ((r < 256) × ((i < 8) × (j < 8))) }
+    requires inside { Inside 16002 (literal_of cell) × ((r < 256) × ((i < 8) × (j < 8))) }
     ensures { Adds 6
-        (columnClauses (sheetOf sheet.now) (literalsOf given.now) (literalOf cell) r i j)
+        (column_clauses (sheet_of sheet.now) (literals_of given.now) (literal_of cell) r i j)
         list.old tape list.new result }
 {
     let first = first_sort(sheet, layout, r);
@@ -81,9 +81,9 @@ fn row_inside(
 ) -> Tape
     requires small { Small 70000 tape }
     requires accepts { Accepts sheet.now layout given.now }
-    requires r_bound { (r < 256) × ((i < 8) × (first ≤ mostCells)) }
-    requires first_value { first ≡ cell (sheetOf sheet.now) r i 0 }
-    ensures { Adds 48 (rowInside (sheetOf sheet.now) (literalsOf given.now) r i)
+    requires r_bound { (r < 256) × ((i < 8) × (first ≤ most_cells)) }
+    requires first_value { first ≡ cell (sheet_of sheet.now) r i 0 }
+    ensures { Adds 48 (row_inside (sheet_of sheet.now) (literals_of given.now) r i)
         list.old tape list.new result }
 {
     let columns = row_length(sheet, layout, r);
@@ -109,8 +109,8 @@ fn rows_inside(
 ) -> Tape
     requires small { Small 50000 tape }
     requires given { Given sheet.now layout given.now starts.now }
-    requires r_bound { r < relationCount (sheetOf sheet.now) }
-    ensures { Adds 384 (relationInside (sheetOf sheet.now) (literalsOf given.now) r)
+    requires r_bound { r < relation_count (sheet_of sheet.now) }
+    ensures { Adds 384 (relation_inside (sheet_of sheet.now) (literals_of given.now) r)
         list.old tape list.new result }
 {
     let rows = row_count(sheet, layout, r);
@@ -137,8 +137,8 @@ fn relation_inside(
 ) -> Tape
     requires small { Small 50000 tape }
     requires given { Given sheet.now layout given.now starts.now }
-    requires r_bound { r < relationCount (sheetOf sheet.now) }
-    ensures { Adds 384 (relationInside (sheetOf sheet.now) (literalsOf given.now) r)
+    requires r_bound { r < relation_count (sheet_of sheet.now) }
+    ensures { Adds 384 (relation_inside (sheet_of sheet.now) (literals_of given.now) r)
         list.old tape list.new result }
 {
     if over_bounded(sheet, layout, r) {
@@ -158,7 +158,7 @@ pub fn members(
 ) -> Tape
     requires small { Small 1000 tape }
     requires given { Given sheet.now layout given.now starts.now }
-    ensures { Adds 6144 (memberClauses (sheetOf sheet.now) (literalsOf given.now))
+    ensures { Adds 6144 (member_clauses (sheet_of sheet.now) (literals_of given.now))
         list.old tape list.new result }
 {
     let relations = layout.relations;

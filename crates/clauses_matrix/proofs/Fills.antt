@@ -15,20 +15,20 @@ use mir.Val.{Fits}
 use borrow.Author.Tests.{ltb-true, ltb-false}
 use Rattle.prelude.proofs.Laws.{decided}
 use Rattle.literal.specs.Literals.{Literal}
-use Rattle.literal.specs.Words.{literalOf}
-use Rattle.relational.specs.Matrices.{from, upto, cell_at, joinColumns}
+use Rattle.literal.specs.Words.{literal_of}
+use Rattle.relational.specs.Matrices.{from, upto, cell_at, join_columns}
 use Rattle.relational.proofs.Places.{place-below, square}
 use Rattle.clauses_rules.specs.Builder.{Builder, each}
 use Rattle.clauses_rules.specs.Translation.{Two, absent}
 use Rattle.clauses_emission.specs.declared.Tape.{Tape}
 use Rattle.clauses_matrix.specs.declared.Literals.{Literals}
-use Rattle.clauses_emission.specs.Emission.{Inside, AllInside, literalsOf, mostInputs, Inputs, Bounded, EmitsLiteral}
-use Rattle.clauses_matrix.specs.Matrices.{cells_of, Cells, matrixOf, Operand, EmitsCells}
+use Rattle.clauses_emission.specs.Emission.{Inside, AllInside, literals_of, most_inputs, Inputs, Bounded, EmitsLiteral}
+use Rattle.clauses_matrix.specs.Matrices.{cells_of, Cells, matrix_of, Operand, EmitsCells}
 use Rattle.clauses_emission.proofs.Ranges.{inside-absent, all-grows, literal-at}
 use Rattle.clauses_emission.proofs.Steps.{Regular, emits-return, emits-more, emits-as}
 
 -- ---- nothing filled yet
-pub blank-inside : (n m : ℕ) → 2 ≤ n → AllInside n (literalsOf (replicate m (negsuc 0)))
+pub blank-inside : (n m : ℕ) → 2 ≤ n → AllInside n (literals_of (replicate m (negsuc 0)))
 blank-inside n zero h i = inside-absent n h
 blank-inside n (suc m) h zero = inside-absent n h
 blank-inside n (suc m) h (suc i) = blank-inside n m h i
@@ -55,7 +55,7 @@ pub map_same : {A : Type 0} (f g : ℕ → A) (n : ℕ) → ((j : ℕ) → j < n
 map_same f g n h = from-same f g 0 n (λ j l. h j (omega arith))
 
 -- ---- one more cell
-pub all_set : (n : ℕ) (ws : List ℤ) (k : ℕ) (w : ℤ) → AllInside n (literalsOf ws) → Inside n (literalOf w) → AllInside n (literalsOf (set ws k w))
+pub all_set : (n : ℕ) (ws : List ℤ) (k : ℕ) (w : ℤ) → AllInside n (literals_of ws) → Inside n (literal_of w) → AllInside n (literals_of (set ws k w))
 all_set n [] k w a i j = a j
 all_set n (v ∷ ws) zero w a i zero = i
 all_set n (v ∷ ws) zero w a i (suc j) = a (suc j)
@@ -64,9 +64,9 @@ all_set n (v ∷ ws) (suc k) w a i (suc j) = all_set n ws k w (λ m. a (suc m)) 
 
 cells-grow : {size n m : ℕ} {ws : List ℤ} → n ≤ m → Cells size n ws → Cells size m ws
 cells-grow {size} {n} {m} {ws} h c =
-    record { room = c.room; small = c.small; rest = c.rest; inside = all-grows (literalsOf ws) h c.inside }
+    record { room = c.room; small = c.small; rest = c.rest; inside = all-grows (literals_of ws) h c.inside }
 
-cells-set : (k n : ℕ) (ws : List ℤ) (w : ℤ) → k < 64 → Cells k n ws → Inside n (literalOf w) → Cells (suc k) n (set ws k w)
+cells-set : (k n : ℕ) (ws : List ℤ) (w : ℤ) → k < 64 → Cells k n ws → Inside n (literal_of w) → Cells (suc k) n (set ws k w)
 cells-set k n ws w h c i = record {
   room = length-set ws k w ∙ c.room;
   small = h;
@@ -74,8 +74,8 @@ cells-set k n ws w h c i = record {
   inside = all_set n ws k w c.inside i;
 }
 
-pub cells-more : (k : ℕ) (ws : List ℤ) (w : ℤ) → k < length ws → cells_of k ws ++ (literalOf w ∷ []) ≡ cells_of (suc k) (set ws k w)
-cells-more k ws w h = sym (ap literalsOf (take-suc-set ws k w h) ∙ map-append literalOf (take k ws) (w ∷ []))
+pub cells-more : (k : ℕ) (ws : List ℤ) (w : ℤ) → k < length ws → cells_of k ws ++ (literal_of w ∷ []) ≡ cells_of (suc k) (set ws k w)
+cells-more k ws w h = sym (ap literals_of (take-suc-set ws k w h) ∙ map-append literal_of (take k ws) (w ∷ []))
 
 module _ {A : Type 0} (step : A → Builder Literal) (regular : (x : A) → Regular (step x)) (f : ℕ → A) where
   pub cells-next : (k : ℕ) (ws : List ℤ) (w : ℤ) {old mid new : List ℤ} {a b c : Tape} → k < 64
@@ -98,34 +98,34 @@ module _ {A : Type 0} (step : A → Builder Literal) (regular : (x : A) → Regu
 below-or-past : (k n : ℕ) → (k < n) ⊎ (n ≤ k)
 below-or-past k n = ⊎_elim (λ t. inl (ltb-true k n t)) (λ f. inr (ltb-false k n f)) (decided (ltb k n))
 
-cells_at : (size n : ℕ) (ws : List ℤ) (k : ℕ) → Cells size n ws → k < 64 → get_or (cells_of size ws) k absent ≡ literalOf (get_or ws k (pos 0))
+cells_at : (size n : ℕ) (ws : List ℤ) (k : ℕ) → Cells size n ws → k < 64 → get_or (cells_of size ws) k absent ≡ literal_of (get_or ws k (pos 0))
 cells_at size n ws k c h = ⊎_elim inner outer (below-or-past k size)
   where
     count : length (take size ws) ≡ size
     count = length-take-le size ws (omega (arith, c.room, c.small))
 
-    inner : k < size → get_or (cells_of size ws) k absent ≡ literalOf (get_or ws k (pos 0))
-    inner l = literal-at (take size ws) k (omega (arith, count)) ∙ ap literalOf (get_or-take size ws k (pos 0) l)
+    inner : k < size → get_or (cells_of size ws) k absent ≡ literal_of (get_or ws k (pos 0))
+    inner l = literal-at (take size ws) k (omega (arith, count)) ∙ ap literal_of (get_or-take size ws k (pos 0) l)
 
-    outer : size ≤ k → get_or (cells_of size ws) k absent ≡ literalOf (get_or ws k (pos 0))
+    outer : size ≤ k → get_or (cells_of size ws) k absent ≡ literal_of (get_or ws k (pos 0))
     outer l =
-        get_or-eq_default (cells_of size ws) absent {n = k} (omega (arith, length-map (take size ws) literalOf, count))
-        ∙ sym (ap literalOf (c.rest k l h))
+        get_or-eq_default (cells_of size ws) absent {n = k} (omega (arith, length-map (take size ws) literal_of, count))
+        ∙ sym (ap literal_of (c.rest k l h))
 
 pub cells-length : (size n : ℕ) (ws : List ℤ) → Cells size n ws → length (cells_of size ws) ≡ size
-cells-length size n ws c = length-map (take size ws) literalOf ∙ length-take-le size ws (omega (arith, c.room, c.small))
+cells-length size n ws c = length-map (take size ws) literal_of ∙ length-take-le size ws (omega (arith, c.room, c.small))
 
 module _ (n : ℕ) (m : Literals) (k : ℕ) (o : Operand n m) (h : k < 64) where
-  pub operand_at : literalOf (get_or m.cells k (pos 0)) ≡ cell_at absent (matrixOf m) k
+  pub operand_at : literal_of (get_or m.cells k (pos 0)) ≡ cell_at absent (matrix_of m) k
   operand_at = sym (cells_at (m.rows * m.columns) n m.cells k o.cells h)
 
-  pub operand-inside : Inside n (literalOf (get_or m.cells k (pos 0)))
+  pub operand-inside : Inside n (literal_of (get_or m.cells k (pos 0)))
   operand-inside = rw (literal-at m.cells k (omega (arith, o.cells.room))) at (o.cells.inside k)
 
 pub operand-grow : {n p : ℕ} {m : Literals} → n ≤ p → Operand n m → Operand p m
 operand-grow h o = record {
-  arity-low = o.arity-low;
-  arity-high = o.arity-high;
+  arity_low = o.arity_low;
+  arity_high = o.arity_high;
   set = o.set;
   rows = o.rows;
   columns = o.columns;
@@ -134,7 +134,7 @@ operand-grow h o = record {
 
 -- two cells, as the code reads them
 abbrev pub pair_at : List ℤ → List ℤ → (ℕ → ℕ) → (ℕ → ℕ) → ℕ → Two
-pair_at left right i j k = (literalOf (get_or left (i k) (pos 0)), literalOf (get_or right (j k) (pos 0)))
+pair_at left right i j k = (literal_of (get_or left (i k) (pos 0)), literal_of (get_or right (j k) (pos 0)))
 
 -- ---- what the cells of a matrix go into
 pub size_fits : (r c : ℕ) → r ≤ 8 → c ≤ 8 → Fits w64 (r * c)
@@ -160,13 +160,13 @@ pub place_in : (r c i j : ℕ) → r ≤ 8 → c ≤ 8 → i < r → j < c → i
 place_in r c i j h l a b = cell_below r c (i * c + j) h l (place-below r c i j a b)
 
 -- ---- cells that go into an OR
-pub all-front : (n k : ℕ) (ws : List ℤ) → 2 ≤ n → AllInside n (literalsOf ws) → AllInside n (literalsOf (take k ws))
+pub all-front : (n k : ℕ) (ws : List ℤ) → 2 ≤ n → AllInside n (literals_of ws) → AllInside n (literals_of (take k ws))
 all-front n zero ws h a i = inside-absent n h
 all-front n (suc k) [] h a i = inside-absent n h
 all-front n (suc k) (w ∷ ws) h a zero = a 0
 all-front n (suc k) (w ∷ ws) h a (suc i) = all-front n k ws h (λ j. a (suc j)) i
 
-pub inputs-front : (k n : ℕ) (ws : List ℤ) → 2 ≤ n → length ws ≤ mostInputs → AllInside n (literalsOf ws) → Inputs n (take k ws)
+pub inputs-front : (k n : ℕ) (ws : List ℤ) → 2 ≤ n → length ws ≤ most_inputs → AllInside n (literals_of ws) → Inputs n (take k ws)
 inputs-front k n ws h l a = record { few = omega (arith, length-take k ws); inside = all-front n k ws h a }
 
 pub front-inputs : (size k n : ℕ) (ws : List ℤ) → 2 ≤ n → Cells size n ws → Inputs n (take k ws)
@@ -176,9 +176,9 @@ pub front_length : (size k n : ℕ) (ws : List ℤ) → Cells size n ws → k �
 front_length size k n ws c h = sym (length-take-le k ws (omega (arith, c.room)))
 
 -- ---- a set on the right of a join is a column
-few-columns : (b : Bool) (c : ℕ) → c ≤ 8 → cond b 1 c ≤ 8
-few-columns true c h = omega arith
-few-columns false c h = h
+few_columns : (b : Bool) (c : ℕ) → c ≤ 8 → cond b 1 c ≤ 8
+few_columns true c h = omega arith
+few_columns false c h = h
 
-pub join-few : (n : ℕ) (q : Literals) → Operand n q → joinColumns (matrixOf q) ≤ 8
-join-few n q o = few-columns (eqb q.arity 1) q.columns o.columns
+pub join-few : (n : ℕ) (q : Literals) → Operand n q → join_columns (matrix_of q) ≤ 8
+join-few n q o = few_columns (eqb q.arity 1) q.columns o.columns

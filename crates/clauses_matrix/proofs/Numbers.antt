@@ -5,7 +5,7 @@ use Prim.Native.Nat.{ℕ, zero, suc, ◌+◌, ◌*◌, ◌/◌, ◌%◌, ◌≤�
 use native.Mathlib.Nat.{add-zero, zero-mul, div-eq_of_lt, mod-eq_of_lt, mul-add-div_right}
 use native.Mathlib.Nat.{mul-add-mod_self_right, div-add-mod', zero-div, zero-mod}
 use native.Mathlib.Omega.{arith}
-use Rattle.relational.specs.Matrices.{from, upto, Place, placesFrom, places}
+use Rattle.relational.specs.Matrices.{from, upto, Place, places_from, places}
 
 abbrev pub place_of : ℕ → ℕ → Place
 place_of c k = (k / c, k % c)
@@ -57,14 +57,14 @@ row_of i c s (suc n) h =
     rw (place-of i c s (omega arith))
     (ap (λ (l : List Place). (i, s) ∷ l) (row_of i c (suc s) n (omega arith) ∙ ap (λ (k : ℕ). map (place_of c) (from k n)) e))
 
-rows_of : (i r c : ℕ) → placesFrom i r c ≡ map (place_of c) (from (i * c) (r * c))
+rows_of : (i r c : ℕ) → places_from i r c ≡ map (place_of c) (from (i * c) (r * c))
 rows_of i zero c = rw (zero-mul c)
 rows_of i (suc r) c =
     let e : suc r * c ≡ c + r * c = omega arith in
     let f : i * c + c ≡ suc i * c = omega arith in
     let z : i * c + 0 ≡ i * c = add-zero (i * c) in
     rw (e, from-add (i * c) c (r * c), map-append (place_of c) (from (i * c) c) (from (i * c + c) (r * c)), f, ← rows_of (suc i) r c)
-    (ap (λ (l : List Place). l ++ placesFrom (suc i) r c) (row_of i c 0 c (omega arith) ∙ ap (λ (k : ℕ). map (place_of c) (from k c)) z))
+    (ap (λ (l : List Place). l ++ places_from (suc i) r c) (row_of i c 0 c (omega arith) ∙ ap (λ (k : ℕ). map (place_of c) (from k c)) z))
 
 pub places-by-number : (r c : ℕ) → places r c ≡ map (place_of c) (upto (r * c))
 places-by-number r c = rows_of 0 r c ∙ ap (λ (k : ℕ). map (place_of c) (from k (r * c))) (zero-mul c)

@@ -15,7 +15,7 @@ use Rattle.clauses_rules.specs.Gates.{or, and}
 use Rattle.clauses_rules.specs.Translation.{Two, absent, both, apart}
 use Rattle.clauses_emission.specs.declared.Tape.{Tape}
 use Rattle.clauses_emission.specs.declared.Pairing.TheVariants.{Both}
-use Rattle.clauses_emission.specs.Emission.{AllInside, literalsOf, Inputs, Bounded, Emits, EmitsLiteral}
+use Rattle.clauses_emission.specs.Emission.{AllInside, literals_of, Inputs, Bounded, Emits, EmitsLiteral}
 use Rattle.clauses_emission.proofs.Ranges.{all-grows}
 use Rattle.clauses_emission.proofs.Steps.{regular-each, regular-map, regular-pairing, emits-return, emits-bind, emits-map, emits-as}
 use Rattle.clauses_emission.proofs.Steps.{each_more}
@@ -67,7 +67,7 @@ pub record Passed (ls : List Literal) (t i j : ℕ) (old : List ℤ) (a : Tape) 
   pub later : i < j
   pub last : length ls ≤ j → j ≡ suc i
   pub room : length out ≡ 2016
-  pub emits : Emits (each both done a.next) old a (literalsOf (take t out)) new b (λ m. AllInside m (literalsOf out))
+  pub emits : Emits (each both done a.next) old a (literals_of (take t out)) new b (λ m. AllInside m (literals_of out))
 
 pub passed_start : (ls : List Literal) (list : List ℤ) (tape : Tape) → Bounded tape → Passed ls 0 0 1 list tape (replicate 2016 (negsuc 0)) list tape
 unfolding each
@@ -102,17 +102,17 @@ module _ (ls : List Literal) (t i j : ℕ) {old mid : List ℤ} {a b : Tape} (ou
   module _ (w : ℤ) {new : List ℤ} {c : Tape}
       (q : EmitsLiteral (both (get_or ls i absent, get_or ls j absent) b.next) mid b w new c) where
     more : Emits (each both (p.done ++ ((get_or ls i absent, get_or ls j absent) ∷ [])) a.next) old a
-        (literalsOf (take (suc t) (set out t w))) new c (λ m. AllInside m (literalsOf (set out t w)))
+        (literals_of (take (suc t) (set out t w))) new c (λ m. AllInside m (literals_of (set out t w)))
     more =
         let x : Two = (get_or ls i absent, get_or ls j absent) in
-        let ys = literalsOf (take t out) in
+        let ys = literals_of (take t out) in
         let then : List Literal → Builder (List Literal) = λ zs. (λ z. zs ++ (z ∷ [])) <$> both x in
         emits-as (sym (each_more both p.done x a.next)) (cells-more t out w (omega (arith, passed-room, p.room)))
         (emits-bind (each both p.done) then (regular-each both (regular-pairing Both) p.done)
         (λ zs. regular-map (λ z. zs ++ (z ∷ [])) (both x) (regular-pairing Both x))
         p.emits
         (emits-map (λ z. ys ++ (z ∷ [])) (both x) q refl
-        (all_set c.next out t w (all-grows (literalsOf out) q.grows p.emits.fine) q.fine)))
+        (all_set c.next out t w (all-grows (literals_of out) q.grows p.emits.fine) q.fine)))
 
     -- the pair is passed: what is left goes on from k and m
     passed_to : (k m : ℕ) → rest ls i (suc j) ≡ rest ls k m → k < m → (length ls ≤ m → m ≡ suc k) → Passed ls (t + 1) k m old a (set out t w) new c
@@ -155,7 +155,7 @@ never_both ts g = ap (λ (u : Built (List Literal)). (opposite <$> ((λ h. u) >>
 
 -- all are passed
 pub passed-all : (ls : List Literal) (t i j : ℕ) {old new : List ℤ} {a b : Tape} (out : List ℤ) → Passed ls t i j old a out new b → length ls ≤ j
-    → Emits (each both (pairs ls) a.next) old a (literalsOf (take t out)) new b (λ m. AllInside m (literalsOf out))
+    → Emits (each both (pairs ls) a.next) old a (literals_of (take t out)) new b (λ m. AllInside m (literals_of out))
 passed-all ls t i j {old} {new} {a} {b} out p h =
     let e : p.done ≡ pairs ls =
     sym (p.whole ∙ ap (λ (r : List Two). p.done ++ r) (rest_end ls i j h (p.last h)) ∙ append-nil p.done)

@@ -8,12 +8,12 @@ use lib.ListN.{length}
 use Rattle.literal.specs.Literals.{Literal}
 use Rattle.relational.specs.Matrices.{Matrix}
 use Rattle.clauses_rules.specs.Builder.{Gate, Built, Builder, return}
-use Rattle.clauses_rules.specs.Translation.{roundOf, afterRounds}
+use Rattle.clauses_rules.specs.Translation.{round_of, after_rounds}
 use Rattle.clauses_emission.specs.declared.Tape.{Tape}
 use Rattle.clauses_emission.specs.Emission.{Within}
 use Rattle.clauses_emission.proofs.Steps.{Regular, emits-bind}
 use Rattle.clauses_matrix.specs.declared.Literals.{Literals}
-use Rattle.clauses_matrix.specs.Matrices.{matrixOf, EmitsMatrix, EmitsUnary}
+use Rattle.clauses_matrix.specs.Matrices.{matrix_of, EmitsMatrix, EmitsUnary}
 use Rattle.clauses_matrix.proofs.Regulars.{regular-round, regular-rounds}
 
 -- ---- a step that takes no variable makes no gate
@@ -34,29 +34,29 @@ unchanged {A} b r e =
 
 -- ---- one round more
 abbrev then-round : Built (Matrix Literal) → Built (Matrix Literal)
-then-round b = let r = roundOf b.value b.next in record { value = r.value; gates = b.gates ++ r.gates; next = r.next }
+then-round b = let r = round_of b.value b.next in record { value = r.value; gates = b.gates ++ r.gates; next = r.next }
 
-then_same : (b : Built (Matrix Literal)) (x : Matrix Literal) (g : ℕ) → x ≡ b.value → g ≡ b.next → roundOf x g ≡ return x g
+then_same : (b : Built (Matrix Literal)) (x : Matrix Literal) (g : ℕ) → x ≡ b.value → g ≡ b.next → round_of x g ≡ return x g
     → then-round b ≡ b
-then_same b x g value next e = unchanged b (roundOf b.value b.next) (rw (value, next) at e)
+then_same b x g value next e = unchanged b (round_of b.value b.next) (rw (value, next) at e)
 
 -- ---- j rounds more
 module _ (k : ℕ) (p : Matrix Literal) (g : ℕ) where
-  rounds-grow : (j : ℕ) → (afterRounds k p g).next ≤ (afterRounds (j + k) p g).next
-  unfolding afterRounds
+  rounds-grow : (j : ℕ) → (after_rounds k p g).next ≤ (after_rounds (j + k) p g).next
+  unfolding after_rounds
   rounds-grow zero = let e : 0 + k ≡ k = omega arith in rw e (omega arith)
   rounds-grow (suc j) =
       let e : suc j + k ≡ suc (j + k) = omega arith in
-      let b = afterRounds (j + k) p g in
+      let b = after_rounds (j + k) p g in
       rw e (omega (arith, rounds-grow j, (regular-round b.value).counts b.next))
 
-  rounds-rest : then-round (afterRounds k p g) ≡ afterRounds k p g → (j : ℕ) → afterRounds (j + k) p g ≡ afterRounds k p g
-  unfolding afterRounds
+  rounds-rest : then-round (after_rounds k p g) ≡ after_rounds k p g → (j : ℕ) → after_rounds (j + k) p g ≡ after_rounds k p g
+  unfolding after_rounds
   rounds-rest e zero = let z : 0 + k ≡ k = omega arith in rw z
   rounds-rest e (suc j) = let s : suc j + k ≡ suc (j + k) = omega arith in rw s (ap then-round (rounds-rest e j) ∙ e)
 
 -- ---- a round that leaves a matrix as it was
-matrix-same : (m n : Literals) (g : ℕ) → matrixOf n ≡ (roundOf (matrixOf m) g).value → m.cells ≡ n.cells → matrixOf n ≡ matrixOf m
+matrix-same : (m n : Literals) (g : ℕ) → matrix_of n ≡ (round_of (matrix_of m) g).value → m.cells ≡ n.cells → matrix_of n ≡ matrix_of m
 matrix-same m n g value cells =
     let a : n.arity ≡ m.arity = ap (λ (x : Matrix Literal). x.arity) value in
     let r : n.rows ≡ m.rows = ap (λ (x : Matrix Literal). x.rows) value in
@@ -64,24 +64,24 @@ matrix-same m n g value cells =
     rw (a, r, c, cells)
 
 module _ (k : ℕ) (p : Matrix Literal) {old mid new : List ℤ} {a b c : Tape} {m n : Literals}
-    (before : EmitsMatrix (afterRounds k p a.next) old a m mid b) (round : EmitsUnary roundOf m mid b n new c)
+    (before : EmitsMatrix (after_rounds k p a.next) old a m mid b) (round : EmitsUnary round_of m mid b n new c)
     (next : c.next ≡ b.next) (cells : m.cells ≡ n.cells) where
-  round_same : Within c.next → then-round (afterRounds k p a.next) ≡ afterRounds k p a.next
+  round_same : Within c.next → then-round (after_rounds k p a.next) ≡ after_rounds k p a.next
   round_same w =
       let d = before.done (rw next at w) in
       let e = round.done w in
-      then_same (afterRounds k p a.next) (matrixOf m) b.next d.value d.next
-      (idle (roundOf (matrixOf m)) (regular-round (matrixOf m)) b.next (matrixOf m)
+      then_same (after_rounds k p a.next) (matrix_of m) b.next d.value d.next
+      (idle (round_of (matrix_of m)) (regular-round (matrix_of m)) b.next (matrix_of m)
       (sym e.value ∙ matrix-same m n b.next e.value cells) (sym e.next ∙ next))
 
   -- then more rounds are as good as worked out
-  pub rounds-done : (most : ℕ) → k < most → EmitsMatrix (afterRounds most p a.next) old a n new c
-  unfolding afterRounds
+  pub rounds-done : (most : ℕ) → k < most → EmitsMatrix (after_rounds most p a.next) old a n new c
+  unfolding after_rounds
   rounds-done most h =
       let s : (most - suc k) + suc k ≡ most = omega arith in
       let e : (most - k) + k ≡ most = omega arith in
-      let q : EmitsMatrix (afterRounds (suc k) p a.next) old a n new c =
-      emits-bind (afterRounds k p) roundOf (regular-rounds k p) regular-round before round
+      let q : EmitsMatrix (after_rounds (suc k) p a.next) old a n new c =
+      emits-bind (after_rounds k p) round_of (regular-rounds k p) regular-round before round
       in
       record {
         bounded = q.bounded;

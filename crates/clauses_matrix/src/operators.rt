@@ -2,10 +2,10 @@
 ghost use Rattle.std.specs.Prelude.{true, List, ◌≡◌, ◌*◌, ℤ, length};
 ghost use Rattle.relational.specs.Trees.{join, product, inverse, closure};
 ghost use Rattle.relational.specs.Matrices as matrices;
-ghost use Rattle.clauses_rules.specs.Translation.{joinCells, translateBinary, translateUnary, roundOf};
-ghost use Rattle.clauses_emission.specs.Emission.{literalsOf, Bounded, EmitsLiteral};
-ghost use Rattle.clauses_matrix.specs.Matrices.{matrixOf, Operand, EmitsCells, EmitsBinary, EmitsUnary};
-ghost use Rattle.clauses_matrix.specs.Matrices.{paired, pairedMatrix, joinCell, rowMiddles, RowAndColumn};
+ghost use Rattle.clauses_rules.specs.Translation.{join_cells, translate_binary, translate_unary, round_of};
+ghost use Rattle.clauses_emission.specs.Emission.{literals_of, Bounded, EmitsLiteral};
+ghost use Rattle.clauses_matrix.specs.Matrices.{matrix_of, Operand, EmitsCells, EmitsBinary, EmitsUnary};
+ghost use Rattle.clauses_matrix.specs.Matrices.{paired, paired_matrix, join_cell, row_middles, RowAndColumn};
 
 use super::{Literals, MadeCells, MadeMatrix};
 use clauses_emission::gates::{both, or, pair};
@@ -23,7 +23,7 @@ pub fn matched_cells(
     requires bounded { Bounded tape }
     requires operand { Operand tape.next p }
     requires operand_2 { Operand tape.next q }
-    ensures { EmitsCells (p.rows * p.columns) (paired kind (matrixOf p) (matrixOf q) tape.next)
+    ensures { EmitsCells (p.rows * p.columns) (paired kind (matrix_of p) (matrix_of q) tape.next)
         list.old tape result.cells list.new result.tape }
 {
     let size = p.rows * p.columns;
@@ -45,7 +45,7 @@ pub fn matched(list: &mut [i32], tape: Tape, kind: Pairing, p: Literals, q: Lite
     requires bounded { Bounded tape }
     requires operand { Operand tape.next p }
     requires operand_2 { Operand tape.next q }
-    ensures { EmitsBinary (pairedMatrix kind) p q
+    ensures { EmitsBinary (paired_matrix kind) p q
         list.old tape result.matrix list.new result.tape }
 {
     let made = matched_cells(list, tape, kind, p, q);
@@ -75,7 +75,7 @@ fn join_cell(
     requires bounded { Bounded tape }
     requires row_and_column { RowAndColumn tape.next left.now right.now columns j }
     ensures { EmitsLiteral
-        (joinCell (rowMiddles (literalsOf left.now) (literalsOf right.now) columns j) tape.next)
+        (join_cell (row_middles (literals_of left.now) (literals_of right.now) columns j) tape.next)
         list.old tape result.literal list.new result.tape }
 {
     let mut middles = [-1; 8];
@@ -97,7 +97,7 @@ fn join_cells(list: &mut [i32], tape: Tape, p: Literals, q: Literals) -> MadeCel
     requires bounded { Bounded tape }
     requires operand { Operand tape.next p }
     requires operand_2 { Operand tape.next q }
-    ensures { EmitsCells (p.rows * matrices.joinColumns (matrixOf q)) (joinCells (matrixOf p) (matrixOf q) tape.next)
+    ensures { EmitsCells (p.rows * matrices.join_columns (matrix_of q)) (join_cells (matrix_of p) (matrix_of q) tape.next)
         list.old tape result.cells list.new result.tape }
 {
     let columns = join_columns(q.arity, q.columns);
@@ -130,7 +130,7 @@ pub fn join(list: &mut [i32], tape: Tape, p: Literals, q: Literals) -> MadeMatri
     requires bounded { Bounded tape }
     requires operand { Operand tape.next p }
     requires operand_2 { Operand tape.next q }
-    ensures { EmitsBinary (translateBinary join) p q list.old tape result.matrix list.new result.tape }
+    ensures { EmitsBinary (translate_binary join) p q list.old tape result.matrix list.new result.tape }
 {
     let columns = join_columns(q.arity, q.columns);
     let made = join_cells(list, tape, p, q);
@@ -165,7 +165,7 @@ pub fn product(list: &mut [i32], tape: Tape, p: Literals, q: Literals) -> MadeMa
     requires bounded { Bounded tape }
     requires operand { Operand tape.next p }
     requires operand_2 { Operand tape.next q }
-    ensures { EmitsBinary (translateBinary product) p q list.old tape result.matrix list.new result.tape }
+    ensures { EmitsBinary (translate_binary product) p q list.old tape result.matrix list.new result.tape }
 {
     let columns = q.columns;
     let size = p.columns * columns;
@@ -195,7 +195,7 @@ pub fn product(list: &mut [i32], tape: Tape, p: Literals, q: Literals) -> MadeMa
 pub fn inverse(tape: Tape, p: Literals) -> MadeMatrix
     requires bounded { Bounded tape }
     requires operand { Operand tape.next p }
-    ensures { (list : List ℤ) → EmitsUnary (translateUnary inverse) p list tape result.matrix list result.tape }
+    ensures { (list : List ℤ) → EmitsUnary (translate_unary inverse) p list tape result.matrix list result.tape }
 {
     let rows = p.rows;
     let size = p.columns * rows;
@@ -223,7 +223,7 @@ pub fn inverse(tape: Tape, p: Literals) -> MadeMatrix
 fn round(list: &mut [i32], tape: Tape, p: Literals) -> MadeMatrix
     requires bounded { Bounded tape }
     requires operand { Operand tape.next p }
-    ensures { EmitsUnary roundOf p list.old tape result.matrix list.new result.tape }
+    ensures { EmitsUnary round_of p list.old tape result.matrix list.new result.tape }
 {
     let made = join(list, tape, p, p);
     let joined = made.matrix;
@@ -250,7 +250,7 @@ fn same_words(p: &[i32], q: &[i32]) -> bool
 pub fn closure(list: &mut [i32], tape: Tape, p: Literals) -> MadeMatrix
     requires bounded { Bounded tape }
     requires operand { Operand tape.next p }
-    ensures { EmitsUnary (translateUnary closure) p list.old tape result.matrix list.new result.tape }
+    ensures { EmitsUnary (translate_unary closure) p list.old tape result.matrix list.new result.tape }
 {
     let n = rounds(p.rows);
     let mut matrix = p;

@@ -1,8 +1,8 @@
 // Comparisons, and tests of an expression (document 01, "Clauses", the last list).
 ghost use Rattle.relational.specs.Trees.{some, none, lone};
-ghost use Rattle.clauses_rules.specs.Translation.{translateTest};
+ghost use Rattle.clauses_rules.specs.Translation.{translate_test};
 ghost use Rattle.clauses_emission.specs.Emission.{Bounded, EmitsLiteral};
-ghost use Rattle.clauses_matrix.specs.Matrices.{matrixOf, Operand, EmitsTest, compared};
+ghost use Rattle.clauses_matrix.specs.Matrices.{matrix_of, Operand, EmitsTest, compared};
 
 use super::Literals;
 use super::operators::matched_cells;
@@ -14,7 +14,7 @@ pub fn all_matched(list: &mut [i32], tape: Tape, kind: Pairing, p: Literals, q: 
     requires bounded { Bounded tape }
     requires operand { Operand tape.next p }
     requires operand_2 { Operand tape.next q }
-    ensures { EmitsLiteral (compared kind (matrixOf p) (matrixOf q) tape.next)
+    ensures { EmitsLiteral (compared kind (matrix_of p) (matrix_of q) tape.next)
         list.old tape result.literal list.new result.tape }
 {
     let made = matched_cells(list, tape, kind, p, q);
@@ -27,7 +27,7 @@ pub fn all_matched(list: &mut [i32], tape: Tape, kind: Pairing, p: Literals, q: 
 pub fn some(list: &mut [i32], tape: Tape, p: Literals) -> Made
     requires bounded { Bounded tape }
     requires operand { Operand tape.next p }
-    ensures { EmitsTest (translateTest some) p list.old tape result.literal list.new result.tape }
+    ensures { EmitsTest (translate_test some) p list.old tape result.literal list.new result.tape }
 {
     let mut cells = p.cells;
     let n = p.rows * p.columns;
@@ -37,7 +37,7 @@ pub fn some(list: &mut [i32], tape: Tape, p: Literals) -> Made
 pub fn none(list: &mut [i32], tape: Tape, p: Literals) -> Made
     requires bounded { Bounded tape }
     requires operand { Operand tape.next p }
-    ensures { EmitsTest (translateTest none) p list.old tape result.literal list.new result.tape }
+    ensures { EmitsTest (translate_test none) p list.old tape result.literal list.new result.tape }
 {
     let made = some(list, tape, p);
     negate(made)
@@ -48,7 +48,7 @@ pub fn none(list: &mut [i32], tape: Tape, p: Literals) -> Made
 pub fn lone(list: &mut [i32], tape: Tape, p: Literals) -> Made
     requires bounded { Bounded tape }
     requires operand { Operand tape.next p }
-    ensures { EmitsTest (translateTest lone) p list.old tape result.literal list.new result.tape }
+    ensures { EmitsTest (translate_test lone) p list.old tape result.literal list.new result.tape }
 {
     let n = p.rows * p.columns;
     let mut pairs = [-1; 2016];

@@ -5,10 +5,10 @@ use lib.ListN.{length}
 use Rattle.literal.specs.Literals.{Literal, opposite}
 use Rattle.relational.specs.Trees.{intersection, within, Test, some, none, lone, Quantifier, for-all, for_some}
 use Rattle.relational.specs.Matrices.{pairs, Matrix}
-use Rattle.relational.specs.Evaluation.{valueBinary, truthTest, truthQuantifier}
-use Rattle.relational.proofs.Counts.{notBoth, some-count, none-count, pairs-count}
+use Rattle.relational.specs.Evaluation.{value_binary, truth_test, truth_quantifier}
+use Rattle.relational.proofs.Counts.{not_both, some-count, none-count, pairs-count}
 use Rattle.clauses_rules.specs.Gates.{or}
-use Rattle.clauses_rules.specs.Translation.{Two, apart, translateBinary, translateTest, translateQuantifier}
+use Rattle.clauses_rules.specs.Translation.{Two, apart, translate_binary, translate_test, translate_quantifier}
 use Rattle.clauses_rules.proofs.Build.{Right, Means, Pairwise, nothing, more, Mean, One, means-extends}
 use Rattle.clauses_rules.proofs.Build.{right-map, right-bind}
 use Rattle.clauses_rules.proofs.Connect as c
@@ -31,24 +31,24 @@ pub pairs-mean : {a : List Bool} {ms : List Bool} {ls : List Literal} → Mean m
 pairs-mean nothing = nothing
 pairs-mean (more p ps) = pairwise_append (with_each p ps) (pairs-mean ps)
 
-right-apart : RightTwo apart notBoth
+right-apart : RightTwo apart not_both
 right-apart a o t u h = right-or-two a o (means-opposite h.left) (means-opposite h.right)
 
 pub right-test : (k : Test) (a : List Bool) → One a → (ms : List Bool) (ls : List Literal) → Mean ms a ls
-    → Right a (translateTest k ls (length a)) (Means (truthTest k ms))
+    → Right a (translate_test k ls (length a)) (Means (truth_test k ms))
 right-test some a o ms ls h = rw (← some-count ms) (right_or a o h)
 right-test none a o ms ls h =
     rw (← none-count ms)
     (right-map a opposite (or ls) (Means (c.some ms)) (Means (not (c.some ms))) (right_or a o h) λ b e l q. means-opposite q)
-right-test lone a o ms ls h = rw (← pairs-count ms) (right-all apart notBoth right-apart a o (pairs-mean h))
+right-test lone a o ms ls h = rw (← pairs-count ms) (right-all apart not_both right-apart a o (pairs-mean h))
 
 -- over the atoms of a set
 pub right-quantifier : (k : Quantifier) (a : List Bool) → One a → (m n : Matrix Bool) (p q : Matrix Literal)
     → MeansMatrix m a p → MeansMatrix n a q
-    → Right a (translateQuantifier k p q (length a)) (Means (truthQuantifier k m n))
+    → Right a (translate_quantifier k p q (length a)) (Means (truth_quantifier k m n))
 right-quantifier for-all a o m n p q g h = right-comparison within a o m n p q g h
 right-quantifier for_some a o m n p q g h =
-    right-bind a (translateBinary intersection p q) (λ b. translateTest some b.cells)
-    (MeansMatrix (valueBinary intersection m n))
-    (Means (truthTest some (valueBinary intersection m n).cells)) (right-binary intersection a o m n p q g h)
-    λ b e r s. right-test some b (means-extends e o) (valueBinary intersection m n).cells r.cells s.cells
+    right-bind a (translate_binary intersection p q) (λ b. translate_test some b.cells)
+    (MeansMatrix (value_binary intersection m n))
+    (Means (truth_test some (value_binary intersection m n).cells)) (right-binary intersection a o m n p q g h)
+    λ b e r s. right-test some b (means-extends e o) (value_binary intersection m n).cells r.cells s.cells

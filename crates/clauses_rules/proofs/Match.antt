@@ -10,19 +10,19 @@ use borrow.Author.Tests.{eq-eqb}
 use Rattle.prelude.specs.Tests.{all, any}
 use Rattle.prelude.proofs.Laws.{and_left, and_right, and_both}
 use Rattle.literal.specs.Literals.{Literal, positive, word_of}
-use Rattle.clause_list.specs.ClauseList.{clausesOf, isTrue}
+use Rattle.clause_list.specs.ClauseList.{clauses_of, is_true}
 use Rattle.clause_list.proofs.Laws.{clauses-words}
 use Rattle.sheet_rules.specs.Blocks.{Sheet}
-use Rattle.relational.specs.Trees.{rootTree}
-use Rattle.relational.specs.Cells.{cellCount, hasCells}
+use Rattle.relational.specs.Trees.{root_tree}
+use Rattle.relational.specs.Cells.{cell_count, has_cells}
 use Rattle.relational.specs.Matrices.{from, upto}
-use Rattle.relational.specs.Evaluation.{marksHold, cellsInside, truthOfTree, holds}
+use Rattle.relational.specs.Evaluation.{marks_hold, cells_inside, truth_of_tree, holds}
 use Rattle.relational.proofs.Scopes.{within-size, within-bits}
 use Rattle.clauses_rules.specs.Builder.{return, ◌<$>◌}
-use Rattle.clauses_rules.specs.Gates.{Clause, gatesClauses}
-use Rattle.clauses_rules.specs.Translation.{translateTree}
-use Rattle.clauses_rules.specs.Whole.{cellLiterals, memberClauses, markClauses, rootWalk, clauses, words}
-use Rattle.clauses_rules.specs.Whole.{variableTotal, readBack}
+use Rattle.clauses_rules.specs.Gates.{Clause, gates_clauses}
+use Rattle.clauses_rules.specs.Translation.{translate_tree}
+use Rattle.clauses_rules.specs.Whole.{cell_literals, member_clauses, mark_clauses, root_walk, clauses, words}
+use Rattle.clauses_rules.specs.Whole.{variable_total, read_back}
 use Rattle.clauses_rules.specs.Matching.{Assignment, ReadBackOnce}
 use Rattle.clauses_rules.proofs.Values.{satisfied, satisfied-append, ClausesIn, clauses-in-append}
 use Rattle.clauses_rules.proofs.Gate.{get-here}
@@ -30,9 +30,9 @@ use Rattle.clauses_rules.proofs.Build.{Means, nothing, more, Mean, One, right-re
 use Rattle.clauses_rules.proofs.Walk.{flags, Ready, right-tree}
 use Rattle.clauses_rules.proofs.Rows.{inside-mean, marks-mean}
 use Rattle.clauses_rules.proofs.Ranges.{inside-in, marks-in}
-use Rattle.clauses_rules.proofs.Bytes.{isBit, byte_of, bytes, flags-bytes, bytes-flags, bytes_bits, take-bits, drop_bits, take-flags}
+use Rattle.clauses_rules.proofs.Bytes.{is_bit, byte_of, bytes, flags-bytes, bytes-flags, bytes_bits, take-bits, drop_bits, take-flags}
 use Rattle.clauses_rules.proofs.Bytes.{drop-flags, clauses-value}
-use Rattle.clauses_rules.proofs.Parts.{Parts, Demand, Meets, Solves, Stores, partsClauses, partsVariables, start, parts_in}
+use Rattle.clauses_rules.proofs.Parts.{Parts, Demand, Meets, Solves, Stores, parts_clauses, parts_variables, start, parts_in}
 use Rattle.clauses_rules.proofs.Parts.{parts-variables, reads-meet, once}
 
 two : (n : ℕ) → 2 + n ≡ suc (suc n)
@@ -53,53 +53,53 @@ cells-mean (b ∷ x) front s e =
 
 module _ (sheet : Sheet) where
   -- the parts of a sheet's clauses, and what is asked of an instance
-  abbrev pub sheetParts : Parts
-  sheetParts =
+  abbrev pub sheet_parts : Parts
+  sheet_parts =
       record {
-        free = cellCount sheet;
-        cells = return (cellLiterals sheet);
-        rules = λ ls. memberClauses sheet ls ++ markClauses sheet ls;
-        walk = λ ls. (λ l. l ∷ []) <$> translateTree sheet ls (rootTree sheet);
+        free = cell_count sheet;
+        cells = return (cell_literals sheet);
+        rules = λ ls. member_clauses sheet ls ++ mark_clauses sheet ls;
+        walk = λ ls. (λ l. l ∷ []) <$> translate_tree sheet ls (root_tree sheet);
         fixed = λ ls. [];
       }
 
-  abbrev pub sheetDemand : Demand
-  sheetDemand =
+  abbrev pub sheet_demand : Demand
+  sheet_demand =
       record {
-        size = cellCount sheet;
-        marks = λ x. cellsInside sheet (bytes x) && marksHold sheet (bytes x);
+        size = cell_count sheet;
+        marks = λ x. cells_inside sheet (bytes x) && marks_hold sheet (bytes x);
         agrees = λ x. true;
-        facts = λ x. truthOfTree sheet (bytes x) (rootTree sheet) ∷ [];
+        facts = λ x. truth_of_tree sheet (bytes x) (root_tree sheet) ∷ [];
       }
 
-  start-cells : (x : List Bool) → length x ≡ cellCount sheet → Mean x (start x) (cellLiterals sheet)
+  start-cells : (x : List Bool) → length x ≡ cell_count sheet → Mean x (start x) (cell_literals sheet)
   start-cells x e =
       subst (λ (n : ℕ). Mean x (start x) (map (λ (i : ℕ). positive (2 + i)) (upto n))) e (cells-mean x (false ∷ true ∷ []) 0 refl)
 
   ready : (x a : List Bool) (ls : List Literal) → One a → Mean x a ls → Ready sheet (bytes x) ls a
   ready x a ls o h = record { one = o; given = subst (λ (y : List Bool). Mean y a ls) (sym (flags-bytes x)) h }
 
-  pub sheet-stores : Stores sheetParts sheetDemand
+  pub sheet-stores : Stores sheet_parts sheet_demand
   unfolding all
   sheet-stores =
       record {
         decode = λ x. x;
         encode = λ x. x;
-        allowed = λ x. cellsInside sheet (bytes x) && marksHold sheet (bytes x);
-        right-cells = λ x e. right-return (start x) (cellLiterals sheet) (Mean x) (start-cells x e);
-        right-rules = λ x a ls e f o h.
-            satisfied-append a (memberClauses sheet ls) (markClauses sheet ls)
+        allowed = λ x. cells_inside sheet (bytes x) && marks_hold sheet (bytes x);
+        right_cells = λ x e. right-return (start x) (cell_literals sheet) (Mean x) (start-cells x e);
+        right_rules = λ x a ls e f o h.
+            satisfied-append a (member_clauses sheet ls) (mark_clauses sheet ls)
             ∙ rw (
               inside-mean sheet (bytes x) ls a (ready x a ls o h),
               marks-mean sheet (bytes x) ls a (ready x a ls o h),
             );
-        right-walk = λ x a ls o h.
-            right-map a (λ l. l ∷ []) (translateTree sheet ls (rootTree sheet)) (Means (truthOfTree sheet (bytes x) (rootTree sheet)))
-            (Mean (truthOfTree sheet (bytes x) (rootTree sheet) ∷ []))
-            (right-tree sheet (bytes x) ls (rootTree sheet) a (ready x a ls o h)) λ b e l m. more m nothing;
-        right-fixed = λ x a ls o h. refl;
-        rules-in = λ n ls f h.
-            clauses-in-append n (memberClauses sheet ls) (markClauses sheet ls)
+        right_walk = λ x a ls o h.
+            right-map a (λ l. l ∷ []) (translate_tree sheet ls (root_tree sheet)) (Means (truth_of_tree sheet (bytes x) (root_tree sheet)))
+            (Mean (truth_of_tree sheet (bytes x) (root_tree sheet) ∷ []))
+            (right-tree sheet (bytes x) ls (root_tree sheet) a (ready x a ls o h)) λ b e l m. more m nothing;
+        right_fixed = λ x a ls o h. refl;
+        rules_in = λ n ls f h.
+            clauses-in-append n (member_clauses sheet ls) (mark_clauses sheet ls)
             (inside-in sheet ls n (omega (arith, f)) h)
             (marks-in sheet ls n (omega (arith, f)) h);
         fixed_in = λ n ls f h. tt;
@@ -110,100 +110,100 @@ module _ (sheet : Sheet) where
   -- the list, by the variable of its first gate
   whole : ℕ → List Clause
   whole g =
-      let r = translateTree sheet (cellLiterals sheet) (rootTree sheet) g in
-      (positive 1 ∷ []) ∷ (memberClauses sheet (cellLiterals sheet)
-      ++ (markClauses sheet (cellLiterals sheet) ++ (gatesClauses g r.gates ++ ((r.value ∷ []) ∷ []))))
+      let r = translate_tree sheet (cell_literals sheet) (root_tree sheet) g in
+      (positive 1 ∷ []) ∷ (member_clauses sheet (cell_literals sheet)
+      ++ (mark_clauses sheet (cell_literals sheet) ++ (gates_clauses g r.gates ++ ((r.value ∷ []) ∷ []))))
 
-  clauses-are : clauses sheet ≡ partsClauses sheetParts
-  unfolding clauses rootWalk gatesClauses whole
+  clauses-are : clauses sheet ≡ parts_clauses sheet_parts
+  unfolding clauses root_walk gates_clauses whole
   clauses-are =
-      ap whole (two (cellCount sheet))
+      ap whole (two (cell_count sheet))
       ∙ ap (λ (cs : List Clause). (positive 1 ∷ []) ∷ cs)
-      (sym (append_assoc (memberClauses sheet (cellLiterals sheet)) (markClauses sheet (cellLiterals sheet)) _))
+      (sym (append_assoc (member_clauses sheet (cell_literals sheet)) (mark_clauses sheet (cell_literals sheet)) _))
 
-  variables-are : variableTotal sheet ≡ partsVariables sheetParts
-  unfolding variableTotal rootWalk
-  variables-are = ap (λ (g : ℕ). pred (translateTree sheet (cellLiterals sheet) (rootTree sheet) g).next) (two (cellCount sheet))
+  variables-are : variable_total sheet ≡ parts_variables sheet_parts
+  unfolding variable_total root_walk
+  variables-are = ap (λ (g : ℕ). pred (translate_tree sheet (cell_literals sheet) (root_tree sheet) g).next) (two (cell_count sheet))
 
-  pub clauses-in : ClausesIn (suc (variableTotal sheet)) (clauses sheet)
+  pub clauses-in : ClausesIn (suc (variable_total sheet)) (clauses sheet)
   clauses-in =
       subst₂ (λ (n : ℕ) (cs : List Clause). ClausesIn (suc n) cs) (sym variables-are) (sym clauses-are)
-      (parts_in sheetParts sheetDemand sheet-stores)
+      (parts_in sheet_parts sheet_demand sheet-stores)
 
-  pub some-variable : 1 ≤ variableTotal sheet
-  some-variable = omega (arith, variables-are, parts-variables sheetParts sheetDemand sheet-stores)
+  pub some-variable : 1 ≤ variable_total sheet
+  some-variable = omega (arith, variables-are, parts-variables sheet_parts sheet_demand sheet-stores)
 
   -- variable 1 and one for each cell
-  pub cells-variables : suc (cellCount sheet) ≤ variableTotal sheet
-  cells-variables = omega (arith, variables-are, parts-variables sheetParts sheetDemand sheet-stores)
+  pub cells-variables : suc (cell_count sheet) ≤ variable_total sheet
+  cells-variables = omega (arith, variables-are, parts-variables sheet_parts sheet_demand sheet-stores)
 
-  pub clauses-of-words : clausesOf (words sheet) ≡ map (map word_of) (clauses sheet)
+  pub clauses-of-words : clauses_of (words sheet) ≡ map (map word_of) (clauses sheet)
   unfolding words
   clauses-of-words = clauses-words (map (map word_of) (clauses sheet))
 
   -- ---- assignments, in bytes and in bits
-  same-clauses : (a : List ℕ) → all isBit a ≡ true → length a ≡ variableTotal sheet
-      → all (any (isTrue a)) (clausesOf (words sheet)) ≡ satisfied (false ∷ flags a) (partsClauses sheetParts)
+  same-clauses : (a : List ℕ) → all is_bit a ≡ true → length a ≡ variable_total sheet
+      → all (any (is_true a)) (clauses_of (words sheet)) ≡ satisfied (false ∷ flags a) (parts_clauses sheet_parts)
   same-clauses a h e =
-      ap (all (any (isTrue a))) clauses-of-words
+      ap (all (any (is_true a))) clauses-of-words
       ∙ clauses-value a h (clauses sheet) (subst (λ (n : ℕ). ClausesIn (suc n) (clauses sheet)) (sym e) clauses-in)
       ∙ ap (satisfied (false ∷ flags a)) clauses-are
 
-  solves : (a : List ℕ) → Assignment sheet a → Solves sheetParts (flags a)
+  solves : (a : List ℕ) → Assignment sheet a → Solves sheet_parts (flags a)
   solves a h =
       record {
         size = length-map a (λ (b : ℕ). eqb b 1) ∙ h.size ∙ variables-are;
         holds = sym (same-clauses a h.bits h.size) ∙ h.holds;
       }
 
-  solved : (b : List Bool) → Solves sheetParts b → Assignment sheet (bytes b)
+  solved : (b : List Bool) → Solves sheet_parts b → Assignment sheet (bytes b)
   solved b h =
-      let e : length (bytes b) ≡ variableTotal sheet = length-map b byte_of ∙ h.size ∙ sym variables-are in
+      let e : length (bytes b) ≡ variable_total sheet = length-map b byte_of ∙ h.size ∙ sym variables-are in
       record {
         size = e;
         bits = bytes_bits b;
         holds =
             same-clauses (bytes b) (bytes_bits b) e
-            ∙ ap (λ (x : List Bool). satisfied (false ∷ x) (partsClauses sheetParts)) (flags-bytes b) ∙ h.holds;
+            ∙ ap (λ (x : List Bool). satisfied (false ∷ x) (parts_clauses sheet_parts)) (flags-bytes b) ∙ h.holds;
       }
 
   -- ---- read-back, in bytes and in bits
-  abbrev readBits : List Bool → List Bool
-  readBits b = take (cellCount sheet) (drop 1 b)
+  abbrev read_bits : List Bool → List Bool
+  read_bits b = take (cell_count sheet) (drop 1 b)
 
-  read_flags : (a : List ℕ) → readBits (flags a) ≡ flags (readBack sheet a)
-  read_flags a = ap (take (cellCount sheet)) (drop-flags 1 a) ∙ take-flags (cellCount sheet) (drop 1 a)
+  read_flags : (a : List ℕ) → read_bits (flags a) ≡ flags (read_back sheet a)
+  read_flags a = ap (take (cell_count sheet)) (drop-flags 1 a) ∙ take-flags (cell_count sheet) (drop 1 a)
 
-  read-bytes : (a : List ℕ) → all isBit a ≡ true → bytes (readBits (flags a)) ≡ readBack sheet a
-  read-bytes a h = ap bytes (read_flags a) ∙ bytes-flags (readBack sheet a) (take-bits (cellCount sheet) (drop 1 a) (drop_bits 1 a h))
+  read-bytes : (a : List ℕ) → all is_bit a ≡ true → bytes (read_bits (flags a)) ≡ read_back sheet a
+  read-bytes a h = ap bytes (read_flags a) ∙ bytes-flags (read_back sheet a) (take-bits (cell_count sheet) (drop 1 a) (drop_bits 1 a h))
 
   -- ---- instances, in bytes and in bits
   pub record Instance (i : List ℕ) : Type 0 where
-    pub within : hasCells sheet i ≡ true
+    pub within : has_cells sheet i ≡ true
     pub holds : holds sheet i ≡ true
 
-  instance-of : (x : List Bool) → Meets sheetDemand x → Instance (bytes x)
-  unfolding hasCells holds all
+  instance-of : (x : List Bool) → Meets sheet_demand x → Instance (bytes x)
+  unfolding has_cells holds all
   instance-of x m =
-      let inside : Bool = cellsInside sheet (bytes x) in
-      let marked : Bool = marksHold sheet (bytes x) in
-      let true-root : Bool = truthOfTree sheet (bytes x) (rootTree sheet) in
+      let inside : Bool = cells_inside sheet (bytes x) in
+      let marked : Bool = marks_hold sheet (bytes x) in
+      let true-root : Bool = truth_of_tree sheet (bytes x) (root_tree sheet) in
       record {
         within =
-            and_both (eqb (length (bytes x)) (cellCount sheet)) (all isBit (bytes x))
-            (eq-eqb (length (bytes x)) (cellCount sheet) (length-map x byte_of ∙ m.size)) (bytes_bits x);
+            and_both (eqb (length (bytes x)) (cell_count sheet)) (all is_bit (bytes x))
+            (eq-eqb (length (bytes x)) (cell_count sheet) (length-map x byte_of ∙ m.size)) (bytes_bits x);
         holds =
             and_both inside (marked && true-root) (and_left inside marked m.marks)
             (and_both marked true-root (and_right inside marked m.marks) (and_left true-root true m.facts));
       }
 
-  meets-of : (i : List ℕ) → Instance i → Meets sheetDemand (flags i)
+  meets-of : (i : List ℕ) → Instance i → Meets sheet_demand (flags i)
   unfolding holds all
   meets-of i h =
-      let b : all isBit i ≡ true = within-bits sheet i h.within in
-      let inside : Bool = cellsInside sheet i in
-      let marked : Bool = marksHold sheet i in
-      let true-root : Bool = truthOfTree sheet i (rootTree sheet) in
+      let b : all is_bit i ≡ true = within-bits sheet i h.within in
+      let inside : Bool = cells_inside sheet i in
+      let marked : Bool = marks_hold sheet i in
+      let true-root : Bool = truth_of_tree sheet i (root_tree sheet) in
       let rest : (marked && true-root) ≡ true = and_right inside (marked && true-root) h.holds in
       record {
         size = length-map i (λ (b : ℕ). eqb b 1) ∙ within-size sheet i h.within;
@@ -216,22 +216,22 @@ module _ (sheet : Sheet) where
       }
 
   -- ---- the match
-  pub reads-instance : (a : List ℕ) → Assignment sheet a → Instance (readBack sheet a)
+  pub reads-instance : (a : List ℕ) → Assignment sheet a → Instance (read_back sheet a)
   unfolding sheet-stores
   reads-instance a h =
       subst Instance (read-bytes a h.bits)
-      (instance-of (readBits (flags a)) (reads-meet sheetParts sheetDemand sheet-stores (flags a) (solves a h)))
+      (instance-of (read_bits (flags a)) (reads-meet sheet_parts sheet_demand sheet-stores (flags a) (solves a h)))
 
-  pub exactly-one : (i : List ℕ) → Instance i → ReadBackOnce (Assignment sheet) (λ a j. readBack sheet a ≡ j) i
+  pub exactly-one : (i : List ℕ) → Instance i → ReadBackOnce (Assignment sheet) (λ a j. read_back sheet a ≡ j) i
   unfolding sheet-stores
   exactly-one i h =
-      let o = once sheetParts sheetDemand sheet-stores (flags i) (meets-of i h) in
+      let o = once sheet_parts sheet_demand sheet-stores (flags i) (meets-of i h) in
       let b : List Bool = o.assignment in
       record {
         assignment = bytes b;
         satisfying = solved b o.solves;
         reads =
-            sym (read-bytes (bytes b) (bytes_bits b)) ∙ ap (λ (x : List Bool). bytes (readBits x)) (flags-bytes b)
+            sym (read-bytes (bytes b) (bytes_bits b)) ∙ ap (λ (x : List Bool). bytes (read_bits x)) (flags-bytes b)
             ∙ ap bytes o.reads ∙ bytes-flags i (within-bits sheet i h.within);
         only = λ a s e.
             sym (bytes-flags a s.bits) ∙ ap bytes (o.only (flags a) (solves a s) (read_flags a ∙ ap flags e));

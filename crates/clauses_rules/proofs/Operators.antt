@@ -10,13 +10,13 @@ use Rattle.prelude.proofs.Laws.{all_map}
 use Rattle.literal.specs.Literals.{Literal}
 use Rattle.relational.specs.Trees.{Binary, union, intersection, difference, join, product, Unary, inverse, closure, Comparison, equal}
 use Rattle.relational.specs.Trees.{within, Connective, conjunction, disjunction, implication, equivalence}
-use Rattle.relational.specs.Matrices.{upto, Place, places, rounds, Matrix, setOf, relationOf, size, sameSize, joinColumns, joinPlaces}
-use Rattle.relational.specs.Matrices.{joinSize, productPlaces, productSize, matched, middles, crossed, inverted}
+use Rattle.relational.specs.Matrices.{upto, Place, places, rounds, Matrix, set_of, relation_of, size, same_size, join_columns, join_places}
+use Rattle.relational.specs.Matrices.{join_size, product_places, product_size, matched, middles, crossed, inverted}
 use Rattle.relational.specs.Evaluation as e
 use Rattle.clauses_rules.specs.Builder.{Builder, ◌>>=◌, ◌<$>◌, each}
 use Rattle.clauses_rules.specs.Gates.{or, and}
-use Rattle.clauses_rules.specs.Translation.{Two, absent, either, both, without, implies, same, joinCells, translateBinary, roundOf}
-use Rattle.clauses_rules.specs.Translation.{afterRounds, translateUnary, translateComparison, translateConnective}
+use Rattle.clauses_rules.specs.Translation.{Two, absent, either, both, without, implies, same, join_cells, translate_binary, round_of}
+use Rattle.clauses_rules.specs.Translation.{after_rounds, translate_unary, translate_comparison, translate_connective}
 use Rattle.clauses_rules.proofs.Build.{Extends, extends-refl, Right, Means, Pairwise, nothing, more, Mean, One, means-extends}
 use Rattle.clauses_rules.proofs.Build.{mean-extends, right-return, right-map, right-bind, right-each, right-list}
 use Rattle.clauses_rules.proofs.Connect as c
@@ -82,10 +82,10 @@ module _ (a : List Bool) (o : One a) (m n : Matrix Bool) (ls ks : List Literal) 
   matched-mean = pairwise-maps _ _ (λ i. both_at i i) (upto (size m))
 
   middles-mean : (t : Place) → Pairwise (Both a) (middles absent (sized m ls) (sized n ks) t) (middles false m n t)
-  middles-mean t = pairwise-maps _ _ (λ k. both_at (t.0 * m.columns + k) (k * joinColumns n + t.1)) (upto m.columns)
+  middles-mean t = pairwise-maps _ _ (λ k. both_at (t.0 * m.columns + k) (k * join_columns n + t.1)) (upto m.columns)
 
   crossed-mean : Pairwise (Both a) (crossed absent (sized m ls) (sized n ks)) (crossed false m n)
-  crossed-mean = pairwise-maps _ _ (λ t. both_at t.0 t.1) (productPlaces m n)
+  crossed-mean = pairwise-maps _ _ (λ t. both_at t.0 t.1) (product_places m n)
 
 pub some-map : {X : Type 0} (f : X → Bool) (xs : List X) → c.some (map f xs) ≡ any f xs
 unfolding any
@@ -104,78 +104,78 @@ right-join-cell a o ts us h =
 
 -- the size of a join does not look at the cells
 join-sized : (m n : Matrix Bool) (ls ks cells : List Literal) (ms : List Bool)
-    → joinSize (sized m ls) (sized n ks) cells ≡ sized (joinSize m n ms) cells
+    → join_size (sized m ls) (sized n ks) cells ≡ sized (join_size m n ms) cells
 join-sized m n ls ks cells ms = go (eqb (m.arity + n.arity) 4)
   where
     go : (b : Bool)
-        → cond b (relationOf m.rows (joinColumns n) cells) (setOf (m.rows * joinColumns n) cells)
-        ≡ sized (cond b (relationOf m.rows (joinColumns n) ms) (setOf (m.rows * joinColumns n) ms)) cells
+        → cond b (relation_of m.rows (join_columns n) cells) (set_of (m.rows * join_columns n) cells)
+        ≡ sized (cond b (relation_of m.rows (join_columns n) ms) (set_of (m.rows * join_columns n) ms)) cells
     go true = refl
     go false = refl
 
-join_cells : {A : Type 0} (m n : Matrix A) (ms : List A) → (joinSize m n ms).cells ≡ ms
-join_cells m n ms = go (eqb (m.arity + n.arity) 4)
+join_cells_lem : {A : Type 0} (m n : Matrix A) (ms : List A) → (join_size m n ms).cells ≡ ms
+join_cells_lem m n ms = go (eqb (m.arity + n.arity) 4)
   where
-    go : (b : Bool) → (cond b (relationOf m.rows (joinColumns n) ms) (setOf (m.rows * joinColumns n) ms)).cells ≡ ms
+    go : (b : Bool) → (cond b (relation_of m.rows (join_columns n) ms) (set_of (m.rows * join_columns n) ms)).cells ≡ ms
     go true = refl
     go false = refl
 
 module _ (a : List Bool) (o : One a) (m n : Matrix Bool) (ls ks : List Literal) (p : Mean m.cells a ls) (q : Mean n.cells a ks) where
   right-matched : (step : Two → Builder Literal) (f : Bool × Bool → Bool) → RightTwo step f
-      → Right a ((sameSize (sized m ls) <$> each step (matched absent (sized m ls) (sized n ks))) (length a))
-      (MeansMatrix (sameSize m (map f (matched false m n))))
+      → Right a ((same_size (sized m ls) <$> each step (matched absent (sized m ls) (sized n ks))) (length a))
+      (MeansMatrix (same_size m (map f (matched false m n))))
   right-matched step f h =
-      right-map a (sameSize (sized m ls)) (each step (matched absent (sized m ls) (sized n ks))) (Mean (map f (matched false m n))) _
+      right-map a (same_size (sized m ls)) (each step (matched absent (sized m ls) (sized n ks))) (Mean (map f (matched false m n))) _
       (right-twos step f h a o (matched-mean a o m n ls ks p q)) λ b e cells r. record { sizes = refl; cells = r }
 
-  right-join-cells : Right a (joinCells (sized m ls) (sized n ks) (length a)) (Mean (e.joinCells m n))
+  right-join-cells : Right a (join_cells (sized m ls) (sized n ks) (length a)) (Mean (e.join_cells m n))
   right-join-cells =
       right-list (λ t. each both (middles absent (sized m ls) (sized n ks) t) >>= or) (λ t. any e.both (middles false m n t)) a
       (λ b f t.
       right-join-cell b (means-extends f o) (middles absent (sized m ls) (sized n ks) t) (middles false m n t)
       (middles-mean b (means-extends f o) m n ls ks (mean-extends f p) (mean-extends f q) t))
-      (joinPlaces m n)
+      (join_places m n)
 
-  right-binary-sized : (k : Binary) → Right a (translateBinary k (sized m ls) (sized n ks) (length a)) (MeansMatrix (e.valueBinary k m n))
+  right-binary-sized : (k : Binary) → Right a (translate_binary k (sized m ls) (sized n ks) (length a)) (MeansMatrix (e.value_binary k m n))
   right-binary-sized union = right-matched either e.either right-either
   right-binary-sized intersection = right-matched both e.both right-both
   right-binary-sized difference = right-matched without e.without right-without
   right-binary-sized join =
-      right-map a (joinSize (sized m ls) (sized n ks)) (joinCells (sized m ls) (sized n ks)) (Mean (e.joinCells m n)) _ right-join-cells
+      right-map a (join_size (sized m ls) (sized n ks)) (join_cells (sized m ls) (sized n ks)) (Mean (e.join_cells m n)) _ right-join-cells
       λ b f cells r.
       record {
         sizes =
-            join-sized m n ls ks cells (e.joinCells m n)
-            ∙ ap (sized (joinSize m n (e.joinCells m n))) (sym (join_cells (sized m ls) (sized n ks) cells));
-        cells = rw (join_cells m n (e.joinCells m n), join_cells (sized m ls) (sized n ks) cells) r;
+            join-sized m n ls ks cells (e.join_cells m n)
+            ∙ ap (sized (join_size m n (e.join_cells m n))) (sym (join_cells_lem (sized m ls) (sized n ks) cells));
+        cells = rw (join_cells_lem m n (e.join_cells m n), join_cells_lem (sized m ls) (sized n ks) cells) r;
       }
   right-binary-sized product =
-      right-map a (productSize (sized m ls) (sized n ks)) (each both (crossed absent (sized m ls) (sized n ks)))
+      right-map a (product_size (sized m ls) (sized n ks)) (each both (crossed absent (sized m ls) (sized n ks)))
       (Mean (map e.both (crossed false m n))) _
       (right-twos both e.both right-both a o (crossed-mean a o m n ls ks p q)) λ b f cells r. record { sizes = refl; cells = r }
 
 -- ---- the laws, one for each group of operators
 pub right-binary : (k : Binary) (a : List Bool) → One a → (m n : Matrix Bool) (p q : Matrix Literal)
     → MeansMatrix m a p → MeansMatrix n a q
-    → Right a (translateBinary k p q (length a)) (MeansMatrix (e.valueBinary k m n))
+    → Right a (translate_binary k p q (length a)) (MeansMatrix (e.value_binary k m n))
 right-binary k a o m n p q g h =
-    subst₂ (λ (x y : Matrix Literal). Right a (translateBinary k x y (length a)) (MeansMatrix (e.valueBinary k m n)))
+    subst₂ (λ (x y : Matrix Literal). Right a (translate_binary k x y (length a)) (MeansMatrix (e.value_binary k m n)))
     (sym g.sizes) (sym h.sizes) (right-binary-sized a o m n p.cells q.cells g.cells h.cells k)
 
 pub right-round : (a : List Bool) → One a → (m : Matrix Bool) (p : Matrix Literal) → MeansMatrix m a p
-    → Right a (roundOf p (length a)) (MeansMatrix (e.roundOf m))
+    → Right a (round_of p (length a)) (MeansMatrix (e.round_of m))
 right-round a o m p h =
-    right-bind a (translateBinary join p p) (translateBinary union p) (MeansMatrix (e.valueBinary join m m)) (MeansMatrix (e.roundOf m))
+    right-bind a (translate_binary join p p) (translate_binary union p) (MeansMatrix (e.value_binary join m m)) (MeansMatrix (e.round_of m))
     (right-binary join a o m m p p h h)
-    λ b f q g. right-binary union b (means-extends f o) m (e.valueBinary join m m) p q (matrix-extends f h) g
+    λ b f q g. right-binary union b (means-extends f o) m (e.value_binary join m m) p q (matrix-extends f h) g
 
 right-rounds : (k : ℕ) (a : List Bool) → One a → (m : Matrix Bool) (p : Matrix Literal) → MeansMatrix m a p
-    → Right a (afterRounds k p (length a)) (MeansMatrix (e.afterRounds k m))
-unfolding afterRounds
+    → Right a (after_rounds k p (length a)) (MeansMatrix (e.after_rounds k m))
+unfolding after_rounds
 right-rounds zero a o m p h = right-return a p (MeansMatrix m) h
 right-rounds (suc k) a o m p h =
-    right-bind a (afterRounds k p) roundOf (MeansMatrix (e.afterRounds k m)) (MeansMatrix (e.afterRounds (suc k) m))
-    (right-rounds k a o m p h) λ b f q g. right-round b (means-extends f o) (e.afterRounds k m) q g
+    right-bind a (after_rounds k p) round_of (MeansMatrix (e.after_rounds k m)) (MeansMatrix (e.after_rounds (suc k) m))
+    (right-rounds k a o m p h) λ b f q g. right-round b (means-extends f o) (e.after_rounds k m) q g
 
 inverted-means : (a : List Bool) → One a → (m : Matrix Bool) (ls : List Literal) → Mean m.cells a ls
     → MeansMatrix (inverted false m) a (inverted absent (sized m ls))
@@ -186,13 +186,13 @@ inverted-means a o m ls h =
     }
 
 pub right-unary : (k : Unary) (a : List Bool) → One a → (m : Matrix Bool) (p : Matrix Literal) → MeansMatrix m a p
-    → Right a (translateUnary k p (length a)) (MeansMatrix (e.valueUnary k m))
+    → Right a (translate_unary k p (length a)) (MeansMatrix (e.value_unary k m))
 right-unary inverse a o m p h =
     right-return a (inverted absent p) (MeansMatrix (inverted false m))
     (subst (λ (x : Matrix Literal). MeansMatrix (inverted false m) a (inverted absent x)) (sym h.sizes)
     (inverted-means a o m p.cells h.cells))
 right-unary closure a o m p h =
-    subst (λ (n : ℕ). Right a (afterRounds (rounds n) p (length a)) (MeansMatrix (e.valueUnary closure m)))
+    subst (λ (n : ℕ). Right a (after_rounds (rounds n) p (length a)) (MeansMatrix (e.value_unary closure m)))
     (sym (ap (λ (x : Matrix Literal). x.rows) h.sizes)) (right-rounds (rounds m.rows) a o m p h)
 
 pub right-all : (step : Two → Builder Literal) (f : Bool × Bool → Bool) → RightTwo step f
@@ -205,19 +205,19 @@ right-all step f r a o {ts} {us} h =
 
 right-comparison-sized : (k : Comparison) (a : List Bool) → One a → (m n : Matrix Bool) (ls ks : List Literal)
     → Mean m.cells a ls → Mean n.cells a ks
-    → Right a (translateComparison k (sized m ls) (sized n ks) (length a)) (Means (e.truthComparison k m n))
+    → Right a (translate_comparison k (sized m ls) (sized n ks) (length a)) (Means (e.truth_comparison k m n))
 right-comparison-sized equal a o m n ls ks p q = right-all same e.same right-same a o (matched-mean a o m n ls ks p q)
 right-comparison-sized within a o m n ls ks p q = right-all implies e.implies right-implies a o (matched-mean a o m n ls ks p q)
 
 pub right-comparison : (k : Comparison) (a : List Bool) → One a → (m n : Matrix Bool) (p q : Matrix Literal)
     → MeansMatrix m a p → MeansMatrix n a q
-    → Right a (translateComparison k p q (length a)) (Means (e.truthComparison k m n))
+    → Right a (translate_comparison k p q (length a)) (Means (e.truth_comparison k m n))
 right-comparison k a o m n p q g h =
-    subst₂ (λ (x y : Matrix Literal). Right a (translateComparison k x y (length a)) (Means (e.truthComparison k m n)))
+    subst₂ (λ (x y : Matrix Literal). Right a (translate_comparison k x y (length a)) (Means (e.truth_comparison k m n)))
     (sym g.sizes) (sym h.sizes) (right-comparison-sized k a o m n p.cells q.cells g.cells h.cells)
 
 pub right-connective : (k : Connective) (a : List Bool) → One a → (x y : Bool) (p q : Literal) → Means x a p → Means y a q
-    → Right a (translateConnective k (p, q) (length a)) (Means (e.truthConnective k x y))
+    → Right a (translate_connective k (p, q) (length a)) (Means (e.truth_connective k x y))
 right-connective conjunction a o x y p q g h = right-both a o (p, q) (x, y) record { left = g; right = h }
 right-connective disjunction a o x y p q g h = right-either a o (p, q) (x, y) record { left = g; right = h }
 right-connective implication a o x y p q g h = right-implies a o (p, q) (x, y) record { left = g; right = h }

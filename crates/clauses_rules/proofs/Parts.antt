@@ -11,7 +11,7 @@ use Rattle.prelude.specs.Tests.{all, any}
 use Rattle.prelude.proofs.Laws.{and_left, and_right, and_both}
 use Rattle.literal.specs.Literals.{Literal, positive}
 use Rattle.clauses_rules.specs.Builder.{Gate, Built, Builder}
-use Rattle.clauses_rules.specs.Gates.{Clause, gatesClauses}
+use Rattle.clauses_rules.specs.Gates.{Clause, gates_clauses}
 use Rattle.clauses_rules.proofs.Values.{value, satisfied, satisfied-append, AllIn, ClausesIn, clauses-in-append, clauses-in-split}
 use Rattle.clauses_rules.proofs.Gate.{outputs, run, Scoped, solved, solved-only, length_run, length-outputs, run-append}
 use Rattle.clauses_rules.proofs.Gate.{scoped-append}
@@ -52,27 +52,27 @@ abbrev pub units : List Literal → List Clause
 units ls = map (λ (l : Literal). l ∷ []) ls
 
 module _ (p : Parts) where
-  abbrev pub firstGate : ℕ
-  firstGate = suc (suc p.free)
+  abbrev pub first_gate : ℕ
+  first_gate = suc (suc p.free)
 
   abbrev pub stored : Built (List Literal)
-  stored = p.cells firstGate
+  stored = p.cells first_gate
 
   abbrev pub walked : Built (List Literal)
   walked = p.walk stored.value stored.next
 
-  abbrev pub partsClauses : List Clause
-  partsClauses =
+  abbrev pub parts_clauses : List Clause
+  parts_clauses =
       (positive 1 ∷ []) ∷
-      (gatesClauses firstGate stored.gates
-      ++ (p.rules stored.value ++ (gatesClauses stored.next walked.gates ++ (p.fixed stored.value ++ units walked.value))))
+      (gates_clauses first_gate stored.gates
+      ++ (p.rules stored.value ++ (gates_clauses stored.next walked.gates ++ (p.fixed stored.value ++ units walked.value))))
 
-  abbrev pub partsVariables : ℕ
-  partsVariables = pred walked.next
+  abbrev pub parts_variables : ℕ
+  parts_variables = pred walked.next
 
   pub record Solves (b : List Bool) : Type 0 where
-    pub size : length b ≡ partsVariables
-    pub holds : satisfied (false ∷ b) partsClauses ≡ true
+    pub size : length b ≡ parts_variables
+    pub holds : satisfied (false ∷ b) parts_clauses ≡ true
 
 -- variable 1 and the free ones
 abbrev pub start : List Bool → List Bool
@@ -86,13 +86,13 @@ pub record Stores (p : Parts) (q : Demand) : Type 0 where
   pub decode : List Bool → List Bool
   pub encode : List Bool → List Bool
   pub allowed : List Bool → Bool
-  pub right-cells : (x : List Bool) → length x ≡ p.free → Right (start x) (p.cells (length (start x))) (Mean (decode x))
-  pub right-rules : (x a : List Bool) (ls : List Literal) → length x ≡ p.free → Extends (start x) a → One a → Mean (decode x) a ls
+  pub right_cells : (x : List Bool) → length x ≡ p.free → Right (start x) (p.cells (length (start x))) (Mean (decode x))
+  pub right_rules : (x a : List Bool) (ls : List Literal) → length x ≡ p.free → Extends (start x) a → One a → Mean (decode x) a ls
       → satisfied a (p.rules ls) ≡ allowed x
-  pub right-walk : (y a : List Bool) (ls : List Literal) → One a → Mean y a ls → Right a (p.walk ls (length a)) (Mean (q.facts y))
-  pub right-fixed : (y a : List Bool) (ls : List Literal) → One a → Mean y a ls → satisfied a (p.fixed ls) ≡ q.agrees y
-  pub rules-in : (n : ℕ) (ls : List Literal) → firstGate p ≤ n → AllIn n ls → ClausesIn n (p.rules ls)
-  pub fixed_in : (n : ℕ) (ls : List Literal) → firstGate p ≤ n → AllIn n ls → ClausesIn n (p.fixed ls)
+  pub right_walk : (y a : List Bool) (ls : List Literal) → One a → Mean y a ls → Right a (p.walk ls (length a)) (Mean (q.facts y))
+  pub right_fixed : (y a : List Bool) (ls : List Literal) → One a → Mean y a ls → satisfied a (p.fixed ls) ≡ q.agrees y
+  pub rules_in : (n : ℕ) (ls : List Literal) → first_gate p ≤ n → AllIn n ls → ClausesIn n (p.rules ls)
+  pub fixed_in : (n : ℕ) (ls : List Literal) → first_gate p ≤ n → AllIn n ls → ClausesIn n (p.fixed ls)
   pub into : (x : List Bool) → length x ≡ p.free → allowed x ≡ true
       → (length (decode x) ≡ q.size) × (q.marks (decode x) ≡ true) × (encode (decode x) ≡ x)
   pub onto : (y : List Bool) → length y ≡ q.size → q.marks y ≡ true
@@ -110,7 +110,7 @@ units_in n (l ∷ ls) h = ((h.0, tt), units_in n ls h.1)
 -- ---- the match of bits, for any list that says: 1, the gates, and further clauses, in any order
 module _ (k : ℕ) (gates : List Gate) (further list : List Clause) (scoped : Scoped (suc (suc k)) gates)
     (law : (a : List Bool)
-    → satisfied a list ≡ (value a (positive 1) && (satisfied a (gatesClauses (suc (suc k)) gates) && satisfied a further))) where
+    → satisfied a list ≡ (value a (positive 1) && (satisfied a (gates_clauses (suc (suc k)) gates) && satisfied a further))) where
   apart : (b : List Bool) → length b ≡ suc k + length gates → satisfied (false ∷ b) list ≡ true
       → (x : List Bool) × (length x ≡ k) × (b ≡ true ∷ (x ++ outputs (start x) gates)) × (satisfied (run (start x) gates) further ≡ true)
   apart [] e h = absurd (omega arith)
@@ -119,7 +119,7 @@ module _ (k : ℕ) (gates : List Gate) (further list : List Clause) (scoped : Sc
       let x : List Bool = take k b in
       let lx : length x ≡ k = simp length-take (omega arith) in
       let ld : length (drop k b) ≡ length gates = simp length-drop (omega arith) in
-      let g : Bool = satisfied (start x ++ drop k b) (gatesClauses (length (start x)) gates) in
+      let g : Bool = satisfied (start x ++ drop k b) (gates_clauses (length (start x)) gates) in
       let h₁ : (g && satisfied (start x ++ drop k b) further) ≡ true = rw (take-append-drop k b, lx) (sym (law (false ∷ true ∷ b)) ∙ h) in
       let q : drop k b ≡ outputs (start x) gates = solved-only (start x) (drop k b) gates (rw lx scoped) ld (and_left g _ h₁) in (
         x,
@@ -131,20 +131,20 @@ module _ (k : ℕ) (gates : List Gate) (further list : List Clause) (scoped : Sc
   together : (x : List Bool) → length x ≡ k → satisfied (run (start x) gates) further ≡ true → satisfied (run (start x) gates) list ≡ true
   together x e h =
       let a : List Bool = run (start x) gates in
-      let s : satisfied a (gatesClauses (suc (suc k)) gates) ≡ true
-      = subst (λ (n : ℕ). satisfied a (gatesClauses (suc (suc n)) gates) ≡ true) e
+      let s : satisfied a (gates_clauses (suc (suc k)) gates) ≡ true
+      = subst (λ (n : ℕ). satisfied a (gates_clauses (suc (suc n)) gates) ≡ true) e
       (solved (start x) gates (subst (λ (n : ℕ). Scoped (suc (suc n)) gates) (sym e) scoped)) in
-      law a ∙ and_both (satisfied a (gatesClauses (suc (suc k)) gates)) (satisfied a further) s h
+      law a ∙ and_both (satisfied a (gates_clauses (suc (suc k)) gates)) (satisfied a further) s h
 
 module _ (p : Parts) (q : Demand) (s : Stores p q) where
-  abbrev pub readBack : List Bool → List Bool
-  readBack b = s.decode (take p.free (drop 1 b))
+  abbrev pub read_back : List Bool → List Bool
+  read_back b = s.decode (take p.free (drop 1 b))
 
   pub record Once (y : List Bool) : Type 0 where
     pub assignment : List Bool
     pub solves : Solves p assignment
-    pub reads : readBack assignment ≡ y
-    pub only : (b : List Bool) → Solves p b → readBack b ≡ y → b ≡ assignment
+    pub reads : read_back assignment ≡ y
+    pub only : (b : List Bool) → Solves p b → read_back b ≡ y → b ≡ assignment
 
   abbrev gates : List Gate
   gates = (stored p).gates ++ (walked p).gates
@@ -153,9 +153,9 @@ module _ (p : Parts) (q : Demand) (s : Stores p q) where
   further = p.rules (stored p).value ++ (p.fixed (stored p).value ++ units (walked p).value)
 
   record Made (x : List Bool) : Type 0 where
-    pub scoped : Scoped (firstGate p) gates
-    pub next₁ : (stored p).next ≡ firstGate p + length (stored p).gates
-    pub next : (walked p).next ≡ firstGate p + length gates
+    pub scoped : Scoped (first_gate p) gates
+    pub next₁ : (stored p).next ≡ first_gate p + length (stored p).gates
+    pub next : (walked p).next ≡ first_gate p + length gates
     pub inside : AllIn (walked p).next (stored p).value × AllIn (walked p).next (walked p).value
     pub means : satisfied (run (start x) gates) further ≡ (s.allowed x && (q.agrees (s.decode x) && every (q.facts (s.decode x))))
 
@@ -165,21 +165,21 @@ module _ (p : Parts) (q : Demand) (s : Stores p q) where
       let gs : List Gate = (stored p).gates in
       let hs : List Gate = (walked p).gates in
       let y : List Bool = s.decode x in
-      let l : length a ≡ firstGate p = ap (λ (k : ℕ). suc (suc k)) e in
-      let g : Right a (stored p) (Mean y) = subst (λ (k : ℕ). Right a (p.cells k) (Mean y)) l (s.right-cells x e) in
+      let l : length a ≡ first_gate p = ap (λ (k : ℕ). suc (suc k)) e in
+      let g : Right a (stored p) (Mean y) = subst (λ (k : ℕ). Right a (p.cells k) (Mean y)) l (s.right_cells x e) in
       let b : List Bool = run a gs in
       let one₁ : One b = means-extends (extends-run a gs) (start-one x) in
       let h : Right b (walked p) (Mean (q.facts y))
       = subst (λ (k : ℕ). Right b (p.walk (stored p).value k) (Mean (q.facts y))) (sym g.next)
-      (s.right-walk y b (stored p).value one₁ g.gives) in
+      (s.right_walk y b (stored p).value one₁ g.gives) in
       let c : List Bool = run b hs in
       let more₂ : Extends b c = extends-run b hs in
-      let n₁ : length b ≡ firstGate p + length gs = length_run a gs ∙ ap (λ (k : ℕ). k + length gs) l in
+      let n₁ : length b ≡ first_gate p + length gs = length_run a gs ∙ ap (λ (k : ℕ). k + length gs) l in
       let means₂ : Mean y c (stored p).value = mean-extends more₂ g.gives in
       let one₂ : One c = means-extends more₂ one₁ in
       record {
         scoped =
-            scoped-append (firstGate p) gs hs (subst (λ (k : ℕ). Scoped k gs) l g.scoped) (subst (λ (k : ℕ). Scoped k hs) n₁ h.scoped);
+            scoped-append (first_gate p) gs hs (subst (λ (k : ℕ). Scoped k gs) l g.scoped) (subst (λ (k : ℕ). Scoped k hs) n₁ h.scoped);
         next₁ = g.next ∙ n₁;
         next = h.next ∙ length_run b hs ∙ omega (arith, n₁, length-append gs hs);
         inside = rw h.next (mean-inside means₂, mean-inside h.gives);
@@ -190,8 +190,8 @@ module _ (p : Parts) (q : Demand) (s : Stores p q) where
               satisfied-append c (p.fixed (stored p).value) (units (walked p).value),
             )
             (rw (
-              s.right-rules x c (stored p).value e (extends-trans (extends-run a gs) more₂) one₂ means₂,
-              s.right-fixed y c (stored p).value one₂ means₂,
+              s.right_rules x c (stored p).value e (extends-trans (extends-run a gs) more₂) one₂ means₂,
+              s.right_fixed y c (stored p).value one₂ means₂,
               satisfied-units h.gives,
             ));
       }
@@ -208,16 +208,16 @@ module _ (p : Parts) (q : Demand) (s : Stores p q) where
   shuffle false d₁ r d₂ u = refl
 
   -- the clauses of the gates, in their two places
-  apart-gates : gatesClauses (firstGate p) gates
-      ≡ gatesClauses (firstGate p) (stored p).gates ++ gatesClauses (stored p).next (walked p).gates
-  apart-gates = gates-append (firstGate p) (stored p).gates (walked p).gates ∙ rw (← any-made.next₁)
+  apart-gates : gates_clauses (first_gate p) gates
+      ≡ gates_clauses (first_gate p) (stored p).gates ++ gates_clauses (stored p).next (walked p).gates
+  apart-gates = gates-append (first_gate p) (stored p).gates (walked p).gates ∙ rw (← any-made.next₁)
 
   law : (a : List Bool)
-      → satisfied a (partsClauses p) ≡ (value a (positive 1) && (satisfied a (gatesClauses (firstGate p) gates) && satisfied a further))
+      → satisfied a (parts_clauses p) ≡ (value a (positive 1) && (satisfied a (gates_clauses (first_gate p) gates) && satisfied a further))
   unfolding all any
   law a =
-      let d₁ : List Clause = gatesClauses (firstGate p) (stored p).gates in
-      let d₂ : List Clause = gatesClauses (stored p).next (walked p).gates in
+      let d₁ : List Clause = gates_clauses (first_gate p) (stored p).gates in
+      let d₂ : List Clause = gates_clauses (stored p).next (walked p).gates in
       let c₁ : List Clause = p.rules (stored p).value in
       let c₂ : List Clause = p.fixed (stored p).value ++ units (walked p).value in
       rw (
@@ -230,26 +230,26 @@ module _ (p : Parts) (q : Demand) (s : Stores p q) where
       )
       (shuffle (value a (positive 1)) (satisfied a d₁) (satisfied a c₁) (satisfied a d₂) (satisfied a c₂))
 
-  pub parts-variables : partsVariables p ≡ suc p.free + length gates
+  pub parts-variables : parts_variables p ≡ suc p.free + length gates
   parts-variables =
-      let e : firstGate p + length gates ≡ suc (suc p.free + length gates) = omega arith in
+      let e : first_gate p + length gates ≡ suc (suc p.free + length gates) = omega arith in
       ap pred (any-made.next ∙ e)
 
   -- every literal is one of the variables
-  pub parts_in : ClausesIn (suc (partsVariables p)) (partsClauses p)
+  pub parts_in : ClausesIn (suc (parts_variables p)) (parts_clauses p)
   parts_in =
-      let n : ℕ = suc (partsVariables p) in
+      let n : ℕ = suc (parts_variables p) in
       let e : (walked p).next ≡ n = omega (arith, any-made.next, parts-variables) in
-      let f : firstGate p + length gates ≤ n = omega (arith, parts-variables) in
+      let f : first_gate p + length gates ≤ n = omega (arith, parts-variables) in
       let i = subst (λ (k : ℕ). AllIn k (stored p).value × AllIn k (walked p).value) e any-made.inside in
-      let d₁ : List Clause = gatesClauses (firstGate p) (stored p).gates in
-      let d₂ : List Clause = gatesClauses (stored p).next (walked p).gates in
+      let d₁ : List Clause = gates_clauses (first_gate p) (stored p).gates in
+      let d₂ : List Clause = gates_clauses (stored p).next (walked p).gates in
       let c₁ : List Clause = p.rules (stored p).value in
       let c₂ : List Clause = p.fixed (stored p).value in
-      let g = clauses-in-split n d₁ d₂ (subst (ClausesIn n) apart-gates (gates-in n (firstGate p) gates (omega arith) f any-made.scoped)) in (
+      let g = clauses-in-split n d₁ d₂ (subst (ClausesIn n) apart-gates (gates-in n (first_gate p) gates (omega arith) f any-made.scoped)) in (
         (record { low = omega arith; high = omega (arith, f) }, tt),
         clauses-in-append n d₁ (c₁ ++ (d₂ ++ (c₂ ++ units (walked p).value))) g.0
-            (clauses-in-append n c₁ (d₂ ++ (c₂ ++ units (walked p).value)) (s.rules-in n (stored p).value (omega (arith, f)) i.0)
+            (clauses-in-append n c₁ (d₂ ++ (c₂ ++ units (walked p).value)) (s.rules_in n (stored p).value (omega (arith, f)) i.0)
             (clauses-in-append n d₂ (c₂ ++ units (walked p).value) g.1
             (clauses-in-append n c₂ (units (walked p).value) (s.fixed_in n (stored p).value (omega (arith, f)) i.0)
             (units_in n (walked p).value i.1)))),
@@ -262,14 +262,14 @@ module _ (p : Parts) (q : Demand) (s : Stores p q) where
     pub allowed : s.allowed bits ≡ true
     pub meets : Meets q (s.decode bits)
     pub is : b ≡ true ∷ (bits ++ outputs (start bits) gates)
-    pub reads : readBack b ≡ s.decode bits
+    pub reads : read_back b ≡ s.decode bits
 
   read-bits : (x t : List Bool) → length x ≡ p.free → take p.free (x ++ t) ≡ x
   read-bits x t e = subst (λ (k : ℕ). take k (x ++ t) ≡ x) e (take-append_seam x t)
 
   split : (b : List Bool) → Solves p b → Split b
   split b h =
-      let t = apart p.free gates further (partsClauses p) any-made.scoped law b (h.size ∙ parts-variables) h.holds in
+      let t = apart p.free gates further (parts_clauses p) any-made.scoped law b (h.size ∙ parts-variables) h.holds in
       let x : List Bool = t.0 in
       let y : List Bool = s.decode x in
       let m : (s.allowed x && (q.agrees y && every (q.facts y))) ≡ true = sym (made x t.1).means ∙ t.3 in
@@ -282,11 +282,11 @@ module _ (p : Parts) (q : Demand) (s : Stores p q) where
         allowed = o;
         meets = record { size = i.0; marks = i.1; agrees = and_left (q.agrees y) _ r; facts = and_right (q.agrees y) _ r };
         is = t.2;
-        reads = ap readBack t.2 ∙ ap s.decode (read-bits x (outputs (start x) gates) t.1);
+        reads = ap read_back t.2 ∙ ap s.decode (read-bits x (outputs (start x) gates) t.1);
       }
 
   -- every satisfying assignment reads back to an instance that meets the demand
-  pub reads-meet : (b : List Bool) → Solves p b → Meets q (readBack b)
+  pub reads-meet : (b : List Bool) → Solves p b → Meets q (read_back b)
   reads-meet b h = let t = split b h in rw t.reads t.meets
 
   -- every such instance is read back from exactly one
@@ -301,7 +301,7 @@ module _ (p : Parts) (q : Demand) (s : Stores p q) where
         solves =
             record {
               size = omega (arith, length-append x (outputs (start x) gates), length-outputs (start x) gates, parts-variables, o.0);
-              holds = together p.free gates further (partsClauses p) any-made.scoped law x o.0 ((made x o.0).means ∙ m);
+              holds = together p.free gates further (parts_clauses p) any-made.scoped law x o.0 ((made x o.0).means ∙ m);
             };
         reads = ap s.decode (read-bits x (outputs (start x) gates) o.0) ∙ o.2;
         only = λ b h e.

@@ -5,45 +5,45 @@ use Prim.Native.Nat.{ℕ, zero, suc, ◌+◌, ◌≤◌}
 use native.Mathlib.Omega.{arith}
 use lib.ListN.{length, get_or}
 use Rattle.literal.specs.Literals.{Literal, positive, negative, opposite}
-use Rattle.sheet_rules.specs.Blocks.{Sheet, isBounded, relationCount, multiplicity, firstSort, secondSort}
-use Rattle.relational.specs.Cells.{is_set, rowCount, rowLength, memberCell, cell}
+use Rattle.sheet_rules.specs.Blocks.{Sheet, is_bounded, relation_count, multiplicity, first_sort, second_sort}
+use Rattle.relational.specs.Cells.{is_set, row_count, row_length, member_cell, cell}
 use Rattle.relational.specs.Matrices.{from, pairs}
 use Rattle.clauses_rules.specs.Builder.{Gate}
-use Rattle.clauses_rules.specs.Gates.{Clause, inputClauses, gateClauses, gatesClauses}
-use Rattle.clauses_rules.specs.Translation.{Two, absent, literalAt}
-use Rattle.clauses_rules.specs.Whole.{series, pairClause, rowClauses, rowLiterals, memberLiterals, rowMembers}
-use Rattle.clauses_rules.specs.Whole.{markClauses, cellMembers, memberClauses}
+use Rattle.clauses_rules.specs.Gates.{Clause, input_clauses, gate_clauses, gates_clauses}
+use Rattle.clauses_rules.specs.Translation.{Two, absent, literal_at}
+use Rattle.clauses_rules.specs.Whole.{series, pair_clause, row_clauses, row_literals, member_literals, row_members}
+use Rattle.clauses_rules.specs.Whole.{mark_clauses, cell_members, member_clauses}
 use Rattle.clauses_rules.proofs.Values.{In, AllIn, ClausesIn, in-opposite, all-in-grows, clauses-in-append}
 use Rattle.clauses_rules.proofs.Gate.{Scoped}
 
 -- ---- gates
-inputs_in : (n g : ℕ) (ls : List Literal) → In n (positive g) → AllIn n ls → ClausesIn n (inputClauses g ls)
-unfolding inputClauses
+inputs_in : (n g : ℕ) (ls : List Literal) → In n (positive g) → AllIn n ls → ClausesIn n (input_clauses g ls)
+unfolding input_clauses
 inputs_in n g [] i h = tt
 inputs_in n g (l ∷ ls) i h = ((i, (in-opposite l h.0, tt)), inputs_in n g ls i h.1)
 
-gate-in : (n g : ℕ) (ls : Gate) → In n (positive g) → AllIn n ls → ClausesIn n (gateClauses g ls)
+gate-in : (n g : ℕ) (ls : Gate) → In n (positive g) → AllIn n ls → ClausesIn n (gate_clauses g ls)
 gate-in n g ls i h =
-    clauses-in-append n (inputClauses g ls) ((negative g ∷ ls) ∷ []) (inputs_in n g ls i h) ((in-opposite (positive g) i, h), tt)
+    clauses-in-append n (input_clauses g ls) ((negative g ∷ ls) ∷ []) (inputs_in n g ls i h) ((in-opposite (positive g) i, h), tt)
 
-pub gates-in : (n g : ℕ) (gates : List Gate) → 1 ≤ g → g + length gates ≤ n → Scoped g gates → ClausesIn n (gatesClauses g gates)
-unfolding gatesClauses
+pub gates-in : (n g : ℕ) (gates : List Gate) → 1 ≤ g → g + length gates ≤ n → Scoped g gates → ClausesIn n (gates_clauses g gates)
+unfolding gates_clauses
 gates-in n g [] p q s = tt
 gates-in n g (ls ∷ gates) p q s =
-    clauses-in-append n (gateClauses g ls) (gatesClauses (suc g) gates)
+    clauses-in-append n (gate_clauses g ls) (gates_clauses (suc g) gates)
     (gate-in n g ls (record { low = p; high = omega arith }) (all-in-grows ls (omega arith) s.0))
     (gates-in n (suc g) gates (omega arith) (omega arith) s.1)
 
 -- ---- rows
-with-each-in : (n : ℕ) (l : Literal) (ks : List Literal) → In n l → AllIn n ks → ClausesIn n (map pairClause (map {B = Two} (λ k. (l, k)) ks))
+with-each-in : (n : ℕ) (l : Literal) (ks : List Literal) → In n l → AllIn n ks → ClausesIn n (map pair_clause (map {B = Two} (λ k. (l, k)) ks))
 with-each-in n l [] i h = tt
 with-each-in n l (k ∷ ks) i h = ((in-opposite l i, (in-opposite k h.0, tt)), with-each-in n l ks i h.1)
 
-pairs-in : (n : ℕ) (ls : List Literal) → AllIn n ls → ClausesIn n (map pairClause (pairs ls))
+pairs-in : (n : ℕ) (ls : List Literal) → AllIn n ls → ClausesIn n (map pair_clause (pairs ls))
 pairs-in n [] h = tt
 pairs-in n (l ∷ ls) h =
-    rw (map-append pairClause (map {B = Two} (λ k. (l, k)) ls) (pairs ls))
-    (clauses-in-append n (map pairClause (map {B = Two} (λ k. (l, k)) ls)) (map pairClause (pairs ls))
+    rw (map-append pair_clause (map {B = Two} (λ k. (l, k)) ls) (pairs ls))
+    (clauses-in-append n (map pair_clause (map {B = Two} (λ k. (l, k)) ls)) (map pair_clause (pairs ls))
     (with-each-in n l ls h.0 h.1) (pairs-in n ls h.1))
 
 all-in-append : (n : ℕ) (ls ks : List Literal) → AllIn n ls → AllIn n ks → AllIn n (ls ++ ks)
@@ -54,11 +54,11 @@ opposites-in : (n : ℕ) (ls : List Literal) → AllIn n ls → AllIn n (map opp
 opposites-in n [] h = tt
 opposites-in n (l ∷ ls) h = (in-opposite l h.0, opposites-in n ls h.1)
 
-row_in : (m n : ℕ) (members row : List Literal) → AllIn n members → AllIn n row → ClausesIn n (rowClauses m members row)
+row_in : (m n : ℕ) (members row : List Literal) → AllIn n members → AllIn n row → ClausesIn n (row_clauses m members row)
 row_in zero n members row g h = tt
 row_in (suc zero) n members row g h = pairs-in n row h
 row_in (suc (suc m)) n members row g h =
-    clauses-in-append n (map pairClause (pairs row)) ((map opposite members ++ row) ∷ []) (pairs-in n row h)
+    clauses-in-append n (map pair_clause (pairs row)) ((map opposite members ++ row) ∷ []) (pairs-in n row h)
     (all-in-append n (map opposite members) row (opposites-in n members g) h, tt)
 
 implied-in : (n : ℕ) (l : Literal) (ms : List Literal) → In n l → AllIn n ms
@@ -85,30 +85,30 @@ get_in n (l ∷ ls) p h zero = h.0
 get_in n (l ∷ ls) p h (suc i) = get_in n ls p h.1 i
 
 module _ (sheet : Sheet) (cells : List Literal) (n : ℕ) (p : 2 ≤ n) (h : AllIn n cells) where
-  members-in : (k i : ℕ) → AllIn n (memberLiterals sheet cells k i)
+  members-in : (k i : ℕ) → AllIn n (member_literals sheet cells k i)
   members-in k i =
-      all-in-cond n (isBounded sheet k) (literalAt sheet cells (memberCell sheet k i) ∷ []) []
-      (get_in n cells p h (memberCell sheet k i), tt) tt
+      all-in-cond n (is_bounded sheet k) (literal_at sheet cells (member_cell sheet k i) ∷ []) []
+      (get_in n cells p h (member_cell sheet k i), tt) tt
 
-  pub marks-in : ClausesIn n (markClauses sheet cells)
-  unfolding markClauses
+  pub marks-in : ClausesIn n (mark_clauses sheet cells)
+  unfolding mark_clauses
   marks-in =
-      series-in n (relationCount sheet) _ λ r. series-in n (rowCount sheet r) _ λ i.
-      row_in (multiplicity sheet r) n (rowMembers sheet cells r i) (rowLiterals sheet cells r i)
-      (all-in-cond n (is_set sheet r) [] (memberLiterals sheet cells (firstSort sheet r) i) tt
-      (members-in (firstSort sheet r) i))
-      (map-in n (literalAt sheet cells) (get_in n cells p h) (from (cell sheet r i 0) (rowLength sheet r)))
+      series-in n (relation_count sheet) _ λ r. series-in n (row_count sheet r) _ λ i.
+      row_in (multiplicity sheet r) n (row_members sheet cells r i) (row_literals sheet cells r i)
+      (all-in-cond n (is_set sheet r) [] (member_literals sheet cells (first_sort sheet r) i) tt
+      (members-in (first_sort sheet r) i))
+      (map-in n (literal_at sheet cells) (get_in n cells p h) (from (cell sheet r i 0) (row_length sheet r)))
 
-  pub inside-in : ClausesIn n (memberClauses sheet cells)
-  unfolding memberClauses
+  pub inside-in : ClausesIn n (member_clauses sheet cells)
+  unfolding member_clauses
   inside-in =
-      series-in n (relationCount sheet) _ λ r. series-in n (rowCount sheet r) _ λ i. series-in n (rowLength sheet r) _ λ
+      series-in n (relation_count sheet) _ λ r. series-in n (row_count sheet r) _ λ i. series-in n (row_length sheet r) _ λ
       j.
-      implied-in n (literalAt sheet cells (cell sheet r i j)) (cellMembers sheet cells r i j)
+      implied-in n (literal_at sheet cells (cell sheet r i j)) (cell_members sheet cells r i j)
       (get_in n cells p h (cell sheet r i j))
-      (all-in-cond n (is_set sheet r) (memberLiterals sheet cells (firstSort sheet r) j)
-      (memberLiterals sheet cells (firstSort sheet r) i ++ memberLiterals sheet cells (secondSort sheet r) j)
-      (members-in (firstSort sheet r) j)
-      (all-in-append n (memberLiterals sheet cells (firstSort sheet r) i)
-      (memberLiterals sheet cells (secondSort sheet r) j)
-      (members-in (firstSort sheet r) i) (members-in (secondSort sheet r) j)))
+      (all-in-cond n (is_set sheet r) (member_literals sheet cells (first_sort sheet r) j)
+      (member_literals sheet cells (first_sort sheet r) i ++ member_literals sheet cells (second_sort sheet r) j)
+      (members-in (first_sort sheet r) j)
+      (all-in-append n (member_literals sheet cells (first_sort sheet r) i)
+      (member_literals sheet cells (second_sort sheet r) j)
+      (members-in (first_sort sheet r) i) (members-in (second_sort sheet r) j)))

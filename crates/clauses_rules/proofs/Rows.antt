@@ -7,16 +7,16 @@ use lib.Dec.{leb}
 use Rattle.prelude.specs.Tests.{each, all, any}
 use Rattle.prelude.proofs.Laws.{each-cong, all_append}
 use Rattle.literal.specs.Literals.{Literal, opposite}
-use Rattle.sheet_rules.specs.Blocks.{Sheet, isBounded, relationCount, multiplicity, firstSort, secondSort}
-use Rattle.relational.specs.Cells.{is_set, rowCount, rowLength, memberCell, cell}
+use Rattle.sheet_rules.specs.Blocks.{Sheet, is_bounded, relation_count, multiplicity, first_sort, second_sort}
+use Rattle.relational.specs.Cells.{is_set, row_count, row_length, member_cell, cell}
 use Rattle.relational.specs.Matrices.{from, pairs}
-use Rattle.relational.specs.Evaluation.{both, implies, count, flagAt, rowHolds, memberAt, rowBound, rowCells, marksHold}
-use Rattle.relational.specs.Evaluation.{cellsInside}
-use Rattle.relational.proofs.Counts.{notBoth, pairs-count, some-count}
+use Rattle.relational.specs.Evaluation.{both, implies, count, flag_at, row_holds, member_at, row_bound, row_cells, marks_hold}
+use Rattle.relational.specs.Evaluation.{cells_inside}
+use Rattle.relational.proofs.Counts.{not_both, pairs-count, some-count}
 use Rattle.clauses_rules.specs.Gates.{Clause}
-use Rattle.clauses_rules.specs.Translation.{Two, literalAt}
-use Rattle.clauses_rules.specs.Whole.{series, pairClause, rowClauses, rowLiterals, memberLiterals, rowMembers}
-use Rattle.clauses_rules.specs.Whole.{markClauses, cellMembers, memberClauses}
+use Rattle.clauses_rules.specs.Translation.{Two, literal_at}
+use Rattle.clauses_rules.specs.Whole.{series, pair_clause, row_clauses, row_literals, member_literals, row_members}
+use Rattle.clauses_rules.specs.Whole.{mark_clauses, cell_members, member_clauses}
 use Rattle.clauses_rules.proofs.Values.{value, satisfied, satisfied-append}
 use Rattle.clauses_rules.proofs.Build.{Means, Pairwise, nothing, more, Mean}
 use Rattle.clauses_rules.proofs.Connect.{every, some, means-opposite, mean-some}
@@ -30,7 +30,7 @@ satisfied-series a zero f = refl
 satisfied-series a (suc n) f = satisfied-append a (series n f) (f n) ∙ rw (satisfied-series a n f)
 
 satisfied-pairs : (a : List Bool) {ts : List Two} {us : List (Bool × Bool)} → Pairwise (Both a) ts us
-    → satisfied a (map pairClause ts) ≡ all notBoth us
+    → satisfied a (map pair_clause ts) ≡ all not_both us
 unfolding all any
 satisfied-pairs a nothing = refl
 satisfied-pairs a (more {x = t} {y = u} h hs) =
@@ -48,11 +48,11 @@ guarded a {ms} (more {x} {y} {xs} g gs) h = rw ((means-opposite g).value, guarde
     go false = refl
 
 satisfied-row : (a : List Bool) {gs ms : List Bool} {members row : List Literal} → Mean gs a members → Mean ms a row
-    → satisfied a (map pairClause (pairs row) ++ ((map opposite members ++ row) ∷ [])) ≡
+    → satisfied a (map pair_clause (pairs row) ++ ((map opposite members ++ row) ∷ [])) ≡
     (leb (count ms) 1 && implies (every gs, leb 1 (count ms)))
 unfolding all
 satisfied-row a {gs} {ms} {members} {row} g h =
-    satisfied-append a (map pairClause (pairs row)) ((map opposite members ++ row) ∷ [])
+    satisfied-append a (map pair_clause (pairs row)) ((map opposite members ++ row) ∷ [])
     ∙ rw (satisfied-pairs a (pairs-mean h), pairs-count ms, guarded a g h, some-count ms, and-true)
 
 -- (-cell, member) for each member
@@ -71,104 +71,104 @@ implied a {c} {l} p (more {x} {y} {xs} m ms) = rw ((means-opposite p).value, m.v
 module _ (sheet : Sheet) (instance : List ℕ) where
   row-mean : (m : ℕ) (a : List Bool) {gs ms : List Bool} {members row : List Literal} → Mean gs a members
       → Mean ms a row
-      → satisfied a (rowClauses m members row) ≡ rowHolds sheet instance m (every gs) ms
+      → satisfied a (row_clauses m members row) ≡ row_holds sheet instance m (every gs) ms
   unfolding all
   row-mean zero a g h = refl
   row-mean (suc zero) a {ms} g h = satisfied-pairs a (pairs-mean h) ∙ pairs-count ms
   row-mean (suc (suc m)) a g h = satisfied-row a g h
 
   -- the flags of members
-  abbrev memberFlags : ℕ → ℕ → List Bool
-  memberFlags k i = cond (isBounded sheet k) (flagAt sheet instance (memberCell sheet k i) ∷ []) []
+  abbrev member_flags : ℕ → ℕ → List Bool
+  member_flags k i = cond (is_bounded sheet k) (flag_at sheet instance (member_cell sheet k i) ∷ []) []
 
-  member-flags : (k i : ℕ) → every (memberFlags k i) ≡ memberAt sheet instance k i
+  member-flags : (k i : ℕ) → every (member_flags k i) ≡ member_at sheet instance k i
   unfolding all
-  member-flags k i = go (isBounded sheet k)
+  member-flags k i = go (is_bounded sheet k)
     where
-      go : (b : Bool) → every (cond b (flagAt sheet instance (memberCell sheet k i) ∷ []) []) ≡ cond b
-          (flagAt sheet instance (memberCell sheet k i)) true
-      go true = and-true (flagAt sheet instance (memberCell sheet k i))
+      go : (b : Bool) → every (cond b (flag_at sheet instance (member_cell sheet k i) ∷ []) []) ≡ cond b
+          (flag_at sheet instance (member_cell sheet k i)) true
+      go true = and-true (flag_at sheet instance (member_cell sheet k i))
       go false = refl
 
-  abbrev rowFlags : ℕ → ℕ → List Bool
-  rowFlags r i = cond (is_set sheet r) [] (memberFlags (firstSort sheet r) i)
+  abbrev row_flags : ℕ → ℕ → List Bool
+  row_flags r i = cond (is_set sheet r) [] (member_flags (first_sort sheet r) i)
 
-  row-flags : (r i : ℕ) → every (rowFlags r i) ≡ rowBound sheet instance r i
+  row-flags : (r i : ℕ) → every (row_flags r i) ≡ row_bound sheet instance r i
   unfolding all
   row-flags r i = go (is_set sheet r)
     where
-      go : (b : Bool) → every (cond b [] (memberFlags (firstSort sheet r) i)) ≡ cond b true
-          (memberAt sheet instance (firstSort sheet r) i)
+      go : (b : Bool) → every (cond b [] (member_flags (first_sort sheet r) i)) ≡ cond b true
+          (member_at sheet instance (first_sort sheet r) i)
       go true = refl
-      go false = member-flags (firstSort sheet r) i
+      go false = member-flags (first_sort sheet r) i
 
-  abbrev cellFlags : ℕ → ℕ → ℕ → List Bool
-  cellFlags r i j = cond (is_set sheet r) (memberFlags (firstSort sheet r) j)
-      (memberFlags (firstSort sheet r) i ++ memberFlags (secondSort sheet r) j)
+  abbrev cell_flags : ℕ → ℕ → ℕ → List Bool
+  cell_flags r i j = cond (is_set sheet r) (member_flags (first_sort sheet r) j)
+      (member_flags (first_sort sheet r) i ++ member_flags (second_sort sheet r) j)
 
-  cell-flags : (r i j : ℕ) → every (cellFlags r i j)
-      ≡ cond (is_set sheet r) (memberAt sheet instance (firstSort sheet r) j)
-      (both (memberAt sheet instance (firstSort sheet r) i, memberAt sheet instance (secondSort sheet r) j))
+  cell-flags : (r i j : ℕ) → every (cell_flags r i j)
+      ≡ cond (is_set sheet r) (member_at sheet instance (first_sort sheet r) j)
+      (both (member_at sheet instance (first_sort sheet r) i, member_at sheet instance (second_sort sheet r) j))
   cell-flags r i j = go (is_set sheet r)
     where
-      go : (b : Bool) → every (cond b (memberFlags (firstSort sheet r) j)
-          (memberFlags (firstSort sheet r) i ++ memberFlags (secondSort sheet r) j))
-          ≡ cond b (memberAt sheet instance (firstSort sheet r) j)
-          (both (memberAt sheet instance (firstSort sheet r) i, memberAt sheet instance (secondSort sheet r) j))
-      go true = member-flags (firstSort sheet r) j
+      go : (b : Bool) → every (cond b (member_flags (first_sort sheet r) j)
+          (member_flags (first_sort sheet r) i ++ member_flags (second_sort sheet r) j))
+          ≡ cond b (member_at sheet instance (first_sort sheet r) j)
+          (both (member_at sheet instance (first_sort sheet r) i, member_at sheet instance (second_sort sheet r) j))
+      go true = member-flags (first_sort sheet r) j
       go false =
-          all_append (λ (b : Bool). b) (memberFlags (firstSort sheet r) i) (memberFlags (secondSort sheet r) j)
-          ∙ rw (member-flags (firstSort sheet r) i, member-flags (secondSort sheet r) j)
+          all_append (λ (b : Bool). b) (member_flags (first_sort sheet r) i) (member_flags (second_sort sheet r) j)
+          ∙ rw (member-flags (first_sort sheet r) i, member-flags (second_sort sheet r) j)
 
   module _ (cells : List Literal) (a : List Bool) (ready : Ready sheet instance cells a) where
-    row-literals : (r i : ℕ) → Mean (rowCells sheet instance r i) a (rowLiterals sheet cells r i)
-    row-literals r i = pairwise-maps _ _ (λ k. means-cell sheet instance cells ready k) (from (cell sheet r i 0) (rowLength sheet r))
+    row-literals : (r i : ℕ) → Mean (row_cells sheet instance r i) a (row_literals sheet cells r i)
+    row-literals r i = pairwise-maps _ _ (λ k. means-cell sheet instance cells ready k) (from (cell sheet r i 0) (row_length sheet r))
 
-    members-mean : (k i : ℕ) → Mean (memberFlags k i) a (memberLiterals sheet cells k i)
-    members-mean k i = go (isBounded sheet k)
+    members-mean : (k i : ℕ) → Mean (member_flags k i) a (member_literals sheet cells k i)
+    members-mean k i = go (is_bounded sheet k)
       where
-        go : (b : Bool) → Mean (cond b (flagAt sheet instance (memberCell sheet k i) ∷ []) []) a
-            (cond b (literalAt sheet cells (memberCell sheet k i) ∷ []) [])
-        go true = more (means-cell sheet instance cells ready (memberCell sheet k i)) nothing
+        go : (b : Bool) → Mean (cond b (flag_at sheet instance (member_cell sheet k i) ∷ []) []) a
+            (cond b (literal_at sheet cells (member_cell sheet k i) ∷ []) [])
+        go true = more (means-cell sheet instance cells ready (member_cell sheet k i)) nothing
         go false = nothing
 
-    row-members : (r i : ℕ) → Mean (rowFlags r i) a (rowMembers sheet cells r i)
+    row-members : (r i : ℕ) → Mean (row_flags r i) a (row_members sheet cells r i)
     row-members r i = go (is_set sheet r)
       where
-        go : (b : Bool) → Mean (cond b [] (memberFlags (firstSort sheet r) i)) a
-            (cond b [] (memberLiterals sheet cells (firstSort sheet r) i))
+        go : (b : Bool) → Mean (cond b [] (member_flags (first_sort sheet r) i)) a
+            (cond b [] (member_literals sheet cells (first_sort sheet r) i))
         go true = nothing
-        go false = members-mean (firstSort sheet r) i
+        go false = members-mean (first_sort sheet r) i
 
-    cell-members : (r i j : ℕ) → Mean (cellFlags r i j) a (cellMembers sheet cells r i j)
+    cell-members : (r i j : ℕ) → Mean (cell_flags r i j) a (cell_members sheet cells r i j)
     cell-members r i j = go (is_set sheet r)
       where
-        go : (b : Bool) → Mean (cond b (memberFlags (firstSort sheet r) j)
-            (memberFlags (firstSort sheet r) i ++ memberFlags (secondSort sheet r) j)) a
-            (cond b (memberLiterals sheet cells (firstSort sheet r) j)
-            (memberLiterals sheet cells (firstSort sheet r) i ++ memberLiterals sheet cells (secondSort sheet r) j))
-        go true = members-mean (firstSort sheet r) j
-        go false = pairwise_append (members-mean (firstSort sheet r) i) (members-mean (secondSort sheet r) j)
+        go : (b : Bool) → Mean (cond b (member_flags (first_sort sheet r) j)
+            (member_flags (first_sort sheet r) i ++ member_flags (second_sort sheet r) j)) a
+            (cond b (member_literals sheet cells (first_sort sheet r) j)
+            (member_literals sheet cells (first_sort sheet r) i ++ member_literals sheet cells (second_sort sheet r) j))
+        go true = members-mean (first_sort sheet r) j
+        go false = pairwise_append (members-mean (first_sort sheet r) i) (members-mean (second_sort sheet r) j)
 
-    pub inside-mean : satisfied a (memberClauses sheet cells) ≡ cellsInside sheet instance
-    unfolding memberClauses cellsInside
+    pub inside-mean : satisfied a (member_clauses sheet cells) ≡ cells_inside sheet instance
+    unfolding member_clauses cells_inside
     inside-mean =
-        satisfied-series a (relationCount sheet) _
-        ∙ each-cong _ _ (relationCount sheet) (λ r below.
-        satisfied-series a (rowCount sheet r) _
-        ∙ each-cong _ _ (rowCount sheet r) (λ i low.
-        satisfied-series a (rowLength sheet r) _
-        ∙ each-cong _ _ (rowLength sheet r) (λ j under.
+        satisfied-series a (relation_count sheet) _
+        ∙ each-cong _ _ (relation_count sheet) (λ r below.
+        satisfied-series a (row_count sheet r) _
+        ∙ each-cong _ _ (row_count sheet r) (λ i low.
+        satisfied-series a (row_length sheet r) _
+        ∙ each-cong _ _ (row_length sheet r) (λ j under.
         implied a (means-cell sheet instance cells ready (cell sheet r i j)) (cell-members r i j)
-        ∙ ap (λ (b : Bool). implies (flagAt sheet instance (cell sheet r i j), b)) (cell-flags r i j))))
+        ∙ ap (λ (b : Bool). implies (flag_at sheet instance (cell sheet r i j), b)) (cell-flags r i j))))
 
-    pub marks-mean : satisfied a (markClauses sheet cells) ≡ marksHold sheet instance
-    unfolding markClauses marksHold
+    pub marks-mean : satisfied a (mark_clauses sheet cells) ≡ marks_hold sheet instance
+    unfolding mark_clauses marks_hold
     marks-mean =
-        satisfied-series a (relationCount sheet) _
-        ∙ each-cong _ _ (relationCount sheet) (λ r below.
-        satisfied-series a (rowCount sheet r) _
-        ∙ each-cong _ _ (rowCount sheet r) (λ i low.
+        satisfied-series a (relation_count sheet) _
+        ∙ each-cong _ _ (relation_count sheet) (λ r below.
+        satisfied-series a (row_count sheet r) _
+        ∙ each-cong _ _ (row_count sheet r) (λ i low.
         row-mean (multiplicity sheet r) a (row-members r i) (row-literals r i)
-        ∙ ap (λ (b : Bool). rowHolds sheet instance (multiplicity sheet r) b (rowCells sheet instance r i))
+        ∙ ap (λ (b : Bool). row_holds sheet instance (multiplicity sheet r) b (row_cells sheet instance r i))
         (row-flags r i)))

@@ -9,9 +9,9 @@ use Rattle.prelude.specs.Tests.{any}
 use Rattle.prelude.specs.Order.{Before, NoneBefore, Some, Lists}
 use Rattle.prelude.proofs.Order.{before-irreflexive, before-transitive, before-total, given-of-map, lists-of-map}
 use Rattle.literal.specs.Literals.{Literal, positive}
-use Rattle.clause_list.specs.ClauseList.{isList}
+use Rattle.clause_list.specs.ClauseList.{is_list}
 use Rattle.sheet_rules.specs.declared.Layout.{Layout}
-use Rattle.sheet_rules.specs.Blocks.{Sheet, sheetOf}
+use Rattle.sheet_rules.specs.Blocks.{Sheet, sheet_of}
 use Rattle.sheet_rules.specs.Reading.{accepted, reading}
 use Rattle.relational.specs.Trees.{Expression, Formula}
 use Rattle.relational.specs.Meaning.{Environment, Solution}
@@ -19,9 +19,9 @@ use Rattle.relational.specs.Evaluation.{value_of, truth_of}
 use Rattle.relational.proofs.Accepted.{accepted-holds}
 use Rattle.relational.proofs.Scopes.{within-size, within-bits}
 use Rattle.clauses_rules.specs.Builder.{Gate, Built}
-use Rattle.clauses_rules.specs.Gates.{or, gateClauses, gatesClauses}
-use Rattle.clauses_rules.specs.Translation.{translate, translateFormula}
-use Rattle.clauses_rules.specs.Whole.{words, variableTotal, wordTotal, readBack}
+use Rattle.clauses_rules.specs.Gates.{or, gate_clauses, gates_clauses}
+use Rattle.clauses_rules.specs.Translation.{translate, translate_formula}
+use Rattle.clauses_rules.specs.Whole.{words, variable_total, word_total, read_back}
 use Rattle.clauses_rules.specs.Matching.{Assignment, Match}
 use Rattle.clauses_rules.proofs.Values.{value, satisfied, AllIn}
 use Rattle.clauses_rules.proofs.Gate as g
@@ -36,15 +36,15 @@ use Rattle.clauses_rules.proofs.Listed.{words-listed}
 
 -- `gate`: the clauses of a gate hold exactly when its variable equals the OR of its inputs
 pub gate : (a : List Bool) (g : ℕ) (inputs : Gate)
-    → (satisfied a (gateClauses g inputs) ≡ true) ↔ (value a (positive g) ≡ any (value a) inputs)
+    → (satisfied a (gate_clauses g inputs) ≡ true) ↔ (value a (positive g) ≡ any (value a) inputs)
 gate = g.gate
 
 -- an assignment of the variables below gates extends to their variables in exactly one way
 pub record OneExtension (a : List Bool) (gates : List Gate) : Type 0 where
   pub values : List Bool
   pub size : length values ≡ length gates
-  pub holds : satisfied (a ++ values) (gatesClauses (length a) gates) ≡ true
-  pub only : (b : List Bool) → length b ≡ length gates → satisfied (a ++ b) (gatesClauses (length a) gates) ≡ true → b ≡ values
+  pub holds : satisfied (a ++ values) (gates_clauses (length a) gates) ≡ true
+  pub only : (b : List Bool) → length b ≡ length gates → satisfied (a ++ b) (gates_clauses (length a) gates) ≡ true → b ≡ values
 
 extension : (a : List Bool) (gates : List Gate) → Scoped (length a) gates → OneExtension a gates
 extension a gates s =
@@ -69,7 +69,7 @@ or-value a ls one inside =
 -- way through the whole walk, and the walk's literals then have the values of the evaluation
 module _ (sheet : Sheet) (instance : List ℕ) (cells : List Literal) (env : Environment) (a : List Bool) (ready : Ready sheet instance cells a) where
   pub walk-formula : (f : Formula)
-      → Walked a (translateFormula sheet cells f env (length a)) (λ b l. value b l ≡ truth_of sheet instance f env)
+      → Walked a (translate_formula sheet cells f env (length a)) (λ b l. value b l ≡ truth_of sheet instance f env)
   unfolding extension
   walk-formula f =
       let r = right-translate-formula sheet instance cells f env a ready in
@@ -85,70 +85,70 @@ module _ (sheet : Sheet) (instance : List ℕ) (cells : List Literal) (env : Env
 -- `match`: for every accepted sheet, instances within the scopes that satisfy marks and formula are read back from exactly one
 -- satisfying assignment, and every satisfying assignment reads back to one
 module _ (s : List ℕ) (layout : Layout) (taken : reading s ≡ accepted layout) where
-  pub match : Match (sheetOf s)
+  pub match : Match (sheet_of s)
   match =
       record {
-        once = λ i h. exactly-one (sheetOf s) i record {
+        once = λ i h. exactly-one (sheet_of s) i record {
           within = h.within.bytes;
           holds = (accepted-holds s layout taken i).1 (
-            h.within.of-atoms,
+            h.within.of_atoms,
             h.satisfies,
           );
         };
         reads = λ a h.
-            let r = reads-instance (sheetOf s) a h in
-            let t = (accepted-holds s layout taken (readBack (sheetOf s) a)).0 r.holds in
-            record { within = record { bytes = r.within; of-atoms = t.0 }; satisfies = t.1 };
+            let r = reads-instance (sheet_of s) a h in
+            let t = (accepted-holds s layout taken (read_back (sheet_of s) a)).0 r.holds in
+            record { within = record { bytes = r.within; of_atoms = t.0 }; satisfies = t.1 };
       }
 
   -- no satisfying assignment exactly when no instance satisfies
-  pub none : ((a : List ℕ) → Assignment (sheetOf s) a → ⊥) ↔ ((i : List ℕ) → Solution (sheetOf s) i → ⊥)
+  pub none : ((a : List ℕ) → Assignment (sheet_of s) a → ⊥) ↔ ((i : List ℕ) → Solution (sheet_of s) i → ⊥)
   none = (
     (λ h i p. let o = match.once i p in h o.assignment o.satisfying),
-    λ h a p. h (readBack (sheetOf s) a) (match.reads a p),
+    λ h a p. h (read_back (sheet_of s) a) (match.reads a p),
   )
 
   -- the first satisfying assignment reads back to the first instance that satisfies
-  pub first : (a : List ℕ) → Assignment (sheetOf s) a → NoneBefore (Assignment (sheetOf s)) a
-      → NoneBefore (Solution (sheetOf s)) (readBack (sheetOf s) a)
+  pub first : (a : List ℕ) → Assignment (sheet_of s) a → NoneBefore (Assignment (sheet_of s)) a
+      → NoneBefore (Solution (sheet_of s)) (read_back (sheet_of s) a)
   first a h none_before i p before =
       let o = match.once i p in
-      none_before o.assignment o.satisfying (read-back-before (sheetOf s) o.assignment a o.satisfying h (rw o.reads before))
+      none_before o.assignment o.satisfying (read-back-before (sheet_of s) o.assignment a o.satisfying h (rw o.reads before))
 
   -- and of two assignments the earlier one reads back to the earlier instance
-  pub before-reads : (a b : List ℕ) → Assignment (sheetOf s) a → Assignment (sheetOf s) b → Before a b
-      → Before (readBack (sheetOf s) a) (readBack (sheetOf s) b)
+  pub before-reads : (a b : List ℕ) → Assignment (sheet_of s) a → Assignment (sheet_of s) b → Before a b
+      → Before (read_back (sheet_of s) a) (read_back (sheet_of s) b)
   before-reads a b p q h =
       let i = (match.reads a p).within.bytes in
       let j = (match.reads b q).within.bytes in
       ⊎_elim (λ x. x)
       (⊎_elim (λ x. absurd (before-irreflexive b (rw (same_reads a b p q x) at h)))
-      (λ x. absurd (before-irreflexive a (before-transitive a b a h (read-back-before (sheetOf s) b a q p x)))))
-      (before-total (readBack (sheetOf s) a) (readBack (sheetOf s) b) (within-size (sheetOf s) _ i ∙ sym (within-size (sheetOf s) _ j))
-      (within-bits (sheetOf s) _ i) (within-bits (sheetOf s) _ j))
+      (λ x. absurd (before-irreflexive a (before-transitive a b a h (read-back-before (sheet_of s) b a q p x)))))
+      (before-total (read_back (sheet_of s) a) (read_back (sheet_of s) b) (within-size (sheet_of s) _ i ∙ sym (within-size (sheet_of s) _ j))
+      (within-bits (sheet_of s) _ i) (within-bits (sheet_of s) _ j))
     where
-      same_reads : (a b : List ℕ) → Assignment (sheetOf s) a → Assignment (sheetOf s) b → readBack (sheetOf s) a ≡ readBack (sheetOf s) b → a ≡ b
+      same_reads : (a b : List ℕ) → Assignment (sheet_of s) a → Assignment (sheet_of s) b → read_back (sheet_of s) a ≡ read_back (sheet_of s) b → a ≡ b
       same_reads a b p q e =
-          let o = match.once (readBack (sheetOf s) b) (match.reads b q) in o.only a p e ∙ sym (o.only b q refl)
+          let o = match.once (read_back (sheet_of s) b) (match.reads b q) in o.only a p e ∙ sym (o.only b q refl)
 
   -- so a list of satisfying assignments reads back to one of the instances that satisfy, and all of them to all
-  from_one : (i : List ℕ) → Solution (sheetOf s) i
-      → (a : List ℕ) × Assignment (sheetOf s) a × (readBack (sheetOf s) a ≡ i)
+  from_one : (i : List ℕ) → Solution (sheet_of s) i
+      → (a : List ℕ) × Assignment (sheet_of s) a × (read_back (sheet_of s) a ≡ i)
   from_one i p = let o = match.once i p in (o.assignment, o.satisfying, o.reads)
 
-  pub lists-read : (found : List (List ℕ)) → Lists (Assignment (sheetOf s)) found
-      → Lists (Solution (sheetOf s)) (map (readBack (sheetOf s)) found)
+  pub lists-read : (found : List (List ℕ)) → Lists (Assignment (sheet_of s)) found
+      → Lists (Solution (sheet_of s)) (map (read_back (sheet_of s)) found)
   lists-read =
-      lists-of-map (Assignment (sheetOf s)) (Solution (sheetOf s)) (readBack (sheetOf s))
+      lists-of-map (Assignment (sheet_of s)) (Solution (sheet_of s)) (read_back (sheet_of s))
       match.reads before-reads from_one
 
-  pub all_read : (found : List (List ℕ)) → ((a : List ℕ) → Assignment (sheetOf s) a → Some (λ b. b ≡ a) found)
-      → (i : List ℕ) → Solution (sheetOf s) i → Some (λ j. j ≡ i) (map (readBack (sheetOf s)) found)
+  pub all_read : (found : List (List ℕ)) → ((a : List ℕ) → Assignment (sheet_of s) a → Some (λ b. b ≡ a) found)
+      → (i : List ℕ) → Solution (sheet_of s) i → Some (λ j. j ≡ i) (map (read_back (sheet_of s)) found)
   all_read =
-      given-of-map (Assignment (sheetOf s)) (Solution (sheetOf s)) (readBack (sheetOf s))
+      given-of-map (Assignment (sheet_of s)) (Solution (sheet_of s)) (read_back (sheet_of s))
       match.reads before-reads from_one
 
   -- `listed`: the search takes the clauses as they are written, where they fit the limits
-  pub listed : variableTotal (sheetOf s) ≤ 16000 → wordTotal (sheetOf s) ≤ 2147483647
-      → isList (variableTotal (sheetOf s)) (words (sheetOf s)) ≡ true
-  listed = words-listed (sheetOf s) (accepted-rows s layout taken)
+  pub listed : variable_total (sheet_of s) ≤ 16000 → word_total (sheet_of s) ≤ 2147483647
+      → is_list (variable_total (sheet_of s)) (words (sheet_of s)) ≡ true
+  listed = words-listed (sheet_of s) (accepted-rows s layout taken)

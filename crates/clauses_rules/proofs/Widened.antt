@@ -12,18 +12,18 @@ use lib.Dec.{leb, ltb}
 use lib.ListN.{length, get_or, length-append, length-map, get_or-map, get_or-eq_default}
 use borrow.Author.Tests.{eq-eqb}
 use Rattle.prelude.proofs.Laws.{clash, decided, and_both}
-use Rattle.sheet_rules.specs.Blocks.{Sheet, fourBlocks, byte, sortCount, scope, isBounded, relationCount, columns}
-use Rattle.sheet_rules.specs.Blocks.{firstSort, secondSort}
-use Rattle.relational.specs.Cells.{is_set, rowCount, rowLength, members_of, firstMember, memberCell, firstCell, cellCount}
-use Rattle.relational.specs.Cells.{cell, hasCells}
+use Rattle.sheet_rules.specs.Blocks.{Sheet, four_blocks, byte, sort_count, scope, is_bounded, relation_count, columns}
+use Rattle.sheet_rules.specs.Blocks.{first_sort, second_sort}
+use Rattle.relational.specs.Cells.{is_set, row_count, row_length, members_of, first_member, member_cell, first_cell, cell_count}
+use Rattle.relational.specs.Cells.{cell, has_cells}
 use Rattle.relational.specs.Meaning.{one, two, IsAtom, Given, WithinScopes}
 use Rattle.relational.specs.Matrices.{upto, Place, places}
-use Rattle.relational.specs.Evaluation.{flagAt, memberAt}
+use Rattle.relational.specs.Evaluation.{flag_at, member_at}
 use Rattle.relational.proofs.Scopes.{bounded-there, within-size}
 use Rattle.relational.proofs.Places.{length-map-from, upto-at, length-places, places-at, place-below}
 use Rattle.relational.proofs.Flags.{Is, recast, is-and, is-and-then, is-eqb, is-leb}
 use Rattle.relational.proofs.Basic.{is_member}
-use Rattle.relational.proofs.Transfer.{Alike, SameModel, of-atoms, satisfies}
+use Rattle.relational.proofs.Transfer.{Alike, SameModel, of_atoms, satisfies}
 use Rattle.clauses_rules.specs.Whole.{series}
 use Rattle.relational.specs.Meaning.{Solution}
 use Rattle.clauses_rules.proofs.Bytes.{byte_of, bytes, bytes_bits}
@@ -36,7 +36,7 @@ is_byte false = ((λ e. absurd (false≢true e)), λ e. absurd (omega arith))
 -- ---- a relation's cells that are 1
 module _ (sheet : Sheet) (instance : List ℕ) (r : ℕ) where
   abbrev InCell : ℕ → ℕ → Type 0
-  InCell i j = (i < rowCount sheet r) × (j < rowLength sheet r) × (byte instance (cell sheet r i j) ≡ 1)
+  InCell i j = (i < row_count sheet r) × (j < row_length sheet r) × (byte instance (cell sheet r i j) ≡ 1)
 
   in-set : (j : ℕ) → Given sheet instance r (one j) ↔ ((columns sheet r ≡ 1) × InCell 0 j)
   in-set j = (
@@ -51,70 +51,70 @@ module _ (sheet : Sheet) (instance : List ℕ) (r : ℕ) where
   )
 
 -- a cell past the last relation is not 1
-cells-later : (sheet : Sheet) (m n : ℕ) → m ≤ n → firstCell sheet m ≤ firstCell sheet n
-unfolding firstCell
+cells-later : (sheet : Sheet) (m n : ℕ) → m ≤ n → first_cell sheet m ≤ first_cell sheet n
+unfolding first_cell
 cells-later sheet m zero h = let e : m ≡ 0 = omega arith in rw e (omega arith)
 cells-later sheet m (suc n) h =
     ⊎_elim (λ e. rw e (omega arith)) (λ l. omega (arith, cells-later sheet m n (omega arith))) (eq-or-lt_of_le h)
 
-relation-there : (sheet : Sheet) (instance : List ℕ) → length instance ≡ cellCount sheet → (r i j : ℕ)
-    → byte instance (cell sheet r i j) ≡ 1 → r < relationCount sheet
-relation-there sheet instance size r i j e = go (dec_lt r (relationCount sheet))
+relation-there : (sheet : Sheet) (instance : List ℕ) → length instance ≡ cell_count sheet → (r i j : ℕ)
+    → byte instance (cell sheet r i j) ≡ 1 → r < relation_count sheet
+relation-there sheet instance size r i j e = go (dec_lt r (relation_count sheet))
   where
-    go : Dec (r < relationCount sheet) → r < relationCount sheet
+    go : Dec (r < relation_count sheet) → r < relation_count sheet
     go (yes l) = l
     go (no l) =
-        let later = cells-later sheet (relationCount sheet) r (omega arith) in
+        let later = cells-later sheet (relation_count sheet) r (omega arith) in
         absurd (omega (arith, get_or-eq_default instance 0 {n = cell sheet r i j} (omega arith), e))
 
 -- ---- over all blocks but the sorts
 module _ (variables relations nodes sorts sorts' : List ℕ) where
   abbrev narrow : Sheet
-  narrow = fourBlocks sorts variables relations nodes
+  narrow = four_blocks sorts variables relations nodes
 
   abbrev wide : Sheet
-  wide = fourBlocks sorts' variables relations nodes
+  wide = four_blocks sorts' variables relations nodes
 
   module _ (I : List ℕ) where
     -- the flag of atom i of sort k
-    abbrev atomFlag : ℕ → ℕ → Bool
-    atomFlag k i = ltb i (scope narrow k) && memberAt narrow I k i
+    abbrev atom_flag : ℕ → ℕ → Bool
+    atom_flag k i = ltb i (scope narrow k) && member_at narrow I k i
 
-    is-atom : (k i : ℕ) → Is (atomFlag k i) (IsAtom narrow I k i)
+    is-atom : (k i : ℕ) → Is (atom_flag k i) (IsAtom narrow I k i)
     is-atom k i =
         recast
-        (is-and-then (ltb i (scope narrow k)) (memberAt narrow I k i) (is-leb (suc i) (scope narrow k))
+        (is-and-then (ltb i (scope narrow k)) (member_at narrow I k i) (is-leb (suc i) (scope narrow k))
         (is_member narrow I k i))
         ((λ x. x.1), λ x. (x.0, x))
 
     -- the flag of a relation's cell
-    abbrev cellFlag : ℕ → Place → Bool
-    cellFlag r t =
-        ltb t.0 (rowCount narrow r)
-        && (ltb t.1 (rowLength narrow r) && flagAt narrow I (cell narrow r t.0 t.1))
+    abbrev cell_flag : ℕ → Place → Bool
+    cell_flag r t =
+        ltb t.0 (row_count narrow r)
+        && (ltb t.1 (row_length narrow r) && flag_at narrow I (cell narrow r t.0 t.1))
 
-    is-cell : (r i j : ℕ) → Is (cellFlag r (i, j)) (InCell narrow I r i j)
+    is-cell : (r i j : ℕ) → Is (cell_flag r (i, j)) (InCell narrow I r i j)
     is-cell r i j =
-        let one-there : Bool = flagAt narrow I (cell narrow r i j) in
-        let under : Bool = ltb j (rowLength narrow r) in
+        let one-there : Bool = flag_at narrow I (cell narrow r i j) in
+        let under : Bool = ltb j (row_length narrow r) in
         recast
-        (is-and (ltb i (rowCount narrow r)) (under && one-there) (is-leb (suc i) (rowCount narrow r))
-        (is-and under one-there (is-leb (suc j) (rowLength narrow r)) (is-eqb (byte I (cell narrow r i j)) 1)))
+        (is-and (ltb i (row_count narrow r)) (under && one-there) (is-leb (suc i) (row_count narrow r))
+        (is-and under one-there (is-leb (suc j) (row_length narrow r)) (is-eqb (byte I (cell narrow r i j)) 1)))
         ((λ x. (x.0, x.1.0, x.1.1)), λ x. (x.0, (x.1, x.2)))
 
     -- the cells of the wide sheet, sort by sort and relation by relation
     abbrev members : ℕ → List Bool
-    members k = map (atomFlag k) (upto (members_of wide k))
+    members k = map (atom_flag k) (upto (members_of wide k))
 
     abbrev cells : ℕ → List Bool
-    cells r = map (cellFlag r) (places (rowCount wide r) (rowLength wide r))
+    cells r = map (cell_flag r) (places (row_count wide r) (row_length wide r))
 
     abbrev front : List Bool
-    front = series (sortCount wide) members
+    front = series (sort_count wide) members
 
     -- (and nothing after them)
     abbrev rest : List Bool
-    rest = series (relationCount wide) cells ++ []
+    rest = series (relation_count wide) cells ++ []
 
     abbrev bits : List Bool
     bits = front ++ rest
@@ -122,99 +122,99 @@ module _ (variables relations nodes sorts sorts' : List ℕ) where
     abbrev pub widened : List ℕ
     widened = bytes bits
 
-    next-members : (k : ℕ) → firstMember wide (suc k) ≡ firstMember wide k + length (members k)
-    unfolding firstMember
-    next-members k = omega (arith, length-map-from (atomFlag k) 0 (members_of wide k))
+    next-members : (k : ℕ) → first_member wide (suc k) ≡ first_member wide k + length (members k)
+    unfolding first_member
+    next-members k = omega (arith, length-map-from (atom_flag k) 0 (members_of wide k))
 
-    next-cells : (r : ℕ) → firstCell wide (suc r) ≡ firstCell wide r + length (cells r)
-    unfolding firstCell
-    next-cells r = omega (arith, length-places (cellFlag r) (rowCount wide r) (rowLength wide r))
+    next-cells : (r : ℕ) → first_cell wide (suc r) ≡ first_cell wide r + length (cells r)
+    unfolding first_cell
+    next-cells r = omega (arith, length-places (cell_flag r) (row_count wide r) (row_length wide r))
 
-    front-size : length front ≡ firstCell wide 0
-    unfolding firstMember firstCell
-    front-size = omega (arith, series-end members (firstMember wide) next-members (sortCount wide))
+    front-size : length front ≡ first_cell wide 0
+    unfolding first_member first_cell
+    front-size = omega (arith, series-end members (first_member wide) next-members (sort_count wide))
 
-    pub widened-size : length widened ≡ cellCount wide
+    pub widened-size : length widened ≡ cell_count wide
     widened-size =
         length-map bits byte_of ∙ length-append front rest
-        ∙ ap (λ (t : List Bool). length front + length t) (append-nil (series (relationCount wide) cells))
-        ∙ omega (arith, front-size, series-end cells (firstCell wide) next-cells (relationCount wide))
+        ∙ ap (λ (t : List Bool). length front + length t) (append-nil (series (relation_count wide) cells))
+        ∙ omega (arith, front-size, series-end cells (first_cell wide) next-cells (relation_count wide))
 
-    pub widened-cells : hasCells wide widened ≡ true
-    unfolding hasCells
-    widened-cells = and_both _ _ (eq-eqb (length widened) (cellCount wide) widened-size) (bytes_bits bits)
+    pub widened-cells : has_cells wide widened ≡ true
+    unfolding has_cells
+    widened-cells = and_both _ _ (eq-eqb (length widened) (cell_count wide) widened-size) (bytes_bits bits)
 
     byte-is : (p : ℕ) → Is (get_or bits p false) (byte widened p ≡ 1)
     byte-is p = rw (get_or-map byte_of bits p false) (is_byte (get_or bits p false))
 
     -- what stands at the place of an atom, and of a tuple
-    member_is : (k i : ℕ) → isBounded wide k ≡ true → i < scope wide k
-        → (byte widened (memberCell wide k i) ≡ 1) ↔ IsAtom narrow I k i
-    unfolding firstMember
+    member_is : (k i : ℕ) → is_bounded wide k ≡ true → i < scope wide k
+        → (byte widened (member_cell wide k i) ≡ 1) ↔ IsAtom narrow I k i
+    unfolding first_member
     member_is k i b l =
         let size : members_of wide k ≡ scope wide k = rw b in
-        let inside : i < length (members k) = omega (arith, length-map-from (atomFlag k) 0 (members_of wide k)) in
-        let at = series-at members (firstMember wide) next-members false [] refl (sortCount wide) rest k i
+        let inside : i < length (members k) = omega (arith, length-map-from (atom_flag k) 0 (members_of wide k)) in
+        let at = series-at members (first_member wide) next-members false [] refl (sort_count wide) rest k i
         (bounded-there wide k b) inside
-        ∙ upto-at (atomFlag k) false (members_of wide k) i (omega arith) in
-        Iff.trans (Iff.symm (byte-is (memberCell wide k i))) (rw at (is-atom k i))
+        ∙ upto-at (atom_flag k) false (members_of wide k) i (omega arith) in
+        Iff.trans (Iff.symm (byte-is (member_cell wide k i))) (rw at (is-atom k i))
 
-    cell-is : (r i j : ℕ) → r < relationCount wide → i < rowCount wide r → j < rowLength wide r
+    cell-is : (r i j : ℕ) → r < relation_count wide → i < row_count wide r → j < row_length wide r
         → (byte widened (cell wide r i j) ≡ 1) ↔ InCell narrow I r i j
     cell-is r i j l low under =
-        let high : ℕ = rowCount wide r in
-        let width : ℕ = rowLength wide r in
+        let high : ℕ = row_count wide r in
+        let width : ℕ = row_length wide r in
         let inside : i * width + j < length (cells r)
-        = omega (arith, length-places (cellFlag r) high width, place-below high width i j low under) in
-        let at = series-at cells (firstCell wide) next-cells false front front-size (relationCount wide) [] r
+        = omega (arith, length-places (cell_flag r) high width, place-below high width i j low under) in
+        let at = series-at cells (first_cell wide) next-cells false front front-size (relation_count wide) [] r
         (i * width + j) l inside
-        ∙ places-at (cellFlag r) false high width i j low under in
+        ∙ places-at (cell_flag r) false high width i j low under in
         Iff.trans (Iff.symm (byte-is (cell wide r i j))) (rw at (is-cell r i j))
 
-    module _ (full : (k : ℕ) → isBounded wide k ≡ false → byte sorts k ≡ byte sorts' k)
-        (limited : (k : ℕ) → isBounded wide k ≡ true → scope narrow k ≤ scope wide k) where
+    module _ (full : (k : ℕ) → is_bounded wide k ≡ false → byte sorts k ≡ byte sorts' k)
+        (limited : (k : ℕ) → is_bounded wide k ≡ true → scope narrow k ≤ scope wide k) where
       scopes : (k : ℕ) → scope narrow k ≤ scope wide k
-      scopes k = ⊎_elim (limited k) (λ f. rw (full k f) (omega arith)) (decided (isBounded wide k))
+      scopes k = ⊎_elim (limited k) (λ f. rw (full k f) (omega arith)) (decided (is_bounded wide k))
 
       same-atoms : (k i : ℕ) → IsAtom narrow I k i ↔ IsAtom wide widened k i
-      same-atoms k i = ⊎_elim bounded other (decided (isBounded wide k))
+      same-atoms k i = ⊎_elim bounded other (decided (is_bounded wide k))
         where
-          bounded : isBounded wide k ≡ true → IsAtom narrow I k i ↔ IsAtom wide widened k i
+          bounded : is_bounded wide k ≡ true → IsAtom narrow I k i ↔ IsAtom wide widened k i
           bounded b = (
             (λ x. let l : i < scope wide k = omega (arith, x.0, scopes k) in (l, λ c. (member_is k i b l).1 x)),
             λ x. (member_is k i b x.0).0 (x.1 b),
           )
 
-          other : isBounded wide k ≡ false → IsAtom narrow I k i ↔ IsAtom wide widened k i
+          other : is_bounded wide k ≡ false → IsAtom narrow I k i ↔ IsAtom wide widened k i
           other f = (
-            (λ x. (omega (arith, x.0, scopes k), λ c. clash (isBounded wide k) c f)),
-            λ x. (rw (full k f) x.0, λ c. clash (isBounded narrow k) c (ap (leb 129) (full k f) ∙ f)),
+            (λ x. (omega (arith, x.0, scopes k), λ c. clash (is_bounded wide k) c f)),
+            λ x. (rw (full k f) x.0, λ c. clash (is_bounded narrow k) c (ap (leb 129) (full k f) ∙ f)),
           )
 
-      rows_fit : (r : ℕ) → rowCount narrow r ≤ rowCount wide r
+      rows_fit : (r : ℕ) → row_count narrow r ≤ row_count wide r
       rows_fit r = go (is_set wide r)
         where
-          go : (b : Bool) → cond b 1 (scope narrow (firstSort wide r)) ≤ cond b 1 (scope wide (firstSort wide r))
+          go : (b : Bool) → cond b 1 (scope narrow (first_sort wide r)) ≤ cond b 1 (scope wide (first_sort wide r))
           go true = omega arith
-          go false = scopes (firstSort wide r)
+          go false = scopes (first_sort wide r)
 
-      columns-fit : (r : ℕ) → rowLength narrow r ≤ rowLength wide r
+      columns-fit : (r : ℕ) → row_length narrow r ≤ row_length wide r
       columns-fit r = go (is_set wide r)
         where
-          go : (b : Bool) → cond b (scope narrow (firstSort wide r)) (scope narrow (secondSort wide r))
-              ≤ cond b (scope wide (firstSort wide r)) (scope wide (secondSort wide r))
-          go true = scopes (firstSort wide r)
-          go false = scopes (secondSort wide r)
+          go : (b : Bool) → cond b (scope narrow (first_sort wide r)) (scope narrow (second_sort wide r))
+              ≤ cond b (scope wide (first_sort wide r)) (scope wide (second_sort wide r))
+          go true = scopes (first_sort wide r)
+          go false = scopes (second_sort wide r)
 
       module _ (solves : Solution narrow I) where
-        size : length I ≡ cellCount narrow
+        size : length I ≡ cell_count narrow
         size = within-size narrow I solves.within.bytes
 
         same-cell : (r i j : ℕ) → InCell narrow I r i j ↔ InCell wide widened r i j
         same-cell r i j = (
           (λ x.
-              let low : i < rowCount wide r = omega (arith, x.0, rows_fit r) in
-              let under : j < rowLength wide r = omega (arith, x.1, columns-fit r) in
+              let low : i < row_count wide r = omega (arith, x.0, rows_fit r) in
+              let under : j < row_length wide r = omega (arith, x.1, columns-fit r) in
               (low, under, (cell-is r i j (relation-there narrow I size r i j x.2) low under).1 x)),
           λ x. (cell-is r i j (relation-there wide widened widened-size r i j x.2) x.0 x.1).0 x.2,
         )
@@ -234,8 +234,8 @@ module _ (variables relations nodes sorts sorts' : List ℕ) where
         within =
             record {
               bytes = widened-cells;
-              of-atoms = λ r l.
-                  of-atoms variables relations nodes sorts sorts' I widened same r (solves.within.of-atoms r l);
+              of_atoms = λ r l.
+                  of_atoms variables relations nodes sorts sorts' I widened same r (solves.within.of_atoms r l);
             }
 
         pub widened-solves : Solution wide widened

@@ -3,15 +3,15 @@
 -- left to right. Nodes are walked anew each time. Binders walk their body for each atom, ascending."
 use Rattle.std.specs.Prelude.{Bool, true, false, List, [], ◌∷◌, ℕ, zero, suc, get_or}
 use Rattle.literal.specs.Literals.{Literal, positive, negative, opposite}
-use Rattle.sheet_rules.specs.Blocks.{Sheet, scope, sortOf}
+use Rattle.sheet_rules.specs.Blocks.{Sheet, scope, sort_of}
 use Rattle.relational.specs.Trees.{atoms, Binary, union, intersection, difference, join, product, Unary, inverse}
 use Rattle.relational.specs.Trees.{closure, Comparison, equal, within, Test, some, none, lone, Connective, conjunction}
 use Rattle.relational.specs.Trees.{disjunction, implication, equivalence, Quantifier, for-all, for_some, Expression}
 use Rattle.relational.specs.Trees.{leaf, binary, unary, comprehension, Formula, comparison, test, negation, connective}
 use Rattle.relational.specs.Trees.{quantified, Tree, expression, formula, broken}
 use Rattle.relational.specs.Meaning.{Environment, bind}
-use Rattle.relational.specs.Matrices.{upto, rounds, pairs, Matrix, setOf, leafMatrix, sameSize, joinPlaces, joinSize}
-use Rattle.relational.specs.Matrices.{productSize, matched, middles, crossed, inverted}
+use Rattle.relational.specs.Matrices.{upto, rounds, pairs, Matrix, set_of, leaf_matrix, same_size, join_places, join_size}
+use Rattle.relational.specs.Matrices.{product_size, matched, middles, crossed, inverted}
 use Rattle.clauses_rules.specs.Builder.{Builder, return, ◌>>=◌, ◌<$>◌, each}
 use Rattle.clauses_rules.specs.Gates.{or, and, iff}
 
@@ -48,105 +48,105 @@ apart t = or (opposite t.0 ∷ opposite t.1 ∷ [])
 
 -- ---- expressions, operator by operator
 -- "join OR over the middle atoms of AND"
-abbrev pub joinCells : Matrix Literal → Matrix Literal → Builder (List Literal)
-joinCells p q = each (λ t. each both (middles absent p q t) >>= or) (joinPlaces p q)
+abbrev pub join_cells : Matrix Literal → Matrix Literal → Builder (List Literal)
+join_cells p q = each (λ t. each both (middles absent p q t) >>= or) (join_places p q)
 
 -- "Union OR, intersection and product AND, difference AND(p, -q)"
-abbrev pub translateBinary : Binary → Matrix Literal → Matrix Literal → Builder (Matrix Literal)
-translateBinary union p q = sameSize p <$> each either (matched absent p q)
-translateBinary intersection p q = sameSize p <$> each both (matched absent p q)
-translateBinary difference p q = sameSize p <$> each without (matched absent p q)
-translateBinary join p q = joinSize p q <$> joinCells p q
-translateBinary product p q = productSize p q <$> each both (crossed absent p q)
+abbrev pub translate_binary : Binary → Matrix Literal → Matrix Literal → Builder (Matrix Literal)
+translate_binary union p q = same_size p <$> each either (matched absent p q)
+translate_binary intersection p q = same_size p <$> each both (matched absent p q)
+translate_binary difference p q = same_size p <$> each without (matched absent p q)
+translate_binary join p q = join_size p q <$> join_cells p q
+translate_binary product p q = product_size p q <$> each both (crossed absent p q)
 
 -- "A round works out the whole join of the matrix with itself, then OR of the old and new cell."
-abbrev pub roundOf : Matrix Literal → Builder (Matrix Literal)
-roundOf p = do
-  q ← translateBinary join p p
-  translateBinary union p q
+abbrev pub round_of : Matrix Literal → Builder (Matrix Literal)
+round_of p = do
+  q ← translate_binary join p p
+  translate_binary union p q
 
-unfoldable pub afterRounds : ℕ → Matrix Literal → Builder (Matrix Literal)
-afterRounds zero p = return p
-afterRounds (suc k) p = afterRounds k p >>= roundOf
+unfoldable pub after_rounds : ℕ → Matrix Literal → Builder (Matrix Literal)
+after_rounds zero p = return p
+after_rounds (suc k) p = after_rounds k p >>= round_of
 
 -- "Inverse transposes its operand's cells." "Closure at scope n: as many rounds as the least k with 2^k at least n."
-abbrev pub translateUnary : Unary → Matrix Literal → Builder (Matrix Literal)
-translateUnary inverse p = return (inverted absent p)
-translateUnary closure p = afterRounds (rounds p.rows) p
+abbrev pub translate_unary : Unary → Matrix Literal → Builder (Matrix Literal)
+translate_unary inverse p = return (inverted absent p)
+translate_unary closure p = after_rounds (rounds p.rows) p
 
 -- ---- formulas, operator by operator
 -- "Equal: AND of IFF; within: AND of OR(-p, q)"
-abbrev pub translateComparison : Comparison → Matrix Literal → Matrix Literal → Builder Literal
-translateComparison equal p q = each same (matched absent p q) >>= and
-translateComparison within p q = each implies (matched absent p q) >>= and
+abbrev pub translate_comparison : Comparison → Matrix Literal → Matrix Literal → Builder Literal
+translate_comparison equal p q = each same (matched absent p q) >>= and
+translate_comparison within p q = each implies (matched absent p q) >>= and
 
 -- "some: OR of the cells; none: its opposite; at most one: AND over pairs in order of OR(-p, -q)"
-abbrev pub translateTest : Test → List Literal → Builder Literal
-translateTest some cells = or cells
-translateTest none cells = opposite <$> or cells
-translateTest lone cells = each apart (pairs cells) >>= and
+abbrev pub translate_test : Test → List Literal → Builder Literal
+translate_test some cells = or cells
+translate_test none cells = opposite <$> or cells
+translate_test lone cells = each apart (pairs cells) >>= and
 
 -- "and, or, iff are AND, OR, IFF of a's and b's literals." "Implies is OR(-p, q)."
-abbrev pub translateConnective : Connective → Two → Builder Literal
-translateConnective conjunction = both
-translateConnective disjunction = either
-translateConnective implication = implies
-translateConnective equivalence = same
+abbrev pub translate_connective : Connective → Two → Builder Literal
+translate_connective conjunction = both
+translate_connective disjunction = either
+translate_connective implication = implies
+translate_connective equivalence = same
 
 -- "Kind 40 is AND over atoms, 41 OR"; over a limited sort "AND of OR(-member, body)", "OR of AND(member, body)"
 -- (document 02, Change 8). Of a full sort each member's literal is 1, and what is left is the body's, with no gate.
-abbrev pub translateQuantifier : Quantifier → Matrix Literal → Matrix Literal → Builder Literal
-translateQuantifier for-all members bodies = translateComparison within members bodies
-translateQuantifier for_some members bodies = do
-  both ← translateBinary intersection members bodies
-  translateTest some both.cells
+abbrev pub translate_quantifier : Quantifier → Matrix Literal → Matrix Literal → Builder Literal
+translate_quantifier for-all members bodies = translate_comparison within members bodies
+translate_quantifier for_some members bodies = do
+  both ← translate_binary intersection members bodies
+  translate_test some both.cells
 
 -- ---- the walk, over the literals of the cells: "kind 12 puts the body's literal in the cell" (over a bounded
 -- sort "AND(member, body)"), "Not is the opposite literal"
 module _ (sheet : Sheet) (cells : List Literal) where
-  abbrev pub literalAt : ℕ → Literal
-  literalAt i = get_or cells i absent
+  abbrev pub literal_at : ℕ → Literal
+  literal_at i = get_or cells i absent
 
   -- the atoms of variable x's sort; and the bodies' literals, atom by atom, as a set of it
   abbrev pub range : ℕ → Environment → Matrix Literal
-  range x env = leafMatrix sheet literalAt constant atoms (sortOf sheet x) env
+  range x env = leaf_matrix sheet literal_at constant atoms (sort_of sheet x) env
 
   abbrev pub bodies : ℕ → List Literal → Matrix Literal
-  bodies x ls = setOf (scope sheet (sortOf sheet x)) ls
+  bodies x ls = set_of (scope sheet (sort_of sheet x)) ls
 
   unfoldable mutual
     pub translate : Expression → Environment → Builder (Matrix Literal)
-    translate (leaf l a) env = return (leafMatrix sheet literalAt constant l a env)
+    translate (leaf l a) env = return (leaf_matrix sheet literal_at constant l a env)
     translate (binary o e f) env = do
       p ← translate e env
       q ← translate f env
-      translateBinary o p q
+      translate_binary o p q
     translate (unary o e) env = do
       p ← translate e env
-      translateUnary o p
+      translate_unary o p
     translate (comprehension x f) env = do
-      ls ← each (λ v. translateFormula f (bind env x v)) (upto (scope sheet (sortOf sheet x)))
-      translateBinary intersection (range x env) (bodies x ls)
+      ls ← each (λ v. translate_formula f (bind env x v)) (upto (scope sheet (sort_of sheet x)))
+      translate_binary intersection (range x env) (bodies x ls)
 
-    pub translateFormula : Formula → Environment → Builder Literal
-    translateFormula (comparison o e f) env = do
+    pub translate_formula : Formula → Environment → Builder Literal
+    translate_formula (comparison o e f) env = do
       p ← translate e env
       q ← translate f env
-      translateComparison o p q
-    translateFormula (test o e) env = do
+      translate_comparison o p q
+    translate_formula (test o e) env = do
       p ← translate e env
-      translateTest o p.cells
-    translateFormula (negation f) env = opposite <$> translateFormula f env
-    translateFormula (connective o f g) env = do
-      p ← translateFormula f env
-      q ← translateFormula g env
-      translateConnective o (p, q)
-    translateFormula (quantified k x f) env = do
-      ls ← each (λ v. translateFormula f (bind env x v)) (upto (scope sheet (sortOf sheet x)))
-      translateQuantifier k (range x env) (bodies x ls)
+      translate_test o p.cells
+    translate_formula (negation f) env = opposite <$> translate_formula f env
+    translate_formula (connective o f g) env = do
+      p ← translate_formula f env
+      q ← translate_formula g env
+      translate_connective o (p, q)
+    translate_formula (quantified k x f) env = do
+      ls ← each (λ v. translate_formula f (bind env x v)) (upto (scope sheet (sort_of sheet x)))
+      translate_quantifier k (range x env) (bodies x ls)
 
   -- the root's walk: no variable is free in it, so that any atoms do
-  abbrev pub translateTree : Tree → Builder Literal
-  translateTree (expression e) = return absent
-  translateTree (formula f) = translateFormula f (λ x. 0)
-  translateTree broken = return absent
+  abbrev pub translate_tree : Tree → Builder Literal
+  translate_tree (expression e) = return absent
+  translate_tree (formula f) = translate_formula f (λ x. 0)
+  translate_tree broken = return absent

@@ -8,16 +8,16 @@ use native.Mathlib.Omega.{arith}
 use lib.IntN.{ℤ, negsuc}
 use lib.ListN.{set, replicate}
 use Rattle.literal.specs.Literals.{Literal}
-use Rattle.literal.specs.Words.{literalOf}
-use Rattle.sheet_rules.specs.Blocks.{Sheet, scope, sortOf}
+use Rattle.literal.specs.Words.{literal_of}
+use Rattle.sheet_rules.specs.Blocks.{Sheet, scope, sort_of}
 use Rattle.relational.specs.Trees.{Formula, formula}
 use Rattle.relational.specs.Meaning.{bind}
-use Rattle.relational.specs.Matrices.{upto, setOf}
+use Rattle.relational.specs.Matrices.{upto, set_of}
 use Rattle.nodes.specs.Environments.{environment}
 use Rattle.clauses_rules.specs.Builder.{Builder, each}
-use Rattle.clauses_rules.specs.Translation.{translateFormula}
+use Rattle.clauses_rules.specs.Translation.{translate_formula}
 use Rattle.clauses_emission.specs.declared.Tape.{Tape}
-use Rattle.clauses_emission.specs.Emission.{literalsOf, Bounded, EmitsLiteral}
+use Rattle.clauses_emission.specs.Emission.{literals_of, Bounded, EmitsLiteral}
 use Rattle.clauses_emission.proofs.Steps.{emits-map}
 use Rattle.clauses_matrix.specs.Matrices.{Cells, cells_of, EmitsCells}
 use Rattle.clauses_matrix.proofs.Fills.{cells-start, cells-next}
@@ -26,7 +26,7 @@ use Rattle.clauses_translation.proofs.Regulars.{regular-formula}
 
 module _ (sheet : Sheet) (given : List ℤ) (env : List ℕ) (v : ℕ) (old : List ℤ) (before : Tape) (x : ℕ) where
   abbrev body_at : Formula → ℕ → Builder Literal
-  body_at f i = translateFormula sheet (literalsOf given) f (bind (environment env) x i)
+  body_at f i = translate_formula sheet (literals_of given) f (bind (environment env) x i)
 
   -- the first k atoms are done
   pub record Done (k : ℕ) (words new : List ℤ) (after : Tape) : Type 0 where
@@ -38,7 +38,7 @@ module _ (sheet : Sheet) (given : List ℤ) (env : List ℕ) (v : ℕ) (old : Li
 
   module _ {k : ℕ} {words mid : List ℤ} {middle : Tape} (d : Done k words mid middle) where
     pub done_more : (inner : List ℕ) {l w : ℤ} {new : List ℤ} {after : Tape}
-        → WalksFormula sheet given inner v mid middle (literalOf l) new after
+        → WalksFormula sheet given inner v mid middle (literal_of l) new after
         → environment inner ≡ bind (environment env) x k → k < 64 → w ≡ l → Done (k + 1) (set words k w) new after
     done_more inner {w = w} {new = new} {after = after} u b small q =
         rw (add-one k)
@@ -47,12 +47,12 @@ module _ (sheet : Sheet) (given : List ℤ) (env : List ℕ) (v : ℕ) (old : Li
               record {
                 walks = λ f t.
                     let s : EmitsLiteral (body_at f k middle.next) mid middle w new after = rw (q, ← b) (u.walks f t) in
-                    cells-next (body_at f) (λ i. regular-formula sheet (literalsOf given) f (bind (environment env) x i)) (λ i. i) k words w
+                    cells-next (body_at f) (λ i. regular-formula sheet (literals_of given) f (bind (environment env) x i)) (λ i. i) k words w
                     small (d.walk.walks f t) s;
               };
         })
 
-    pub done_all : {n : ℕ} → n ≡ scope sheet (sortOf sheet x) → k ≡ n → n ≤ 8
+    pub done_all : {n : ℕ} → n ≡ scope sheet (sort_of sheet x) → k ≡ n → n ≤ 8
         → WalksBodies sheet given env v old before x (record { arity = 1; rows = 1; columns = n; cells = words }) mid middle
     done_all {n} en ek small =
         record {
@@ -61,10 +61,10 @@ module _ (sheet : Sheet) (given : List ℤ) (env : List ℕ) (v : ℕ) (old : Li
               rw ek at (d.walk.walks f t) in
               let q = rw (map-id (upto n)) at p in
               rw (← en)
-              (emits-map (setOf n) (each (body_at f) (upto n)) q (rw (one-mul n))
+              (emits-map (set_of n) (each (body_at f) (upto n)) q (rw (one-mul n))
               (record {
-                arity-low = omega arith;
-                arity-high = omega arith;
+                arity_low = omega arith;
+                arity_high = omega arith;
                 set = λ e. refl;
                 rows = omega arith;
                 columns = small;

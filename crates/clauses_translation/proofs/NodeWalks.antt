@@ -4,11 +4,11 @@ use mathlib.Core.List.{List}
 use Prim.Native.Nat.{ℕ, ◌≤◌}
 use lib.IntN.{ℤ}
 use Rattle.literal.specs.Literals.{Literal, opposite}
-use Rattle.sheet_rules.specs.Blocks.{Sheet, scope, sortOf}
+use Rattle.sheet_rules.specs.Blocks.{Sheet, scope, sort_of}
 use Rattle.relational.specs.Trees.{Leaf, Binary, intersection, Unary, Comparison, Test, Connective, Quantifier}
 use Rattle.relational.specs.Trees.{leaf-symbol, binary-symbol, unary-symbol}
 use Rattle.relational.specs.Trees.{comparison-symbol, test-symbol, connective-symbol, quantifier-symbol, symbol_of}
-use Rattle.relational.specs.Matrices.{setOf}
+use Rattle.relational.specs.Matrices.{set_of}
 use Rattle.nodes.specs.declared.forms.Node.{Node}
 use Rattle.nodes.specs.declared.forms.ExpressionForm.TheVariants as form
 use Rattle.nodes.specs.declared.forms.FormulaForm.TheVariants as claim
@@ -18,18 +18,18 @@ use Rattle.nodes.proofs.Views.{Reached}
 use Rattle.nodes.proofs.ExpressionViews.{at_leaf, at-binary, at-unary, at-comprehension}
 use Rattle.nodes.proofs.FormulaViews.{at-comparison, at_test, at-negation, at-connective, at-quantifier}
 use Rattle.clauses_rules.specs.Builder.{◌<$>◌}
-use Rattle.clauses_rules.specs.Translation.{translateBinary, translateUnary, translateComparison, translateTest, translateConnective}
-use Rattle.clauses_rules.specs.Translation.{translateQuantifier, range, translate, absent}
+use Rattle.clauses_rules.specs.Translation.{translate_binary, translate_unary, translate_comparison, translate_test, translate_connective}
+use Rattle.clauses_rules.specs.Translation.{translate_quantifier, range, translate, absent}
 use Rattle.clauses_emission.specs.declared.Tape.{Tape}
-use Rattle.clauses_emission.specs.Emission.{Inside, AllInside, literalsOf, Bounded, Over, Emits}
+use Rattle.clauses_emission.specs.Emission.{Inside, AllInside, literals_of, Bounded, Over, Emits}
 use Rattle.clauses_emission.proofs.Steps.{regular-map, emits-return, emits-bind, emits-map, emits-as}
 use Rattle.clauses_emission.proofs.Ranges.{inside-opposite, inside-absent}
 use Rattle.clauses_matrix.specs.declared.Literals.{Literals}
-use Rattle.clauses_matrix.specs.Matrices.{matrixOf, Operand, EmitsMatrix, EmitsBinary, EmitsUnary}
+use Rattle.clauses_matrix.specs.Matrices.{matrix_of, Operand, EmitsMatrix, EmitsBinary, EmitsUnary}
 use Rattle.clauses_matrix.proofs.Regulars.{regular-binary, regular-unary, regular-comparison, regular-test, regular-connective}
 use Rattle.clauses_matrix.proofs.Regulars.{regular-quantifier}
 use Rattle.clauses_kinds.specs.Leaves.{LeafIs}
-use Rattle.clauses_translation.specs.Walks.{expressionWalk, formulaWalk, bodyWalks, WalksExpression, WalksFormula, WalksBodies}
+use Rattle.clauses_translation.specs.Walks.{expression_walk, formula_walk, body_walks, WalksExpression, WalksFormula, WalksBodies}
 use Rattle.clauses_translation.proofs.Regulars.{regular-expression, regular-formula, regular-bodies}
 use Rattle.clauses_translation.proofs.Walking.{again, walk-over, one-walks, two-walks}
 
@@ -38,18 +38,18 @@ module _ {sheet : Sheet} (given : List ℤ) (env : List ℕ) {v : ℕ} {list : L
     (over : Over tape.next) where
   pub expression-over : {m : Literals} → ((n : ℕ) → 2 ≤ n → Operand n m) → WalksExpression sheet given env v list tape m list tape
   expression-over fine =
-      walk-over (expressionWalk sheet given env) (λ e. regular-expression sheet (literalsOf given) e (environment env)) bounded over
+      walk-over (expression_walk sheet given env) (λ e. regular-expression sheet (literals_of given) e (environment env)) bounded over
       (fine tape.next bounded.first)
 
   pub formula-over : WalksFormula sheet given env v list tape absent list tape
   formula-over =
-      walk-over (formulaWalk sheet given env) (λ f. regular-formula sheet (literalsOf given) f (environment env)) bounded over
+      walk-over (formula_walk sheet given env) (λ f. regular-formula sheet (literals_of given) f (environment env)) bounded over
       (inside-absent tape.next bounded.first)
 
 -- ---- expressions
 module _ {sheet : Sheet} (given : List ℤ) (env : List ℕ) {v : ℕ} {node : Node} {old : List ℤ} {before : Tape}
     (h : Reached sheet v node IsExpression) where
-  pub leaf-walks : {m : Literals} → node.expression ≡ form.Leaf → Bounded before → AllInside before.next (literalsOf given)
+  pub leaf-walks : {m : Literals} → node.expression ≡ form.Leaf → Bounded before → AllInside before.next (literals_of given)
       → ((l : Leaf) → symbol_of node.kind ≡ leaf-symbol l → LeafIs sheet given l node.a (environment env) m)
       → WalksExpression sheet given env v old before m old before
   unfolding translate
@@ -63,41 +63,41 @@ module _ {sheet : Sheet} (given : List ℤ) (env : List ℕ) {v : ℕ} {node : N
 
   pub binary-walks : {mid new out : List ℤ} {middle after end : Tape} {m q z : Literals} → node.expression ≡ form.Binary
       → WalksExpression sheet given env node.a old before m mid middle → WalksExpression sheet given env node.b mid middle q new after
-      → ((o : Binary) → symbol_of node.kind ≡ binary-symbol o → EmitsBinary (translateBinary o) m q new after z out end)
+      → ((o : Binary) → symbol_of node.kind ≡ binary-symbol o → EmitsBinary (translate_binary o) m q new after z out end)
       → WalksExpression sheet given env v old before z out end
   unfolding translate
   binary-walks p =
-      two-walks (expressionWalk sheet given env) (expressionWalk sheet given env)
-      (λ e. regular-expression sheet (literalsOf given) e (environment env)) translateBinary (λ o e f. refl) regular-binary
+      two-walks (expression_walk sheet given env) (expression_walk sheet given env)
+      (λ e. regular-expression sheet (literals_of given) e (environment env)) translate_binary (λ o e f. refl) regular-binary
       λ e t. at-binary (again h e t) p
 
   pub unary-walks : {new out : List ℤ} {after end : Tape} {m z : Literals} → node.expression ≡ form.Unary
       → WalksExpression sheet given env node.a old before m new after
-      → ((o : Unary) → symbol_of node.kind ≡ unary-symbol o → EmitsUnary (translateUnary o) m new after z out end)
+      → ((o : Unary) → symbol_of node.kind ≡ unary-symbol o → EmitsUnary (translate_unary o) m new after z out end)
       → WalksExpression sheet given env v old before z out end
   unfolding translate
   unary-walks p =
-      one-walks (expressionWalk sheet given env) (expressionWalk sheet given env)
-      (λ e. regular-expression sheet (literalsOf given) e (environment env)) translateUnary (λ o e. refl) regular-unary
+      one-walks (expression_walk sheet given env) (expression_walk sheet given env)
+      (λ e. regular-expression sheet (literals_of given) e (environment env)) translate_unary (λ o e. refl) regular-unary
       λ e t. at-unary (again h e t) p
 
   pub comprehension-walks : {new out : List ℤ} {after end : Tape} {m z : Literals}
       → node.expression ≡ form.Comprehension
       → WalksBodies sheet given env node.b old before node.a m new after
-      → EmitsMatrix (translateBinary intersection (range sheet (literalsOf given) node.a (environment env))
-      (matrixOf m) after.next)
+      → EmitsMatrix (translate_binary intersection (range sheet (literals_of given) node.a (environment env))
+      (matrix_of m) after.next)
       new after z out end → WalksExpression sheet given env v old before z out end
   unfolding translate
   comprehension-walks p w c =
       record {
         walks = λ e t.
             let b = at-comprehension (again h e t) p in
-            let n : ℕ = scope sheet (sortOf sheet node.a) in
-            let atoms = range sheet (literalsOf given) node.a (environment env) in
-            let s = bodyWalks sheet (literalsOf given) b.body.it (environment env) node.a in
-            let rs = regular-map (setOf n) s (regular-bodies sheet (literalsOf given) b.body.it (environment env) node.a) in
+            let n : ℕ = scope sheet (sort_of sheet node.a) in
+            let atoms = range sheet (literals_of given) node.a (environment env) in
+            let s = body_walks sheet (literals_of given) b.body.it (environment env) node.a in
+            let rs = regular-map (set_of n) s (regular-bodies sheet (literals_of given) b.body.it (environment env) node.a) in
             rw b.is
-            (emits-bind (setOf n <$> s) (translateBinary intersection atoms) rs (regular-binary intersection atoms)
+            (emits-bind (set_of n <$> s) (translate_binary intersection atoms) rs (regular-binary intersection atoms)
             (w.walks b.body.it b.body.is) c);
       }
 
@@ -107,23 +107,23 @@ module _ {sheet : Sheet} (given : List ℤ) (env : List ℕ) {v : ℕ} {node : N
   pub comparison-walks : {mid new out : List ℤ} {middle after end : Tape} {m q : Literals} {z : Literal} → node.formula ≡ claim.Comparison
       → WalksExpression sheet given env node.a old before m mid middle → WalksExpression sheet given env node.b mid middle q new after
       → ((o : Comparison) → symbol_of node.kind ≡ comparison-symbol o
-      → Emits (translateComparison o (matrixOf m) (matrixOf q) after.next) new after z out end (λ n. Inside n z))
+      → Emits (translate_comparison o (matrix_of m) (matrix_of q) after.next) new after z out end (λ n. Inside n z))
       → WalksFormula sheet given env v old before z out end
   unfolding translate
   comparison-walks p =
-      two-walks (expressionWalk sheet given env) (formulaWalk sheet given env)
-      (λ e. regular-expression sheet (literalsOf given) e (environment env)) translateComparison (λ o e f. refl) regular-comparison
+      two-walks (expression_walk sheet given env) (formula_walk sheet given env)
+      (λ e. regular-expression sheet (literals_of given) e (environment env)) translate_comparison (λ o e f. refl) regular-comparison
       λ f t. at-comparison (again h f t) p
 
   pub test-walks : {new out : List ℤ} {after end : Tape} {m : Literals} {z : Literal} → node.formula ≡ claim.Test
       → WalksExpression sheet given env node.a old before m new after
       → ((o : Test) → symbol_of node.kind ≡ test-symbol o
-      → Emits (translateTest o (matrixOf m).cells after.next) new after z out end (λ n. Inside n z))
+      → Emits (translate_test o (matrix_of m).cells after.next) new after z out end (λ n. Inside n z))
       → WalksFormula sheet given env v old before z out end
   unfolding translate
   test-walks p =
-      one-walks (expressionWalk sheet given env) (formulaWalk sheet given env)
-      (λ e. regular-expression sheet (literalsOf given) e (environment env)) (λ o m. translateTest o m.cells) (λ o e. refl)
+      one-walks (expression_walk sheet given env) (formula_walk sheet given env)
+      (λ e. regular-expression sheet (literals_of given) e (environment env)) (λ o m. translate_test o m.cells) (λ o e. refl)
       (λ o m. regular-test o m.cells) λ f t. at_test (again h f t) p
 
   pub negation-walks : {new : List ℤ} {after end : Tape} {l z : Literal} → node.formula ≡ claim.Negation
@@ -136,26 +136,26 @@ module _ {sheet : Sheet} (given : List ℤ) (env : List ℕ) {v : ℕ} {node : N
             let b = at-negation (again h f t) p in
             let i = w.walks b.left.it b.left.is in
             rw (b.is, q)
-            (emits-map opposite (formulaWalk sheet given env b.left.it) i e
+            (emits-map opposite (formula_walk sheet given env b.left.it) i e
             (rw e (inside-opposite l i.fine)));
       }
 
   pub connective-walks : {mid new out : List ℤ} {middle after end : Tape} {m q z : Literal} → node.formula ≡ claim.Connective
       → WalksFormula sheet given env node.a old before m mid middle → WalksFormula sheet given env node.b mid middle q new after
       → ((o : Connective) → symbol_of node.kind ≡ connective-symbol o
-      → Emits (translateConnective o (m, q) after.next) new after z out end (λ n. Inside n z))
+      → Emits (translate_connective o (m, q) after.next) new after z out end (λ n. Inside n z))
       → WalksFormula sheet given env v old before z out end
   unfolding translate
   connective-walks p =
-      two-walks (formulaWalk sheet given env)
-      (formulaWalk sheet given env)
-      (λ f. regular-formula sheet (literalsOf given) f (environment env)) (λ o x y. translateConnective o (x, y)) (λ o e f. refl)
+      two-walks (formula_walk sheet given env)
+      (formula_walk sheet given env)
+      (λ f. regular-formula sheet (literals_of given) f (environment env)) (λ o x y. translate_connective o (x, y)) (λ o e f. refl)
       (λ o x y. regular-connective o (x, y)) λ f t. at-connective (again h f t) p
 
   pub quantifier-walks : {new out : List ℤ} {after end : Tape} {m : Literals} {z : Literal} → node.formula ≡ claim.Quantifier
       → WalksBodies sheet given env node.b old before node.a m new after
       → ((o : Quantifier) → symbol_of node.kind ≡ quantifier-symbol o
-      → Emits (translateQuantifier o (range sheet (literalsOf given) node.a (environment env)) (matrixOf m)
+      → Emits (translate_quantifier o (range sheet (literals_of given) node.a (environment env)) (matrix_of m)
       after.next)
       new after z out end (λ n. Inside n z))
       → WalksFormula sheet given env v old before z out end
@@ -164,11 +164,11 @@ module _ {sheet : Sheet} (given : List ℤ) (env : List ℕ) {v : ℕ} {node : N
       record {
         walks = λ f t.
             let b = at-quantifier (again h f t) p in
-            let n : ℕ = scope sheet (sortOf sheet node.a) in
-            let s = bodyWalks sheet (literalsOf given) b.body.it (environment env) node.a in
-            let rs = regular-map (setOf n) s (regular-bodies sheet (literalsOf given) b.body.it (environment env) node.a) in
-            let atoms = range sheet (literalsOf given) node.a (environment env) in
+            let n : ℕ = scope sheet (sort_of sheet node.a) in
+            let s = body_walks sheet (literals_of given) b.body.it (environment env) node.a in
+            let rs = regular-map (set_of n) s (regular-bodies sheet (literals_of given) b.body.it (environment env) node.a) in
+            let atoms = range sheet (literals_of given) node.a (environment env) in
             rw b.is
-            (emits-bind (setOf n <$> s) (translateQuantifier b.it atoms) rs (regular-quantifier b.it atoms)
+            (emits-bind (set_of n <$> s) (translate_quantifier b.it atoms) rs (regular-quantifier b.it atoms)
             (w.walks b.body.it b.body.is) (c b.it b.symbol));
       }

@@ -8,18 +8,18 @@ use Rattle.sheet_rules.specs.declared.Layout.{Layout}
 use Rattle.sheet_rules.specs.Blocks.{Sheet}
 use Rattle.relational.specs.Trees.{Symbol, Tree, symbol_of}
 use Rattle.nodes.specs.declared.forms.Node.{Node}
-use Rattle.nodes.specs.Nodes.{treeAt, IsTree}
+use Rattle.nodes.specs.Nodes.{tree_at, IsTree}
 use Rattle.nodes.proofs.Views.{Reached, TwoAt, OneAt}
 use Rattle.clauses_rules.specs.Builder.{Builder, ◌>>=◌}
 use Rattle.clauses_emission.specs.declared.Tape.{Tape}
-use Rattle.clauses_emission.specs.Emission.{literalsOf, Bounded, Over, Emits}
+use Rattle.clauses_emission.specs.Emission.{literals_of, Bounded, Over, Emits}
 use Rattle.clauses_emission.proofs.Steps.{Regular, regular-bind, emits-bind, given-up}
 use Rattle.clauses_emission.proofs.Ranges.{all-grows}
 use Rattle.clauses_translation.specs.Walks.{Ready, Walks}
 
 -- the node that the walk has read, whatever its tree is called
 abbrev pub again : {sheet : Sheet} {v : ℕ} {node : Node} {T : Type 0} {made : T → Tree} → Reached sheet v node (IsTree made)
-    → (t : T) → treeAt sheet v ≡ made t → Reached sheet v node (IsTree made)
+    → (t : T) → tree_at sheet v ≡ made t → Reached sheet v node (IsTree made)
 again h t e = record { facts = h.facts; read = h.read; tree = record { it = t; is = e } }
 
 -- ---- after a walk
@@ -36,7 +36,7 @@ module _ {T A : Type 0} {made : T → Tree} {translation : T → Builder A} {she
       → Ready s layout given starts after
   ready-after {given = given} r =
       let e = w.walks i.it i.is in
-      record { located = r.located; bounded = e.bounded; inside = all-grows (literalsOf given) e.grows r.inside }
+      record { located = r.located; bounded = e.bounded; inside = all-grows (literals_of given) e.grows r.inside }
 
   -- what was fine for the walk before it still is
   pub both-finished : {G : ℕ → Type 0} → ((n m : ℕ) → n ≤ m → G n → G m) → G before.next
@@ -56,7 +56,7 @@ module _ {O S T A B : Type 0} {symbolic : O → Symbol} {made : S → Tree} {to 
     {before after end : Tape} {x : A} {z : B} {F H : ℕ → Type 0} where
   pub one-walks : {build : O → S → T} (step : O → A → Builder B)
       → ((o : O) (s : S) → whole (build o s) ≡ (operand s >>= step o)) → ((o : O) (p : A) → Regular (step o p))
-      → ((t : T) → treeAt sheet v ≡ to t → OneAt sheet v node symbolic made build t)
+      → ((t : T) → tree_at sheet v ≡ to t → OneAt sheet v node symbolic made build t)
       → Walks made operand sheet node.a old before x new after F
       → ((o : O) → symbol_of node.kind ≡ symbolic o → Emits (step o x after.next) new after z out end H)
       → Walks to whole sheet v old before z out end H
@@ -71,7 +71,7 @@ module _ {O S T A B : Type 0} {symbolic : O → Symbol} {made : S → Tree} {to 
 
   pub two-walks : {mid : List ℤ} {middle : Tape} {y : A} {G : ℕ → Type 0} {build : O → S → S → T} (step : O → A → A → Builder B)
       → ((o : O) (s t : S) → whole (build o s t) ≡ (operand s >>= λ p. operand t >>= λ q. step o p q))
-      → ((o : O) (p q : A) → Regular (step o p q)) → ((t : T) → treeAt sheet v ≡ to t → TwoAt sheet v node symbolic made build t)
+      → ((o : O) (p q : A) → Regular (step o p q)) → ((t : T) → tree_at sheet v ≡ to t → TwoAt sheet v node symbolic made build t)
       → Walks made operand sheet node.a old before x mid middle F → Walks made operand sheet node.b mid middle y new after G
       → ((o : O) → symbol_of node.kind ≡ symbolic o → Emits (step o x y after.next) new after z out end H)
       → Walks to whole sheet v old before z out end H

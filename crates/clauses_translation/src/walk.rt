@@ -1,8 +1,8 @@
 // The walk (document 01, "Clauses"): a node's operands in order, then the node's own cells. Expressions and formulas call each other with
 // a falling node number. Past the limit of variables nothing is walked any more.
 ghost use Rattle.std.specs.Prelude.{◌<◌};
-ghost use Rattle.literal.specs.Words.{literalOf};
-ghost use Rattle.sheet_rules.specs.Blocks.{sheetOf};
+ghost use Rattle.literal.specs.Words.{literal_of};
+ghost use Rattle.sheet_rules.specs.Blocks.{sheet_of};
 ghost use Rattle.nodes.specs.Nodes.{IsExpression, IsFormula};
 ghost use Rattle.clauses_translation.specs.Walks.{Ready, WalksExpression, WalksFormula, WalksBodies};
 
@@ -29,8 +29,8 @@ fn expression(
     at: usize,
 ) -> MadeMatrix
     requires ready { Ready sheet.now layout given.now starts.now tape }
-    requires expression { IsExpression (sheetOf sheet.now) at }
-    ensures { WalksExpression (sheetOf sheet.now) given.now env at
+    requires expression { IsExpression (sheet_of sheet.now) at }
+    ensures { WalksExpression (sheet_of sheet.now) given.now env at
         list.old tape result.matrix list.new result.tape }
 {
     if LIMIT < tape.next {
@@ -77,9 +77,9 @@ pub fn formula(
     at: usize,
 ) -> Made
     requires ready { Ready sheet.now layout given.now starts.now tape }
-    requires formula { IsFormula (sheetOf sheet.now) at }
-    ensures { WalksFormula (sheetOf sheet.now) given.now env at
-        list.old tape (literalOf result.literal) list.new result.tape }
+    requires formula { IsFormula (sheet_of sheet.now) at }
+    ensures { WalksFormula (sheet_of sheet.now) given.now env at
+        list.old tape (literal_of result.literal) list.new result.tape }
 {
     if LIMIT < tape.next {
         return Made { literal: -1, tape };
@@ -128,9 +128,9 @@ fn bodies(
     x: usize,
 ) -> MadeMatrix
     requires ready { Ready sheet.now layout given.now starts.now tape }
-    requires formula { IsFormula (sheetOf sheet.now) at }
+    requires formula { IsFormula (sheet_of sheet.now) at }
     requires x_bound { x < 4 }
-    ensures { WalksBodies (sheetOf sheet.now) given.now env at
+    ensures { WalksBodies (sheet_of sheet.now) given.now env at
         list.old tape x result.matrix list.new result.tape }
 {
     let columns = scope_of_variable(sheet, layout, x);

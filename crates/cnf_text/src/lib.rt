@@ -1,10 +1,10 @@
 // What `cnf` prints for an input.
 ghost use Rattle.std.specs.Prelude.{◌≡◌, true, ◌≤◌, length, take};
 ghost use Rattle.text.specs.Texts.{Prints};
-ghost use Rattle.clause_list.specs.ClauseList.{isList};
+ghost use Rattle.clause_list.specs.ClauseList.{is_list};
 ghost use Rattle.dimacs.specs.Text.{text_of};
 ghost use Rattle.cnf_text.specs.Private.{PrintsText};
-ghost use Rattle.cnf_text.specs.Printed.{clauseText, listLeft};
+ghost use Rattle.cnf_text.specs.Printed.{clause_text, list_left};
 
 use clauses::answer::{Count, Size};
 use dimacs::answer::TextSize;
@@ -13,7 +13,7 @@ use text::put_end;
 // The text of a list's first words, which are a list of clauses. It is lent as many bytes as it has.
 fn put_clauses(text: &mut [u8], list: &[i32], size: Size) -> usize
     requires words_in_bounds { size.words ≤ length list.now }
-    requires list_value { isList size.variables (take size.words list.now) ≡ true }
+    requires list_value { is_list size.variables (take size.words list.now) ≡ true }
     requires list_in_bounds { length (text_of size.variables (take size.words list.now)) ≤ length text.old }
     ensures { PrintsText (text_of size.variables (take size.words list.now)) text.old text.new result }
 {
@@ -32,8 +32,8 @@ fn put_clauses(text: &mut [u8], list: &[i32], size: Size) -> usize
 // Reads the input as a sheet, and writes its clause text, or the number of a refusal, to the front of the text.
 pub fn clause_text(input: &[u8], list: &mut [i32; 262144], text: &mut [u8; 1835022]) -> usize
     ensures upper_bound { (result ≤ length text.new) × (result ≡ length (take result text.new)) }
-    ensures prints { Prints (clauseText input.now list.old) text.old text.new result }
-    ensures list_after { list.new ≡ listLeft input.now list.old }
+    ensures prints { Prints (clause_text input.now list.old) text.old text.new result }
+    ensures list_after { list.new ≡ list_left input.now list.old }
 {
     if input.len() > 4096 {
         return put_end(text, b"refused ", 2);

@@ -13,8 +13,8 @@ use Rattle.search_rules.specs.Rules.{settle}
 use Rattle.search_rules.specs.Reached.{Settles}
 use Rattle.search.specs.Answers.{Answer, found, none, spent, refused}
 use Rattle.search.specs.Resumed.{Resumption}
-use Rattle.search.specs.Every.{Standing, leftBy, nextCall, Calls, no_call, finds, spends}
-use Rattle.listing.specs.Printed.{isFound, Shown, shown}
+use Rattle.search.specs.Every.{Standing, left_by, next_call, Calls, no_call, finds, spends}
+use Rattle.listing.specs.Printed.{is_found, Shown, shown}
 use Rattle.console_every.specs.Listed.{AllFound, Listed}
 
 -- where the loop stands, with so many calls left
@@ -24,7 +24,7 @@ pub record Loop (list : List ℤ) (v : ℕ) (at to : Standing) (left : ℕ) : Ty
   pub all_found : AllFound calls
   pub counted : length cases + left ≡ 18446744073709
 
-was-found : (a : Answer) → isFound a ≡ true → (steps : Steps) × (a ≡ found steps)
+was-found : (a : Answer) → is_found a ≡ true → (steps : Steps) × (a ≡ found steps)
 was-found (found steps) h = (steps, refl)
 was-found (none steps) h = absurd (let z : ◌≡◌ {A = ℕ} 0 1 = cc in omega arith)
 was-found (spent steps) h = absurd (let z : ◌≡◌ {A = ℕ} 0 1 = cc in omega arith)
@@ -36,7 +36,7 @@ module _ (list : List ℤ) (v : ℕ) where
 
   -- one more call
   abbrev call : Standing → Resumption
-  call to = nextCall list v to 1000000
+  call to = next_call list v to 1000000
 
   -- and its case
   abbrev case : Standing → List ℕ
@@ -44,7 +44,7 @@ module _ (list : List ℤ) (v : ℕ) where
 
   -- one found more
   further : {at to : Standing} {cases : List (List ℕ)} (steps : Steps) → Calls list v Settles at cases to
-      → (call to).outcome.answer ≡ found steps → Calls list v Settles at (cases ++ case to ∷ []) (leftBy (call to))
+      → (call to).outcome.answer ≡ found steps → Calls list v Settles at (cases ++ case to ∷ []) (left_by (call to))
   further steps no_call e = finds 1000000 e refl no_call
   further steps (finds m d g others) e = finds m d g (further steps others e)
   further steps (spends m d others) e = spends m d (further steps others e)
@@ -61,11 +61,11 @@ module _ (list : List ℤ) (v : ℕ) where
     abbrev is : ℕ → Shown
     is n = shown input list v to n instance
 
-    is-left : (n : ℕ) → (is n).left ≡ leftBy (nextCall list v to n)
+    is-left : (n : ℕ) → (is n).left ≡ left_by (next_call list v to n)
     unfolding shown
     is-left n = refl
 
-    is-more : (n : ℕ) → (is n).more ≡ isFound (nextCall list v to n).outcome.answer
+    is-more : (n : ℕ) → (is n).more ≡ is_found (next_call list v to n).outcome.answer
     unfolding shown
     is-more n = refl
 

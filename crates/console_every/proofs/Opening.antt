@@ -10,13 +10,13 @@ use lib.Seq.{take_at}
 use Rattle.text.specs.Texts.{Prints}
 use Rattle.clauses.specs.declared.answer.Size.{Size}
 use Rattle.clauses.specs.Answers.{Answer, fits, refused}
-use Rattle.search_rules.specs.Rules.{values_of, trailOf}
+use Rattle.search_rules.specs.Rules.{values_of, trail_of}
 use Rattle.search.specs.Every.{Fresh}
 use Rattle.listing.specs.declared.answer.Begun.{Begun}
 use Rattle.listing.specs.declared.answer.Begun.TheVariants.{Refused}
-use Rattle.listing.specs.Printed.{beginning, begunText, begunOf, bytesIn}
+use Rattle.listing.specs.Printed.{beginning, begun_text, begun_of, bytes_in}
 use Rattle.listing.proofs.Beginning.{cases_fit}
-use Rattle.console_every.specs.Listed.{lentWords, opened, BeginGives, ListedOrRefused, refusal}
+use Rattle.console_every.specs.Listed.{lent_words, opened, BeginGives, ListedOrRefused, refusal}
 
 -- the front of equal elements
 front : {A : Type 0} (a : A) (v n : ℕ) → v ≤ n → take v (replicate n a) ≡ replicate v a
@@ -30,25 +30,25 @@ module _ {input : List ℕ} {list : List ℤ} {v : ℕ} (b : BeginGives input li
   within : v ≤ 16000
   within =
       let size : Size = record { variables = v; clauses = b.clauses; words = b.words } in
-      (cases_fit input lentWords size (ap begunOf (sym b.numbers))).1
+      (cases_fit input lent_words size (ap begun_of (sym b.numbers))).1
 
   pub opened-fresh : Fresh v opened
-  unfolding values_of trailOf
+  unfolding values_of trail_of
   opened-fresh = record {
-    values-open = front 2 v 16000 within;
-    trail-open = front (pos 0) v 16000 within;
+    values_open = front 2 v 16000 within;
+    trail_open = front (pos 0) v 16000 within;
     zeros = refl;
   }
 
 -- a refusal has its number
-pub refused-with : (a : Answer) (bytes : ℕ) → Refused bytes ≡ begunOf a → (n : ℕ) × (a ≡ refused n)
+pub refused-with : (a : Answer) (bytes : ℕ) → Refused bytes ≡ begun_of a → (n : ℕ) × (a ≡ refused n)
 refused-with (refused n) bytes e = (n, refl)
 refused-with (fits v c w) bytes e = absurd (let z : ◌≡◌ {A = ℕ} 0 1 = cc in omega arith)
 
 -- and was put
 pub refusal-put : {input before after : List ℕ} (begun : Begun) (bytes : ℕ) {r : Bool} → begun ≡ Refused bytes
-    → begun ≡ begunOf (beginning input lentWords)
-    → Prints (begunText (beginning input lentWords)) before after (bytesIn begun) → ListedOrRefused input r after
+    → begun ≡ begun_of (beginning input lent_words)
+    → Prints (begun_text (beginning input lent_words)) before after (bytes_in begun) → ListedOrRefused input r after
 refusal-put {input} {before} {after} begun bytes e d p =
-    let w = refused-with (beginning input lentWords) bytes (sym e ∙ d) in
-    refusal w.0 w.1 (subst (λ (a : Answer). Prints (begunText a) before after (bytesIn begun)) w.1 p)
+    let w = refused-with (beginning input lent_words) bytes (sym e ∙ d) in
+    refusal w.0 w.1 (subst (λ (a : Answer). Prints (begun_text a) before after (bytes_in begun)) w.1 p)

@@ -1,7 +1,7 @@
 -- What `size` and `write` answer, and what `write` leaves (document 01, "Answers that decline": clause text takes 12 and 13; document 02, Change 4).
 use Rattle.std.specs.Prelude.{◌&&◌, cond, List, ◌++◌, ℕ, leb, ℤ, length, drop}
 use Rattle.refusal.specs.Refusals.{number_of}
-use Rattle.clause_list.specs.ClauseList.{isList}
+use Rattle.clause_list.specs.ClauseList.{is_list}
 use Rattle.dimacs.specs.Text.{text_of}
 use Rattle.dimacs.specs.declared.answer.TextSize.{TextSize}
 use Rattle.dimacs.specs.declared.answer.TextSize.TheVariants.{Bytes, Refused}
@@ -15,15 +15,15 @@ answer_of (Bytes n) = bytes n
 answer_of (Refused r) = refused (number_of r)
 
 -- "The sizing call now gives the text's exact length"; it takes 12 only
-unfoldable pub sizeAnswer : ℕ → List ℤ → Answer
-sizeAnswer v ws = cond (isList v ws) (bytes (length (text_of v ws))) (refused 12)
+unfoldable pub size_answer : ℕ → List ℤ → Answer
+size_answer v ws = cond (is_list v ws) (bytes (length (text_of v ws))) (refused 12)
 
 -- "13 is given for clause text exactly when the slice is shorter than that", after 12; "and the text call answers the bytes written"
-unfoldable pub writeAnswer : ℕ → List ℤ → List ℕ → Answer
-writeAnswer v ws text =
-    cond (isList v ws) (cond (leb (length (text_of v ws)) (length text)) (bytes (length (text_of v ws))) (refused 13)) (refused 12)
+unfoldable pub write_answer : ℕ → List ℤ → List ℕ → Answer
+write_answer v ws text =
+    cond (is_list v ws) (cond (leb (length (text_of v ws)) (length text)) (bytes (length (text_of v ws))) (refused 13)) (refused 12)
 
 -- the lent slice afterwards: the text, then the bytes that were there; a refusal changes nothing
-unfoldable pub textAfter : ℕ → List ℤ → List ℕ → List ℕ
-textAfter v ws text =
-    cond (isList v ws && leb (length (text_of v ws)) (length text)) (text_of v ws ++ drop (length (text_of v ws)) text) text
+unfoldable pub text_after : ℕ → List ℤ → List ℕ → List ℕ
+text_after v ws text =
+    cond (is_list v ws && leb (length (text_of v ws)) (length text)) (text_of v ws ++ drop (length (text_of v ws)) text) text

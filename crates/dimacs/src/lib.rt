@@ -1,9 +1,9 @@
 // Clause text in the DIMACS CNF format (document 01): its length, and the text itself.
 ghost use Rattle.std.specs.Prelude.{◌≡◌, ◌≤◌, nat_abs};
 ghost use Rattle.text.specs.Puts.{Room, Put};
-ghost use Rattle.clause_list.specs.ClauseList.{clausesOf};
-ghost use Rattle.dimacs.specs.Text.{literalText, clauseLine, clauseLines, header};
-ghost use Rattle.dimacs.specs.Answers.{answer_of, sizeAnswer, writeAnswer, textAfter};
+ghost use Rattle.clause_list.specs.ClauseList.{clauses_of};
+ghost use Rattle.dimacs.specs.Text.{literal_text, clause_line, clause_lines, header};
+ghost use Rattle.dimacs.specs.Answers.{answer_of, size_answer, write_answer, text_after};
 ghost use Rattle.dimacs.specs.Private.{Proper, Listed};
 
 use answer::TextSize;
@@ -19,8 +19,8 @@ mod walk;
 // Puts a literal: a minus where it says that its variable is false, then the variable.
 fn put_literal(text: &mut [u8], at: usize, l: i32) -> usize
     requires bound { 1 ≤ nat_abs l }
-    requires room { Room text.old at (literalText l) }
-    ensures { Put text.old at (literalText l) text.new result }
+    requires room { Room text.old at (literal_text l) }
+    ensures { Put text.old at (literal_text l) text.new result }
 {
     let n = literal::variable(l) as usize;
     if literal::is_positive(l) {
@@ -33,8 +33,8 @@ fn put_literal(text: &mut [u8], at: usize, l: i32) -> usize
 // Puts the line of a clause.
 fn put_clause(text: &mut [u8], at: usize, clause: &[i32]) -> usize
     requires proper { Proper clause.now }
-    requires room { Room text.old at (clauseLine clause.now) }
-    ensures { Put text.old at (clauseLine clause.now) text.new result }
+    requires room { Room text.old at (clause_line clause.now) }
+    ensures { Put text.old at (clause_line clause.now) text.new result }
 {
     let mut end = at;
     let mut i = 0;
@@ -53,8 +53,8 @@ fn put_clause(text: &mut [u8], at: usize, clause: &[i32]) -> usize
 // Puts the line of every clause of a list.
 fn put_clauses(text: &mut [u8], at: usize, list: &[i32]) -> usize
     requires listed { Listed list.now }
-    requires room { Room text.old at (clauseLines (clausesOf list.now)) }
-    ensures { Put text.old at (clauseLines (clausesOf list.now)) text.new result }
+    requires room { Room text.old at (clause_lines (clauses_of list.now)) }
+    ensures { Put text.old at (clause_lines (clauses_of list.now)) text.new result }
 {
     let mut end = at;
     let mut i = 0;
@@ -82,7 +82,7 @@ fn put_header(text: &mut [u8], v: usize, clauses: usize) -> usize
 
 // The length of the text of a list with v variables.
 pub fn size(list: &[i32], v: u32) -> TextSize
-    ensures { answer_of result ≡ sizeAnswer v list.now }
+    ensures { answer_of result ≡ size_answer v list.now }
 {
     if !clause_list::is_list(list, v) {
         return TextSize::Refused(Refusal::List);
@@ -93,8 +93,8 @@ pub fn size(list: &[i32], v: u32) -> TextSize
 
 // Writes the text of a list with v variables, and answers its bytes.
 pub fn write(list: &[i32], v: u32, text: &mut [u8]) -> TextSize
-    ensures result_value { answer_of result ≡ writeAnswer v list.now text.old }
-    ensures text_after { text.new ≡ textAfter v list.now text.old }
+    ensures result_value { answer_of result ≡ write_answer v list.now text.old }
+    ensures text_after { text.new ≡ text_after v list.now text.old }
 {
     if !clause_list::is_list(list, v) {
         return TextSize::Refused(Refusal::List);

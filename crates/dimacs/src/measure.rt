@@ -1,7 +1,7 @@
 // The length of a clause text, counted in one pass over the list. No text is made for it.
 ghost use Rattle.std.specs.Prelude.{◌≡◌, true, ◌≤◌, ◌<◌, ◌^◌, nat_abs, length};
-ghost use Rattle.clause_list.specs.ClauseList.{clausesOf, isList};
-ghost use Rattle.dimacs.specs.Text.{literalText, clauseLine, header, text_of};
+ghost use Rattle.clause_list.specs.ClauseList.{clauses_of, is_list};
+ghost use Rattle.dimacs.specs.Text.{literal_text, clause_line, header, text_of};
 ghost use Rattle.dimacs.specs.Private.{Proper};
 
 use crate::walk::clause_end;
@@ -17,7 +17,7 @@ pub struct Measured {
 // The bytes of a literal: a minus where it says that its variable is false, then the variable's digits.
 fn literal_length(l: i32) -> usize
     requires { 1 ≤ nat_abs l }
-    ensures { result ≡ length (literalText l) }
+    ensures { result ≡ length (literal_text l) }
 {
     let digits = decimal_length(literal::variable(l) as usize);
     if literal::is_positive(l) {
@@ -29,8 +29,8 @@ fn literal_length(l: i32) -> usize
 // The bytes of a clause's line: its literals, each with a space, then the closing 0 and the line feed.
 fn line_length(clause: &[i32]) -> usize
     requires proper { Proper clause.now }
-    requires clause_len_bound { length (clauseLine clause.now) < 2 ^ 64 }
-    ensures { result ≡ length (clauseLine clause.now) }
+    requires clause_len_bound { length (clause_line clause.now) < 2 ^ 64 }
+    ensures { result ≡ length (clause_line clause.now) }
 {
     let mut bytes = 0;
     let mut i = 0;
@@ -51,8 +51,8 @@ fn header_length(v: usize, clauses: usize) -> usize
 
 // Counts the clauses of a list, and the bytes of its text with v variables.
 pub fn measure(list: &[i32], v: u32) -> Measured
-    requires { isList v list.now ≡ true }
-    ensures clauses_value { result.clauses ≡ length (clausesOf list.now) }
+    requires { is_list v list.now ≡ true }
+    ensures clauses_value { result.clauses ≡ length (clauses_of list.now) }
     ensures bytes_value { result.bytes ≡ length (text_of v list.now) }
 {
     let mut clauses = 0;

@@ -4,10 +4,10 @@ use mathlib.Core.Bool.{Bool, true, false}
 use mathlib.Core.List.{List}
 use Prim.Native.Nat.{ℕ}
 use native.Mathlib.Omega.{arith}
-use Rattle.sheet_rules.specs.Blocks.{sheetOf}
+use Rattle.sheet_rules.specs.Blocks.{sheet_of}
 use Rattle.sheet_rules.specs.Reading as sheets
 use Rattle.sheet_rules.specs.Reading.{reading}
-use Rattle.relational.specs.Cells.{hasCells}
+use Rattle.relational.specs.Cells.{has_cells}
 use Rattle.relational.specs.Meaning.{WithinScopes, Satisfies}
 use Rattle.instance.specs.Answers.{Answer, yes, no, refused, Answers, CheckAnswers}
 
@@ -26,5 +26,5 @@ one_answer (sheets.accepted layout) true statement (refused n) b p q =
 pub unique : (sheet instance : List ℕ) (a b : Answer) → CheckAnswers sheet instance a → CheckAnswers sheet instance b → a ≡ b
 unfolding CheckAnswers
 unique sheet instance a b p q =
-    one_answer (reading sheet) (hasCells (sheetOf sheet) instance)
-    (WithinScopes (sheetOf sheet) instance × Satisfies (sheetOf sheet) instance) a b p q
+    one_answer (reading sheet) (has_cells (sheet_of sheet) instance)
+    (WithinScopes (sheet_of sheet) instance × Satisfies (sheet_of sheet) instance) a b p q

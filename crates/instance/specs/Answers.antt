@@ -1,10 +1,10 @@
 -- What `check` answers (document 01, "Answers that decline" and "The words of demand 3").
 use Rattle.std.specs.Prelude.{◌≡◌, ◌↔◌, Bool, true, false, List, ℕ}
 use Rattle.refusal.specs.Refusals.{number_of}
-use Rattle.sheet_rules.specs.Blocks.{sheetOf}
+use Rattle.sheet_rules.specs.Blocks.{sheet_of}
 use Rattle.sheet_rules.specs.Reading as sheets
 use Rattle.sheet_rules.specs.Reading.{reading}
-use Rattle.relational.specs.Cells.{hasCells}
+use Rattle.relational.specs.Cells.{has_cells}
 use Rattle.relational.specs.Meaning.{WithinScopes, Satisfies}
 use Rattle.instance.specs.declared.answer.Check.{Check}
 use Rattle.instance.specs.declared.answer.Check.TheVariants.{Yes, No, Refused}
@@ -29,5 +29,5 @@ Answers (sheets.accepted layout) true statement answer = ((answer ≡ yes) ↔ s
 -- is the instance within the scopes ("The check says no where a cell of a non-member is 1"), and does it satisfy?
 unfoldable pub CheckAnswers : List ℕ → List ℕ → Answer → Type 0
 CheckAnswers sheet instance answer =
-    Answers (reading sheet) (hasCells (sheetOf sheet) instance)
-    (WithinScopes (sheetOf sheet) instance × Satisfies (sheetOf sheet) instance) answer
+    Answers (reading sheet) (has_cells (sheet_of sheet) instance)
+    (WithinScopes (sheet_of sheet) instance × Satisfies (sheet_of sheet) instance) answer

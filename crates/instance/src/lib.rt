@@ -4,7 +4,7 @@
 ghost use Rattle.std.specs.Prelude.{◌≡◌};
 ghost use Rattle.sheet_rules.specs.Reading.{accepted, reading};
 ghost use Rattle.instance.specs.Answers.{CheckAnswers, answer_of};
-ghost use Rattle.instance.specs.Held.{checkAnswer};
+ghost use Rattle.instance.specs.Held.{check_answer};
 
 use answer::Check;
 use cells::{are_bits, first_cells};
@@ -19,7 +19,7 @@ pub mod answer; // answer.rt: yes, no or a refusal
 // The check over an accepted sheet.
 fn check_accepted(sheet: &[u8], layout: Layout, instance: &[u8]) -> Check
     requires { reading sheet.now ≡ accepted layout }
-    ensures { answer_of result ≡ checkAnswer sheet.now instance.now }
+    ensures { answer_of result ≡ check_answer sheet.now instance.now }
 {
     let cells = first_cells(sheet, layout);
     let count = cells.count;
@@ -40,7 +40,7 @@ fn check_accepted(sheet: &[u8], layout: Layout, instance: &[u8]) -> Check
 // Whether the instance is within the scopes and satisfies marks and formula: what the answer means, and which it is.
 pub fn check(sheet: &[u8], instance: &[u8]) -> Check
     ensures check_answers { CheckAnswers sheet.now instance.now (answer_of result) }
-    ensures result_value { answer_of result ≡ checkAnswer sheet.now instance.now }
+    ensures result_value { answer_of result ≡ check_answer sheet.now instance.now }
 {
     let answer = read(sheet);
     match answer {

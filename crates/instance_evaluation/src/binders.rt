@@ -1,13 +1,13 @@
 // 2.2.6 Quantifiers, and comprehensions: what a binder makes of its variable's atoms and of those for which the body
 // holds.
 ghost use Rattle.std.specs.Prelude.{◌≡◌};
-ghost use Rattle.sheet_rules.specs.Blocks.{sheetOf};
+ghost use Rattle.sheet_rules.specs.Blocks.{sheet_of};
 ghost use Rattle.sheet_rules.specs.Reading.{accepted, reading};
 ghost use Rattle.relational.specs.Trees as trees;
 ghost use Rattle.relational.specs.Trees.{Quantifier, quantifier-symbol, symbol_of};
 ghost use Rattle.relational.specs.Meaning.{Environment};
 ghost use Rattle.relational.specs.Evaluation as spec;
-ghost use Rattle.instance_matrix.specs.Values.{Fine, Gives, matrixOf};
+ghost use Rattle.instance_matrix.specs.Values.{Fine, Gives, matrix_of};
 
 use super::members::atoms;
 use cells::sort_of_variable;
@@ -20,7 +20,7 @@ use sheet_rules::Layout;
 fn range(sheet: &[u8], layout: Layout, instance: &[u8], x: usize) -> Value
     requires { reading sheet.now ≡ accepted layout }
     ensures { (env : Environment)
-        → Gives result (spec.range (sheetOf sheet.now) instance.now x env) }
+        → Gives result (spec.range (sheet_of sheet.now) instance.now x env) }
 {
     atoms(sheet, layout, instance, sort_of_variable(sheet, layout, x))
 }
@@ -35,8 +35,8 @@ pub(crate) fn comprehend(
 ) -> Value
     requires sheet_value { reading sheet.now ≡ accepted layout }
     requires fine { Fine row }
-    ensures { (env : Environment) → Gives result (spec.valueBinary trees.intersection
-        (spec.range (sheetOf sheet.now) instance.now x env) (matrixOf row)) }
+    ensures { (env : Environment) → Gives result (spec.value_binary trees.intersection
+        (spec.range (sheet_of sheet.now) instance.now x env) (matrix_of row)) }
 {
     binary(6, range(sheet, layout, instance, x), row)
 }
@@ -53,8 +53,8 @@ pub(crate) fn quantify_over(
     requires sheet_value { reading sheet.now ≡ accepted layout }
     requires fine { Fine row }
     ensures { (env : Environment) (o : Quantifier) → symbol_of kind ≡ quantifier-symbol o
-        → result ≡ spec.truthQuantifier o
-        (spec.range (sheetOf sheet.now) instance.now x env) (matrixOf row) }
+        → result ≡ spec.truth_quantifier o
+        (spec.range (sheet_of sheet.now) instance.now x env) (matrix_of row) }
 {
     quantify(kind, range(sheet, layout, instance, x), row)
 }

@@ -1,10 +1,10 @@
 // 2.2.1 Basic expressions, the leaves: a relation, a variable, a sort, an identity.
 ghost use Rattle.std.specs.Prelude.{◌≡◌, ◌<◌};
-ghost use Rattle.sheet_rules.specs.Blocks.{sheetOf, relationCount};
+ghost use Rattle.sheet_rules.specs.Blocks.{sheet_of, relation_count};
 ghost use Rattle.relational.specs.Trees as trees;
 ghost use Rattle.relational.specs.Trees.{Leaf, leaf-symbol, symbol_of};
 ghost use Rattle.relational.specs.Meaning.{Environment};
-ghost use Rattle.relational.specs.Evaluation.{valueLeaf};
+ghost use Rattle.relational.specs.Evaluation.{value_leaf};
 ghost use Rattle.cells.specs.Private.{Located};
 ghost use Rattle.instance_matrix.specs.Values.{Gives};
 ghost use Rattle.nodes.specs.Environments.{environment};
@@ -19,9 +19,9 @@ use sheet_rules::Layout;
 // Kind 1: the flags of a relation.
 fn relation(sheet: &[u8], layout: Layout, instance: &[u8], starts: &[usize], r: usize) -> Value
     requires located { Located sheet.now layout starts.now }
-    requires r_bound { r < relationCount (sheetOf sheet.now) }
+    requires r_bound { r < relation_count (sheet_of sheet.now) }
     ensures { (env : Environment)
-        → Gives result (valueLeaf (sheetOf sheet.now) instance.now trees.relation r env) }
+        → Gives result (value_leaf (sheet_of sheet.now) instance.now trees.relation r env) }
 {
     let first = starts[r];
     let rows = row_count(sheet, layout, r);
@@ -40,9 +40,9 @@ pub(crate) fn leaf(
     a: usize,
 ) -> Value
     requires located { Located sheet.now layout starts.now }
-    requires a_bound { kind ≡ 1 → a < relationCount (sheetOf sheet.now) }
+    requires a_bound { kind ≡ 1 → a < relation_count (sheet_of sheet.now) }
     ensures { (l : Leaf) → symbol_of kind ≡ leaf-symbol l
-        → Gives result (valueLeaf (sheetOf sheet.now) instance.now l a (environment env)) }
+        → Gives result (value_leaf (sheet_of sheet.now) instance.now l a (environment env)) }
 {
     match kind {
         1 => relation(sheet, layout, instance, starts, a),

@@ -2,7 +2,7 @@
 // marks hold, and whether the cells are of members.
 // The steps stand in the order of section 2.2 of source document 001, headed by the numbers of its parts.
 ghost use Rattle.std.specs.Prelude.{◌≡◌};
-ghost use Rattle.sheet_rules.specs.Blocks.{sheetOf};
+ghost use Rattle.sheet_rules.specs.Blocks.{sheet_of};
 ghost use Rattle.cells.specs.Private.{Located};
 ghost use Rattle.relational.specs.Evaluation as spec;
 
@@ -22,7 +22,7 @@ mod scopes; // scopes.rt, 2.1.2: fields are of atoms
 // Whether the cells are of members, the marks hold and the root is true.
 pub fn holds(sheet: &[u8], layout: Layout, instance: &[u8], starts: &[usize]) -> bool
     requires { Located sheet.now layout starts.now }
-    ensures { result ≡ spec.holds (sheetOf sheet.now) instance.now }
+    ensures { result ≡ spec.holds (sheet_of sheet.now) instance.now }
 {
     let marked = marks_hold(sheet, layout, instance, starts);
     let nodes = layout.nodes;

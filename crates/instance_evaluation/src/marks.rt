@@ -1,10 +1,10 @@
 // 2.1.2 Multiplicities: "For a relation the mark holds for each atom of the first sort; a set is a single row."
 ghost use Rattle.std.specs.Prelude.{◌≡◌, ◌<◌};
-ghost use Rattle.sheet_rules.specs.Blocks.{sheetOf, relationCount};
+ghost use Rattle.sheet_rules.specs.Blocks.{sheet_of, relation_count};
 ghost use Rattle.sheet_rules.specs.Reading.{accepted, reading};
 ghost use Rattle.cells.specs.Private.{Located};
 ghost use Rattle.relational.specs.Evaluation as spec;
-ghost use Rattle.instance_evaluation.specs.Walking.{rowsHold};
+ghost use Rattle.instance_evaluation.specs.Walking.{rows_hold};
 
 use super::members::is_member;
 use cells::{arity, first_sort, multiplicity, row_count, row_length};
@@ -18,7 +18,7 @@ use sheet_rules::Layout;
 fn row_bound(sheet: &[u8], layout: Layout, instance: &[u8], r: usize, i: usize) -> bool
     requires sheet_value { reading sheet.now ≡ accepted layout }
     requires r_bound { (r < 256) × (i < 8) }
-    ensures { result ≡ spec.rowBound (sheetOf sheet.now) instance.now r i }
+    ensures { result ≡ spec.row_bound (sheet_of sheet.now) instance.now r i }
 {
     if arity(sheet, layout, r) == 1 {
         return true;
@@ -29,8 +29,8 @@ fn row_bound(sheet: &[u8], layout: Layout, instance: &[u8], r: usize, i: usize) 
 // The rows of relation r.
 fn rows_hold(sheet: &[u8], layout: Layout, instance: &[u8], starts: &[usize], r: usize) -> bool
     requires located { Located sheet.now layout starts.now }
-    requires r_bound { r < relationCount (sheetOf sheet.now) }
-    ensures { result ≡ rowsHold (sheetOf sheet.now) instance.now r }
+    requires r_bound { r < relation_count (sheet_of sheet.now) }
+    ensures { result ≡ rows_hold (sheet_of sheet.now) instance.now r }
 {
     let mark = multiplicity(sheet, layout, r);
     let first = starts[r];
@@ -50,7 +50,7 @@ fn rows_hold(sheet: &[u8], layout: Layout, instance: &[u8], starts: &[usize], r:
 // The rows of all relations.
 pub(crate) fn marks_hold(sheet: &[u8], layout: Layout, instance: &[u8], starts: &[usize]) -> bool
     requires { Located sheet.now layout starts.now }
-    ensures { result ≡ spec.marksHold (sheetOf sheet.now) instance.now }
+    ensures { result ≡ spec.marks_hold (sheet_of sheet.now) instance.now }
 {
     let relations = layout.relations;
     let count = relations.count;

@@ -1,6 +1,6 @@
 // 2.2.1 Basic expressions: the atoms of a sort, of a bounded one its members only (document 02, Change 8).
 ghost use Rattle.std.specs.Prelude.{◌≡◌, ◌<◌};
-ghost use Rattle.sheet_rules.specs.Blocks.{sheetOf};
+ghost use Rattle.sheet_rules.specs.Blocks.{sheet_of};
 ghost use Rattle.sheet_rules.specs.Reading.{accepted, reading};
 ghost use Rattle.relational.specs.Trees as trees;
 ghost use Rattle.relational.specs.Meaning.{Environment};
@@ -23,7 +23,7 @@ pub(crate) fn is_member(
 ) -> bool
     requires sheet_value { reading sheet.now ≡ accepted layout }
     requires i_bound { i < 8 }
-    ensures { result ≡ spec.memberAt (sheetOf sheet.now) instance.now sort i }
+    ensures { result ≡ spec.member_at (sheet_of sheet.now) instance.now sort i }
 {
     if is_bounded(sheet, layout, sort) {
         return byte(instance, first_member(sheet, layout, sort) + i) == 1;
@@ -35,7 +35,7 @@ pub(crate) fn is_member(
 pub(crate) fn atoms(sheet: &[u8], layout: Layout, instance: &[u8], sort: usize) -> Value
     requires { reading sheet.now ≡ accepted layout }
     ensures { (env : Environment)
-        → Gives result (spec.valueLeaf (sheetOf sheet.now) instance.now trees.atoms sort env) }
+        → Gives result (spec.value_leaf (sheet_of sheet.now) instance.now trees.atoms sort env) }
 {
     let n = scope(sheet, layout, sort);
     if is_bounded(sheet, layout, sort) {

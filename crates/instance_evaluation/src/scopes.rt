@@ -1,11 +1,11 @@
 // 2.1.2 Fields are of atoms: "The check says no where a cell of a non-member is 1" (document 02, Change 8).
 ghost use Rattle.std.specs.Prelude.{◌≡◌, ◌<◌, ◌≤◌};
-ghost use Rattle.sheet_rules.specs.Blocks.{sheetOf, relationCount};
+ghost use Rattle.sheet_rules.specs.Blocks.{sheet_of, relation_count};
 ghost use Rattle.sheet_rules.specs.Reading.{accepted, reading};
 ghost use Rattle.cells.specs.Private.{Located};
-ghost use Rattle.relational.specs.Cells.{mostCells, cell};
+ghost use Rattle.relational.specs.Cells.{most_cells, cell};
 ghost use Rattle.relational.specs.Evaluation as spec;
-ghost use Rattle.instance_evaluation.specs.Walking.{of_members, rowInside, relationInside};
+ghost use Rattle.instance_evaluation.specs.Walking.{of_members, row_inside, relation_inside};
 
 use super::members::is_member;
 use cells::{arity, first_sort, over_bounded, row_count, row_length, second_sort};
@@ -17,7 +17,7 @@ use sheet_rules::Layout;
 fn of_members(sheet: &[u8], layout: Layout, instance: &[u8], r: usize, i: usize, j: usize) -> bool
     requires sheet_value { reading sheet.now ≡ accepted layout }
     requires r_bound { (r < 256) × ((i < 8) × (j < 8)) }
-    ensures { result ≡ of_members (sheetOf sheet.now) instance.now r i j }
+    ensures { result ≡ of_members (sheet_of sheet.now) instance.now r i j }
 {
     let first = first_sort(sheet, layout, r);
     if arity(sheet, layout, r) == 1 {
@@ -40,9 +40,9 @@ fn row_inside(
     first: usize,
 ) -> bool
     requires sheet_value { reading sheet.now ≡ accepted layout }
-    requires r_bound { (r < 256) × ((i < 8) × (first ≤ mostCells)) }
-    requires first_value { first ≡ cell (sheetOf sheet.now) r i 0 }
-    ensures { result ≡ rowInside (sheetOf sheet.now) instance.now r i }
+    requires r_bound { (r < 256) × ((i < 8) × (first ≤ most_cells)) }
+    requires first_value { first ≡ cell (sheet_of sheet.now) r i 0 }
+    ensures { result ≡ row_inside (sheet_of sheet.now) instance.now r i }
 {
     let columns = row_length(sheet, layout, r);
     let mut fine = true;
@@ -61,8 +61,8 @@ fn row_inside(
 // The rows of relation r.
 fn rows_inside(sheet: &[u8], layout: Layout, instance: &[u8], starts: &[usize], r: usize) -> bool
     requires located { Located sheet.now layout starts.now }
-    requires r_bound { r < relationCount (sheetOf sheet.now) }
-    ensures { result ≡ relationInside (sheetOf sheet.now) instance.now r }
+    requires r_bound { r < relation_count (sheet_of sheet.now) }
+    ensures { result ≡ relation_inside (sheet_of sheet.now) instance.now r }
 {
     let first = starts[r];
     let rows = row_count(sheet, layout, r);
@@ -88,8 +88,8 @@ fn relation_inside(
     r: usize,
 ) -> bool
     requires located { Located sheet.now layout starts.now }
-    requires r_bound { r < relationCount (sheetOf sheet.now) }
-    ensures { result ≡ relationInside (sheetOf sheet.now) instance.now r }
+    requires r_bound { r < relation_count (sheet_of sheet.now) }
+    ensures { result ≡ relation_inside (sheet_of sheet.now) instance.now r }
 {
     if over_bounded(sheet, layout, r) {
         return rows_inside(sheet, layout, instance, starts, r);
@@ -100,7 +100,7 @@ fn relation_inside(
 // The cells of all relations.
 pub(crate) fn cells_inside(sheet: &[u8], layout: Layout, instance: &[u8], starts: &[usize]) -> bool
     requires { Located sheet.now layout starts.now }
-    ensures { result ≡ spec.cellsInside (sheetOf sheet.now) instance.now }
+    ensures { result ≡ spec.cells_inside (sheet_of sheet.now) instance.now }
 {
     let relations = layout.relations;
     let count = relations.count;

@@ -1,10 +1,10 @@
 // 2.2.1 to 2.2.6 The walk: expressions contain formulas and formulas expressions, and the node number falls.
 ghost use Rattle.std.specs.Prelude.{◌≡◌, ◌<◌};
-ghost use Rattle.sheet_rules.specs.Blocks.{sheetOf};
+ghost use Rattle.sheet_rules.specs.Blocks.{sheet_of};
 ghost use Rattle.cells.specs.Private.{Located};
 ghost use Rattle.instance_matrix.specs.Values.{Gives};
 ghost use Rattle.nodes.specs.Nodes.{IsExpression, IsFormula};
-ghost use Rattle.instance_evaluation.specs.Walking.{value_at, truthAt, bodiesAt};
+ghost use Rattle.instance_evaluation.specs.Walking.{value_at, truth_at, bodies_at};
 
 use super::binders::{comprehend, quantify_over};
 use super::leaves::leaf;
@@ -27,8 +27,8 @@ fn expression(
     at: usize,
 ) -> Value
     requires located { Located sheet.now layout starts.now }
-    requires expression { IsExpression (sheetOf sheet.now) at }
-    ensures { Gives result (value_at (sheetOf sheet.now) instance.now env at) }
+    requires expression { IsExpression (sheet_of sheet.now) at }
+    ensures { Gives result (value_at (sheet_of sheet.now) instance.now env at) }
 {
     let node = read_node(sheet, layout, at);
     let form = node.expression;
@@ -68,8 +68,8 @@ pub(crate) fn formula(
     at: usize,
 ) -> bool
     requires located { Located sheet.now layout starts.now }
-    requires formula { IsFormula (sheetOf sheet.now) at }
-    ensures { result ≡ truthAt (sheetOf sheet.now) instance.now env at }
+    requires formula { IsFormula (sheet_of sheet.now) at }
+    ensures { result ≡ truth_at (sheet_of sheet.now) instance.now env at }
 {
     let node = read_node(sheet, layout, at);
     let form = node.formula;
@@ -115,9 +115,9 @@ fn bodies(
     x: usize,
 ) -> Value
     requires located { Located sheet.now layout starts.now }
-    requires formula { IsFormula (sheetOf sheet.now) at }
+    requires formula { IsFormula (sheet_of sheet.now) at }
     requires x_bound { x < 4 }
-    ensures { Gives result (bodiesAt (sheetOf sheet.now) instance.now env at x) }
+    ensures { Gives result (bodies_at (sheet_of sheet.now) instance.now env at x) }
 {
     let n = scope_of_variable(sheet, layout, x);
     let mut cells = [false; 64];

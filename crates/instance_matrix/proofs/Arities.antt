@@ -6,4 +6,4 @@ use Rattle.instance_matrix.specs.declared.Value.{Value}
 use Rattle.instance_matrix.specs.Values.{Fine}
 
 pub arity-most : (v : Value) → Fine v → v.arity ≤ 2
-arity-most v f = ⊎_elim (λ h. omega arith) (λ h. omega arith) f.set-or-relation
+arity-most v f = ⊎_elim (λ h. omega arith) (λ h. omega arith) f.set_or_relation

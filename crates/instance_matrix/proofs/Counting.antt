@@ -12,7 +12,7 @@ use Rattle.prelude.specs.Tests.{all, any}
 use Rattle.prelude.proofs.Laws.{all_append, any_append}
 use Rattle.relational.specs.Matrices.{upto}
 use Rattle.sheet_rules.specs.Blocks.{Sheet}
-use Rattle.relational.specs.Evaluation.{count, implies, rowHolds}
+use Rattle.relational.specs.Evaluation.{count, implies, row_holds}
 use Rattle.relational.proofs.Places.{upto-suc}
 use Rattle.instance_matrix.specs.Values.{counted}
 
@@ -73,7 +73,7 @@ count-take xs k total more l e h =
 -- ---- 2.1.2 marks: one that is neither 0 nor 1
 pub exact-row : (sheet : Sheet) (instance : List ℕ) (mark : ℕ) (bound : Bool) (cells : List Bool) → (mark ≡ 0 → ⊥)
     → (mark ≡ 1 → ⊥)
-    → rowHolds sheet instance mark bound cells ≡ (leb (count cells) 1 && implies (bound, leb 1 (count cells)))
+    → row_holds sheet instance mark bound cells ≡ (leb (count cells) 1 && implies (bound, leb 1 (count cells)))
 exact-row sheet instance zero bound cells h g = absurd (h refl)
 exact-row sheet instance (suc zero) bound cells h g = absurd (g refl)
 exact-row sheet instance (suc (suc m)) bound cells h g = refl

@@ -12,7 +12,7 @@ use lib.Seq.{get_or-set_same, get_or-set_other, get_or-take, length-take-le, ext
 use Rattle.relational.specs.Matrices.{upto, Place, places, cell_at}
 use Rattle.relational.proofs.Places.{length-map-from, upto-at, length-places, places-at, square, row_below, column-below}
 use Rattle.instance_matrix.specs.declared.Value.{Value}
-use Rattle.instance_matrix.specs.Values.{matrixOf, Fine}
+use Rattle.instance_matrix.specs.Values.{matrix_of, Fine}
 
 pub small-index : (i columns j : ℕ) → i < 8 → columns ≤ 8 → j < columns → i * columns + j < 64
 small-index i columns j h g l = omega (arith, mul-le-mul_right columns h)
@@ -69,7 +69,7 @@ filled-places cells r c g u small =
 
 -- ---- a cell of a value is a cell of its matrix
 module _ (v : Value) (f : Fine v) where
-  cell-of : (k : ℕ) → cell_at false (matrixOf v) k ≡ get_or v.cells k false
+  cell-of : (k : ℕ) → cell_at false (matrix_of v) k ≡ get_or v.cells k false
   cell-of k = go (dec_lt k n)
     where
       n : ℕ
@@ -82,10 +82,10 @@ module _ (v : Value) (f : Fine v) where
       go (yes l) = get_or-take n v.cells k false l
       go (no l) = get_or-eq_default (take n v.cells) false (omega (arith, short)) ∙ sym (f.rest k (omega arith))
 
-  pub cells_of : ◌≡◌ {A = ℕ → Bool} (λ k. cell_at false (matrixOf v) k) (λ k. get_or v.cells k false)
+  pub cells_of : ◌≡◌ {A = ℕ → Bool} (λ k. cell_at false (matrix_of v) k) (λ k. get_or v.cells k false)
   cells_of = fun_ext cell-of
 
-  pub cells-counted : length (matrixOf v).cells ≡ v.rows * v.columns
+  pub cells-counted : length (matrix_of v).cells ≡ v.rows * v.columns
   cells-counted =
       length-take-le (v.rows * v.columns) v.cells
-      (omega (arith, f.long, square f.few-rows f.few-columns))
+      (omega (arith, f.long, square f.few_rows f.few_columns))

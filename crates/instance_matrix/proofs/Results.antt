@@ -11,13 +11,13 @@ use borrow.Author.Tests.{eq-eqb, ne_eqb}
 use Rattle.prelude.specs.Tests.{any}
 use Rattle.sheet_rules.specs.Blocks.{byte}
 use Rattle.relational.specs.Trees.{join, product, inverse}
-use Rattle.relational.specs.Matrices.{Matrix, upto, Place, places, setOf, relationOf, sameSize, cell_at, joinColumns}
+use Rattle.relational.specs.Matrices.{Matrix, upto, Place, places, set_of, relation_of, same_size, cell_at, join_columns}
 use Rattle.relational.specs.Matrices.{matched, middles, crossed}
-use Rattle.relational.specs.Evaluation.{both, joinCells, valueBinary, valueUnary}
+use Rattle.relational.specs.Evaluation.{both, join_cells, value_binary, value_unary}
 use Rattle.relational.proofs.Places.{map-map, length-map-from, from_at, upto-at, row_below, square}
 use Rattle.instance_matrix.specs.declared.Value.{Value}
 use Rattle.instance_matrix.specs.declared.flags.Pairing.{Pairing}
-use Rattle.instance_matrix.specs.Values.{matrixOf, sized, flagsFrom, SetOrRelation, Fine, Gives, paired}
+use Rattle.instance_matrix.specs.Values.{matrix_of, sized, flags_from, SetOrRelation, Fine, Gives, paired}
 use Rattle.instance_matrix.proofs.Filling.{Filled, filled-list, filled-upto, filled-places, cells_of}
 
 abbrev pub value : ℕ → ℕ → ℕ → List Bool → Value
@@ -32,12 +32,12 @@ pub gives : (arity rows columns : ℕ) (cells : List Bool) (f : ℕ → Bool) (l
     → Gives (value arity rows columns cells) (sized arity rows columns l)
 gives arity rows columns cells f l hr hc s u e =
     record {
-      fine = record { few-rows = hr; few-columns = hc; set-or-relation = s; long = u.long; rest = u.rest };
+      fine = record { few_rows = hr; few_columns = hc; set_or_relation = s; long = u.long; rest = u.rest };
       is = ap (sized arity rows columns) e;
     }
 
 pub gives_set : (n : ℕ) (cells : List Bool) (f : ℕ → Bool) (l : List Bool) → n ≤ 8 → Filled cells f n → take n cells ≡ l
-    → Gives (value 1 1 n cells) (setOf n l)
+    → Gives (value 1 1 n cells) (set_of n l)
 gives_set n cells f l h u e =
     let one : n ≡ 1 * n = omega arith in
     gives 1 1 n cells f l (omega arith) h (inl (refl, refl)) (subst (λ (m : ℕ). Filled cells f m) one u) (rw (← one) e)
@@ -45,30 +45,30 @@ gives_set n cells f l h u e =
 -- ---- 2.2.1 relations, variables, sorts, identities
 pub given-law : (instance : List ℕ) (first arity rows columns : ℕ) (cells : List Bool) (k : ℕ) → k ≡ rows * columns → rows ≤ 8 → columns ≤ 8
     → SetOrRelation arity rows → Filled cells (λ j. eqb (byte instance (first + j)) 1) k
-    → Gives (value arity rows columns cells) (sized arity rows columns (flagsFrom instance first (rows * columns)))
+    → Gives (value arity rows columns cells) (sized arity rows columns (flags_from instance first (rows * columns)))
 given-law instance first arity rows columns cells k e hr hc s u =
     let n : ℕ = rows * columns in
     let flag : ℕ → Bool = λ i. eqb (byte instance i) 1 in
     let w : Filled cells (λ j. flag (first + j)) n = subst (λ (m : ℕ). Filled cells (λ j. flag (first + j)) m) e u in
-    gives arity rows columns cells (λ j. flag (first + j)) (flagsFrom instance first n) hr hc s w
-    (filled-list cells (λ j. flag (first + j)) n w (square hr hc) (flagsFrom instance first n)
+    gives arity rows columns cells (λ j. flag (first + j)) (flags_from instance first n) hr hc s w
+    (filled-list cells (λ j. flag (first + j)) n w (square hr hc) (flags_from instance first n)
     (length-map-from flag first n) (λ j l. sym (from_at flag false first n j l)))
 
 pub upto-law : (n : ℕ) (f : ℕ → Bool) (cells : List Bool) (k : ℕ) → k ≡ n → n ≤ 8 → Filled cells f k
-    → Gives (value 1 1 n cells) (setOf n (map f (upto n)))
+    → Gives (value 1 1 n cells) (set_of n (map f (upto n)))
 upto-law n f cells k e h u =
     let w : Filled cells f n = subst (λ (m : ℕ). Filled cells f m) e u in
     gives_set n cells f (map f (upto n)) h w (filled-upto cells f n w (omega arith) f (λ j l. refl))
 
 pub places-law : (r c : ℕ) (g : Place → Bool) (cells : List Bool) (k : ℕ) → k ≡ r * c → r ≤ 8 → c ≤ 8
-    → Filled cells (λ j. g (j / c, j % c)) k → Gives (value 2 r c cells) (relationOf r c (map g (places r c)))
+    → Filled cells (λ j. g (j / c, j % c)) k → Gives (value 2 r c cells) (relation_of r c (map g (places r c)))
 places-law r c g cells k e hr hc u =
     let w : Filled cells (λ j. g (j / c, j % c)) (r * c) = subst (λ (m : ℕ). Filled cells (λ j. g (j / c, j % c)) m) e u in
     gives 2 r c cells (λ j. g (j / c, j % c)) (map g (places r c)) hr hc (inr refl) w
     (filled-places cells r c g w (square hr hc))
 
 -- the identity on the atoms of a set
-module _ (p : Value) (fp : Fine p) (n : ℕ) (f : ℕ → Bool) (e : matrixOf p ≡ setOf n (map f (upto n))) where
+module _ (p : Value) (fp : Fine p) (n : ℕ) (f : ℕ → Bool) (e : matrix_of p ≡ set_of n (map f (upto n))) where
   wide : p.columns ≡ n
   wide = ap (λ (m : Matrix Bool). m.columns) e
 
@@ -77,16 +77,16 @@ module _ (p : Value) (fp : Fine p) (n : ℕ) (f : ℕ → Bool) (e : matrixOf p 
       ap (λ (x : ℕ → Bool). x i) (sym (cells_of p fp)) ∙ ap (λ (m : Matrix Bool). cell_at false m i) e
       ∙ upto-at f false n i (omega (arith, wide))
 
-  abbrev onDiagonal : Place → Bool
-  onDiagonal t = cond (eqb t.0 t.1) (f t.0) false
+  abbrev on_diagonal : Place → Bool
+  on_diagonal t = cond (eqb t.0 t.1) (f t.0) false
 
   pub identity-law : (cells : List Bool) (k : ℕ) → k ≡ p.columns * p.columns
       → Filled cells (λ j. cond (eqb (j / p.columns) (j % p.columns)) (get_or p.cells (j / p.columns) false) false)
       k
-      → Gives (value 2 p.columns p.columns cells) (relationOf n n (map onDiagonal (places n n)))
+      → Gives (value 2 p.columns p.columns cells) (relation_of n n (map on_diagonal (places n n)))
   identity-law cells k ek u =
       let c : ℕ = p.columns in
-      let w : Filled cells (λ j. onDiagonal (j / c, j % c)) k
+      let w : Filled cells (λ j. on_diagonal (j / c, j % c)) k
       = record {
         long = u.long;
         done = λ j l.
@@ -95,14 +95,14 @@ module _ (p : Value) (fp : Fine p) (n : ℕ) (f : ℕ → Bool) (e : matrixOf p 
             (atom-at (j / c) (row_below c c j (omega (arith, ek))));
         rest = u.rest;
       } in
-      gives_as _ _ _ (ap (λ (m : ℕ). relationOf m m (map onDiagonal (places m m))) wide)
-      (places-law c c onDiagonal cells k ek fp.few-columns fp.few-columns w)
+      gives_as _ _ _ (ap (λ (m : ℕ). relation_of m m (map on_diagonal (places m m))) wide)
+      (places-law c c on_diagonal cells k ek fp.few_columns fp.few_columns w)
 
 -- ---- two operands
 module _ (p q : Value) (fp : Fine p) (fq : Fine q) where
   -- ---- 2.2.1 union, intersection, difference
   -- the operands' cells, as the code reads them, here and below
-  pub matched-cells : matched false (matrixOf p) (matrixOf q)
+  pub matched-cells : matched false (matrix_of p) (matrix_of q)
       ≡ map {B = Bool × Bool} (λ (k : ℕ). (get_or p.cells k false, get_or q.cells k false)) (upto (p.rows * p.columns))
   matched-cells =
       ap₂ (λ (x y : ℕ → Bool). map {B = Bool × Bool} (λ (k : ℕ). (x k, y k)) (upto (p.rows * p.columns))) (cells_of p fp) (cells_of q fq)
@@ -110,85 +110,85 @@ module _ (p q : Value) (fp : Fine p) (fq : Fine q) where
   pub matched-law : (pairing : Pairing) (cells : List Bool) (k : ℕ) → k ≡ p.rows * p.columns
       → Filled cells (λ j. paired pairing (get_or p.cells j false, get_or q.cells j false)) k
       → Gives (value p.arity p.rows p.columns cells)
-      (sameSize (matrixOf p) (map (paired pairing) (matched false (matrixOf p) (matrixOf q))))
+      (same_size (matrix_of p) (map (paired pairing) (matched false (matrix_of p) (matrix_of q))))
   matched-law pairing cells k e u =
       let n : ℕ = p.rows * p.columns in
       let pair : ℕ → Bool × Bool = λ j. (get_or p.cells j false, get_or q.cells j false) in
       let f : ℕ → Bool = λ j. paired pairing (pair j) in
       let w : Filled cells f n = subst (λ (m : ℕ). Filled cells f m) e u in
-      gives p.arity p.rows p.columns cells f (map (paired pairing) (matched false (matrixOf p) (matrixOf q))) fp.few-rows
-      fp.few-columns fp.set-or-relation w
-      (filled-upto cells f n w (square fp.few-rows fp.few-columns) f (λ j l. refl)
+      gives p.arity p.rows p.columns cells f (map (paired pairing) (matched false (matrix_of p) (matrix_of q))) fp.few_rows
+      fp.few_columns fp.set_or_relation w
+      (filled-upto cells f n w (square fp.few_rows fp.few_columns) f (λ j l. refl)
       ∙ sym (map-map (paired pairing) pair (upto n)) ∙ ap (map (paired pairing)) (sym matched-cells))
 
   -- ---- 2.2.2 join
-  pub middle-cells : (i j : ℕ) → middles false (matrixOf p) (matrixOf q) (i, j)
+  pub middle-cells : (i j : ℕ) → middles false (matrix_of p) (matrix_of q) (i, j)
       ≡ map {B = Bool × Bool}
-      (λ (k : ℕ). (get_or p.cells (i * p.columns + k) false, get_or q.cells (k * joinColumns (matrixOf q) + j) false))
+      (λ (k : ℕ). (get_or p.cells (i * p.columns + k) false, get_or q.cells (k * join_columns (matrix_of q) + j) false))
       (upto p.columns)
   middle-cells i j =
       ap₂
       (λ (x y : ℕ → Bool).
-      map {B = Bool × Bool} (λ (k : ℕ). (x (i * p.columns + k), y (k * joinColumns (matrixOf q) + j))) (upto p.columns))
+      map {B = Bool × Bool} (λ (k : ℕ). (x (i * p.columns + k), y (k * join_columns (matrix_of q) + j))) (upto p.columns))
       (cells_of p fp) (cells_of q fq)
 
   -- a join that is a set is small: a set has one row, and as a right operand one column
-  join-narrow : joinColumns (matrixOf q) ≤ 8
+  join-narrow : join_columns (matrix_of q) ≤ 8
   join-narrow = go (eqb q.arity 1)
     where
       go : (b : Bool) → cond b 1 q.columns ≤ 8
       go true = omega arith
-      go false = fq.few-columns
+      go false = fq.few_columns
 
-  join-small : (p.arity + q.arity ≡ 4 → ⊥) → p.rows * joinColumns (matrixOf q) ≤ 8
-  join-small apart = go fp.set-or-relation fq.set-or-relation
+  join-small : (p.arity + q.arity ≡ 4 → ⊥) → p.rows * join_columns (matrix_of q) ≤ 8
+  join-small apart = go fp.set_or_relation fq.set_or_relation
     where
-      go : SetOrRelation p.arity p.rows → SetOrRelation q.arity q.rows → p.rows * joinColumns (matrixOf q) ≤ 8
+      go : SetOrRelation p.arity p.rows → SetOrRelation q.arity q.rows → p.rows * join_columns (matrix_of q) ≤ 8
       go (inl h) s = rw h.1 (omega (arith, join-narrow))
-      go (inr h) (inl g) = rw (eq-eqb q.arity 1 g.0) (omega (arith, fp.few-rows))
+      go (inr h) (inl g) = rw (eq-eqb q.arity 1 g.0) (omega (arith, fp.few_rows))
       go (inr h) (inr g) = absurd (apart (omega arith))
 
   module _ (cells : List Bool) (k : ℕ) where
-    joinFlag : Place → Bool
-    joinFlag t = any both (middles false (matrixOf p) (matrixOf q) t)
+    join_flag : Place → Bool
+    join_flag t = any both (middles false (matrix_of p) (matrix_of q) t)
 
-    join-relation : p.arity + q.arity ≡ 4 → k ≡ p.rows * joinColumns (matrixOf q)
-        → Filled cells (λ j. joinFlag (j / joinColumns (matrixOf q), j % joinColumns (matrixOf q))) k
-        → Gives (value 2 p.rows (joinColumns (matrixOf q)) cells) (valueBinary join (matrixOf p) (matrixOf q))
-    unfolding joinFlag
+    join-relation : p.arity + q.arity ≡ 4 → k ≡ p.rows * join_columns (matrix_of q)
+        → Filled cells (λ j. join_flag (j / join_columns (matrix_of q), j % join_columns (matrix_of q))) k
+        → Gives (value 2 p.rows (join_columns (matrix_of q)) cells) (value_binary join (matrix_of p) (matrix_of q))
+    unfolding join_flag
     join-relation s e u =
         rw (eq-eqb (p.arity + q.arity) 4 s)
-        (places-law p.rows (joinColumns (matrixOf q)) joinFlag cells k e fp.few-rows join-narrow u)
+        (places-law p.rows (join_columns (matrix_of q)) join_flag cells k e fp.few_rows join-narrow u)
 
-    join-set : (p.arity + q.arity ≡ 4 → ⊥) → k ≡ p.rows * joinColumns (matrixOf q)
-        → Filled cells (λ j. joinFlag (j / joinColumns (matrixOf q), j % joinColumns (matrixOf q))) k
-        → Gives (value 1 1 k cells) (valueBinary join (matrixOf p) (matrixOf q))
-    unfolding joinFlag
+    join-set : (p.arity + q.arity ≡ 4 → ⊥) → k ≡ p.rows * join_columns (matrix_of q)
+        → Filled cells (λ j. join_flag (j / join_columns (matrix_of q), j % join_columns (matrix_of q))) k
+        → Gives (value 1 1 k cells) (value_binary join (matrix_of p) (matrix_of q))
+    unfolding join_flag
     join-set s e u =
-        let c : ℕ = joinColumns (matrixOf q) in
-        let f : ℕ → Bool = λ j. joinFlag (j / c, j % c) in
+        let c : ℕ = join_columns (matrix_of q) in
+        let f : ℕ → Bool = λ j. join_flag (j / c, j % c) in
         let w : Filled cells f (p.rows * c) = subst (λ (m : ℕ). Filled cells f m) e u in
         rw (ne_eqb (p.arity + q.arity) 4 s, e)
-        (gives_set (p.rows * c) cells f (joinCells (matrixOf p) (matrixOf q)) (join-small s) w
-        (filled-places cells p.rows c joinFlag w (square fp.few-rows join-narrow)))
+        (gives_set (p.rows * c) cells f (join_cells (matrix_of p) (matrix_of q)) (join-small s) w
+        (filled-places cells p.rows c join_flag w (square fp.few_rows join-narrow)))
 
-    pub join-law : (c : ℕ) → c ≡ joinColumns (matrixOf q) → k ≡ p.rows * c
-        → Filled cells (λ j. any both (middles false (matrixOf p) (matrixOf q) (j / c, j % c))) k
-        → ((p.arity + q.arity ≡ 4 → Gives (value 2 p.rows c cells) (valueBinary join (matrixOf p) (matrixOf q)))
-        × ((p.arity + q.arity ≡ 4 → ⊥) → Gives (value 1 1 k cells) (valueBinary join (matrixOf p) (matrixOf q))))
-    unfolding joinFlag
+    pub join-law : (c : ℕ) → c ≡ join_columns (matrix_of q) → k ≡ p.rows * c
+        → Filled cells (λ j. any both (middles false (matrix_of p) (matrix_of q) (j / c, j % c))) k
+        → ((p.arity + q.arity ≡ 4 → Gives (value 2 p.rows c cells) (value_binary join (matrix_of p) (matrix_of q)))
+        × ((p.arity + q.arity ≡ 4 → ⊥) → Gives (value 1 1 k cells) (value_binary join (matrix_of p) (matrix_of q))))
+    unfolding join_flag
     join-law c ec e u =
         subst
         (λ (x : ℕ).
-        k ≡ p.rows * x → Filled cells (λ j. any both (middles false (matrixOf p) (matrixOf q) (j / x, j % x))) k
-        → ((p.arity + q.arity ≡ 4 → Gives (value 2 p.rows x cells) (valueBinary join (matrixOf p) (matrixOf q)))
-        × ((p.arity + q.arity ≡ 4 → ⊥) → Gives (value 1 1 k cells) (valueBinary join (matrixOf p) (matrixOf q)))))
+        k ≡ p.rows * x → Filled cells (λ j. any both (middles false (matrix_of p) (matrix_of q) (j / x, j % x))) k
+        → ((p.arity + q.arity ≡ 4 → Gives (value 2 p.rows x cells) (value_binary join (matrix_of p) (matrix_of q)))
+        × ((p.arity + q.arity ≡ 4 → ⊥) → Gives (value 1 1 k cells) (value_binary join (matrix_of p) (matrix_of q)))))
         (sym ec)
         (λ d w. ((λ s. join-relation s d w), λ s. join-set s d w))
         e u
 
   -- ---- 2.2.3 product
-  crossed-cells : crossed false (matrixOf p) (matrixOf q)
+  crossed-cells : crossed false (matrix_of p) (matrix_of q)
       ≡ map {B = Bool × Bool} (λ (t : Place). (get_or p.cells t.0 false, get_or q.cells t.1 false))
       (places p.columns q.columns)
   crossed-cells =
@@ -197,23 +197,23 @@ module _ (p q : Value) (fp : Fine p) (fq : Fine q) where
 
   pub product_law : (cells : List Bool) (k : ℕ) → k ≡ p.columns * q.columns
       → Filled cells (λ j. both (get_or p.cells (j / q.columns) false, get_or q.cells (j % q.columns) false)) k
-      → Gives (value 2 p.columns q.columns cells) (valueBinary product (matrixOf p) (matrixOf q))
+      → Gives (value 2 p.columns q.columns cells) (value_binary product (matrix_of p) (matrix_of q))
   product_law cells k e u =
       let r : ℕ = p.columns in
       let c : ℕ = q.columns in
       let pair : Place → Bool × Bool = λ t. (get_or p.cells t.0 false, get_or q.cells t.1 false) in
-      let same : map (λ (t : Place). both (pair t)) (places r c) ≡ map both (crossed false (matrixOf p) (matrixOf q))
+      let same : map (λ (t : Place). both (pair t)) (places r c) ≡ map both (crossed false (matrix_of p) (matrix_of q))
       = sym (map-map both pair (places r c)) ∙ ap (map both) (sym crossed-cells) in
-      subst (λ (l : List Bool). Gives (value 2 r c cells) (relationOf r c l)) same
-      (places-law r c (λ t. both (pair t)) cells k e fp.few-columns fq.few-columns u)
+      subst (λ (l : List Bool). Gives (value 2 r c cells) (relation_of r c l)) same
+      (places-law r c (λ t. both (pair t)) cells k e fp.few_columns fq.few_columns u)
 
 -- ---- 2.2.4 inverse
 pub inverse-law : (p : Value) → Fine p → (cells : List Bool) (k : ℕ) → k ≡ p.columns * p.rows
     → Filled cells (λ j. get_or p.cells (j % p.rows * p.columns + j / p.rows) false) k
-    → Gives (value 2 p.columns p.rows cells) (valueUnary inverse (matrixOf p))
+    → Gives (value 2 p.columns p.rows cells) (value_unary inverse (matrix_of p))
 inverse-law p fp cells k e u =
     let r : ℕ = p.columns in
     let c : ℕ = p.rows in
     let same = ap (λ (x : ℕ → Bool). map (λ (t : Place). x (t.1 * r + t.0)) (places r c)) (cells_of p fp) in
-    subst (λ (l : List Bool). Gives (value 2 r c cells) (relationOf r c l)) (sym same)
-    (places-law r c (λ t. get_or p.cells (t.1 * r + t.0) false) cells k e fp.few-columns fp.few-rows u)
+    subst (λ (l : List Bool). Gives (value 2 r c cells) (relation_of r c l)) (sym same)
+    (places-law r c (λ t. get_or p.cells (t.1 * r + t.0) false) cells k e fp.few_columns fp.few_rows u)

@@ -9,15 +9,15 @@ use Rattle.instance_matrix.specs.declared.flags.Pairing.{Pairing}
 use Rattle.instance_matrix.specs.declared.flags.Pairing.TheVariants.{Either, Both, Without, Implies, Same}
 
 -- the first rows * columns cells are the matrix
-abbrev pub matrixOf : Value → Matrix Bool
-matrixOf v = record { arity = v.arity; rows = v.rows; columns = v.columns; cells = take (v.rows * v.columns) v.cells }
+abbrev pub matrix_of : Value → Matrix Bool
+matrix_of v = record { arity = v.arity; rows = v.rows; columns = v.columns; cells = take (v.rows * v.columns) v.cells }
 
 abbrev pub sized : ℕ → ℕ → ℕ → List Bool → Matrix Bool
 sized arity rows columns cells = record { arity = arity; rows = rows; columns = columns; cells = cells }
 
 -- the bytes of an instance that are 1, from a cell on
-abbrev pub flagsFrom : List ℕ → ℕ → ℕ → List Bool
-flagsFrom instance first n = map (λ (i : ℕ). eqb (byte instance i) 1) (from first n)
+abbrev pub flags_from : List ℕ → ℕ → ℕ → List Bool
+flags_from instance first n = map (λ (i : ℕ). eqb (byte instance i) 1) (from first n)
 
 -- a set is a single row
 abbrev pub SetOrRelation : ℕ → ℕ → Type 0
@@ -25,16 +25,16 @@ SetOrRelation arity rows = ((arity ≡ 1) × (rows ≡ 1)) ⊎ (arity ≡ 2)
 
 -- scopes are at most 8; what lies past the matrix is false
 pub record Fine (v : Value) : Type 0 where
-  pub few-rows : v.rows ≤ 8
-  pub few-columns : v.columns ≤ 8
-  pub set-or-relation : SetOrRelation v.arity v.rows
+  pub few_rows : v.rows ≤ 8
+  pub few_columns : v.columns ≤ 8
+  pub set_or_relation : SetOrRelation v.arity v.rows
   pub long : length v.cells ≡ 64
   pub rest : (k : ℕ) → v.rows * v.columns ≤ k → get_or v.cells k false ≡ false
 
 -- a value stands for a matrix
 pub record Gives (v : Value) (m : Matrix Bool) : Type 0 where
   pub fine : Fine v
-  pub is : matrixOf v ≡ m
+  pub is : matrix_of v ≡ m
 
 -- what two flags make
 abbrev pub paired : Pairing → Bool × Bool → Bool

@@ -1,9 +1,9 @@
 // 2.2.1 Basic expressions: what a relation, a variable, a sort and an identity stand for; union, intersection, difference.
 ghost use Rattle.std.specs.Prelude.{◌≡◌, Bool, true, false, cond, map, ℕ, ◌*◌, ◌≤◌, eqb};
-ghost use Rattle.relational.specs.Cells.{mostCells};
+ghost use Rattle.relational.specs.Cells.{most_cells};
 ghost use Rattle.relational.specs.Matrices as matrices;
-ghost use Rattle.relational.specs.Matrices.{setOf, relationOf, upto, places, Place};
-ghost use Rattle.instance_matrix.specs.Values.{matrixOf, Fine, Gives, SetOrRelation, sized, flagsFrom, paired};
+ghost use Rattle.relational.specs.Matrices.{set_of, relation_of, upto, places, Place};
+ghost use Rattle.instance_matrix.specs.Values.{matrix_of, Fine, Gives, SetOrRelation, sized, flags_from, paired};
 
 use super::flags::{Pairing, pair};
 use super::{Value, size};
@@ -12,9 +12,9 @@ use sheet::bytes::byte;
 
 // Kind 1, a relation, or a row of one: its cells from the first on, true where the byte is 1.
 pub fn given(instance: &[u8], first: usize, arity: usize, rows: usize, columns: usize) -> Value
-    requires first_le_most_cells { (first ≤ mostCells) × ((rows ≤ 8) × (columns ≤ 8)) }
+    requires first_le_most_cells { (first ≤ most_cells) × ((rows ≤ 8) × (columns ≤ 8)) }
     requires set_or_relation { SetOrRelation arity rows }
-    ensures { Gives result (sized arity rows columns (flagsFrom instance.now first (rows * columns))) }
+    ensures { Gives result (sized arity rows columns (flags_from instance.now first (rows * columns))) }
 {
     let n = size(rows, columns);
     let mut cells = [false; 64];
@@ -34,7 +34,7 @@ pub fn given(instance: &[u8], first: usize, arity: usize, rows: usize, columns: 
 // Kind 2, a variable: one atom of a sort of n.
 pub fn single(n: usize, atom: usize) -> Value
     requires { n ≤ 8 }
-    ensures { Gives result (setOf n (map (λ (i : ℕ). eqb i atom) (upto n))) }
+    ensures { Gives result (set_of n (map (λ (i : ℕ). eqb i atom) (upto n))) }
 {
     let mut cells = [false; 64];
     let mut k: usize = 0;
@@ -53,7 +53,7 @@ pub fn single(n: usize, atom: usize) -> Value
 // Kind 3, a sort of n that is not bounded: all its atoms. (Of a bounded one, `given` reads its membership cells.)
 pub fn full(n: usize) -> Value
     requires { n ≤ 8 }
-    ensures { Gives result (setOf n (map (λ (i : ℕ). true) (upto n))) }
+    ensures { Gives result (set_of n (map (λ (i : ℕ). true) (upto n))) }
 {
     let mut cells = [false; 64];
     let mut k: usize = 0;
@@ -72,8 +72,8 @@ pub fn full(n: usize) -> Value
 // Kind 4: the identity on the atoms of a set.
 pub fn identity(p: Value) -> Value
     requires { Fine p }
-    ensures { (n : ℕ) (f : ℕ → Bool) → matrixOf p ≡ setOf n (map f (upto n))
-        → Gives result (relationOf n n (map (λ (t : Place). cond (eqb t.0 t.1) (f t.0) false) (places n n))) }
+    ensures { (n : ℕ) (f : ℕ → Bool) → matrix_of p ≡ set_of n (map f (upto n))
+        → Gives result (relation_of n n (map (λ (t : Place). cond (eqb t.0 t.1) (f t.0) false) (places n n))) }
 {
     let n = p.columns;
     let count = size(n, n);
@@ -95,7 +95,7 @@ pub fn identity(p: Value) -> Value
 pub(crate) fn matched(pairing: Pairing, p: Value, q: Value) -> Value
     requires fine { Fine p }
     requires fine_2 { Fine q }
-    ensures { Gives result (matrices.sameSize (matrixOf p) (map (paired pairing) (matrices.matched false (matrixOf p) (matrixOf q)))) }
+    ensures { Gives result (matrices.same_size (matrix_of p) (map (paired pairing) (matrices.matched false (matrix_of p) (matrix_of q)))) }
 {
     let n = size(p.rows, p.columns);
     let mut cells = [false; 64];

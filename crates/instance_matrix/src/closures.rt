@@ -1,7 +1,7 @@
 // 2.2.5 Transitive closure.
 ghost use Rattle.relational.specs.Trees as trees;
 ghost use Rattle.relational.specs.Evaluation as spec;
-ghost use Rattle.instance_matrix.specs.Values.{matrixOf, Fine, Gives};
+ghost use Rattle.instance_matrix.specs.Values.{matrix_of, Fine, Gives};
 
 use super::Value;
 use super::basic::matched;
@@ -12,7 +12,7 @@ use nodes::sizes::rounds;
 // "A round works out the whole join of the matrix with itself, then OR of the old and new cell."
 fn round(p: Value) -> Value
     requires { Fine p }
-    ensures { Gives result (spec.roundOf (matrixOf p)) }
+    ensures { Gives result (spec.round_of (matrix_of p)) }
 {
     matched(Pairing::Either, p, join(p, p))
 }
@@ -20,7 +20,7 @@ fn round(p: Value) -> Value
 // Kind 11: "as many rounds as the least k with 2^k at least n".
 pub(crate) fn closure(p: Value) -> Value
     requires { Fine p }
-    ensures { Gives result (spec.valueUnary trees.closure (matrixOf p)) }
+    ensures { Gives result (spec.value_unary trees.closure (matrix_of p)) }
 {
     let n = rounds(p.rows);
     let mut closed = p;

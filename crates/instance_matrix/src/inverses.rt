@@ -1,14 +1,14 @@
 // 2.2.4 Relational inverse.
 ghost use Rattle.relational.specs.Trees as trees;
 ghost use Rattle.relational.specs.Evaluation as spec;
-ghost use Rattle.instance_matrix.specs.Values.{matrixOf, Fine, Gives};
+ghost use Rattle.instance_matrix.specs.Values.{matrix_of, Fine, Gives};
 
 use super::{Value, index, size};
 
 // Kind 10: "Inverse transposes its operand's cells."
 pub(crate) fn inverse(p: Value) -> Value
     requires { Fine p }
-    ensures { Gives result (spec.valueUnary trees.inverse (matrixOf p)) }
+    ensures { Gives result (spec.value_unary trees.inverse (matrix_of p)) }
 {
     let n = size(p.columns, p.rows);
     let mut cells = [false; 64];

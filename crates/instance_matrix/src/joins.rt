@@ -4,7 +4,7 @@ ghost use Rattle.prelude.specs.Tests.{any};
 ghost use Rattle.relational.specs.Trees as trees;
 ghost use Rattle.relational.specs.Matrices as matrices;
 ghost use Rattle.relational.specs.Evaluation as spec;
-ghost use Rattle.instance_matrix.specs.Values.{matrixOf, Fine, Gives};
+ghost use Rattle.instance_matrix.specs.Values.{matrix_of, Fine, Gives};
 
 use super::{Value, index, size};
 use nodes::sizes::join_columns;
@@ -14,8 +14,8 @@ use prelude::{both, either};
 fn join_cell(p: Value, q: Value, columns: usize, i: usize, j: usize) -> bool
     requires fine { Fine p }
     requires fine_2 { Fine q }
-    requires columns_value { (columns ≡ matrices.joinColumns (matrixOf q)) × ((columns ≤ 8) × ((i < 8) × (j < columns))) }
-    ensures { result ≡ any spec.both (matrices.middles false (matrixOf p) (matrixOf q) (i, j)) }
+    requires columns_value { (columns ≡ matrices.join_columns (matrix_of q)) × ((columns ≤ 8) × ((i < 8) × (j < columns))) }
+    ensures { result ≡ any spec.both (matrices.middles false (matrix_of p) (matrix_of q) (i, j)) }
 {
     let mut found = false;
     let mut k: usize = 0;
@@ -32,7 +32,7 @@ fn join_cell(p: Value, q: Value, columns: usize, i: usize, j: usize) -> bool
 pub(crate) fn join(p: Value, q: Value) -> Value
     requires fine { Fine p }
     requires fine_2 { Fine q }
-    ensures { Gives result (spec.valueBinary trees.join (matrixOf p) (matrixOf q)) }
+    ensures { Gives result (spec.value_binary trees.join (matrix_of p) (matrix_of q)) }
 {
     let columns = join_columns(q.arity, q.columns);
     let n = size(p.rows, columns);

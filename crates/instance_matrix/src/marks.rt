@@ -2,7 +2,7 @@
 ghost use Rattle.std.specs.Prelude.{◌≡◌, List, ℕ};
 ghost use Rattle.sheet_rules.specs.Blocks.{Sheet};
 ghost use Rattle.relational.specs.Evaluation as spec;
-ghost use Rattle.instance_matrix.specs.Values.{matrixOf, Fine};
+ghost use Rattle.instance_matrix.specs.Values.{matrix_of, Fine};
 
 use super::Value;
 use super::flags::{Pairing, pair};
@@ -14,7 +14,7 @@ use prelude::both;
 pub fn row_holds(mark: usize, bound: bool, p: Value) -> bool
     requires { Fine p }
     ensures { (sheet : Sheet) (instance : List ℕ)
-        → result ≡ spec.rowHolds sheet instance mark bound (matrixOf p).cells }
+        → result ≡ spec.row_holds sheet instance mark bound (matrix_of p).cells }
 {
     let n = count(p);
     match mark {

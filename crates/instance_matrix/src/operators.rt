@@ -2,7 +2,7 @@
 ghost use Rattle.std.specs.Prelude.{◌≡◌};
 ghost use Rattle.relational.specs.Trees.{Binary, Unary, binary-symbol, unary-symbol, symbol_of};
 ghost use Rattle.relational.specs.Evaluation as spec;
-ghost use Rattle.instance_matrix.specs.Values.{matrixOf, Fine, Gives};
+ghost use Rattle.instance_matrix.specs.Values.{matrix_of, Fine, Gives};
 
 use super::Value;
 use super::basic::matched;
@@ -16,7 +16,7 @@ use super::products::product;
 pub fn binary(kind: usize, p: Value, q: Value) -> Value
     requires fine { Fine p }
     requires fine_2 { Fine q }
-    ensures { (o : Binary) → symbol_of kind ≡ binary-symbol o → Gives result (spec.valueBinary o (matrixOf p) (matrixOf q)) }
+    ensures { (o : Binary) → symbol_of kind ≡ binary-symbol o → Gives result (spec.value_binary o (matrix_of p) (matrix_of q)) }
 {
     match kind {
         // 2.2.1
@@ -33,7 +33,7 @@ pub fn binary(kind: usize, p: Value, q: Value) -> Value
 // Kinds 10 and 11: inverse, closure.
 pub fn unary(kind: usize, p: Value) -> Value
     requires { Fine p }
-    ensures { (o : Unary) → symbol_of kind ≡ unary-symbol o → Gives result (spec.valueUnary o (matrixOf p)) }
+    ensures { (o : Unary) → symbol_of kind ≡ unary-symbol o → Gives result (spec.value_unary o (matrix_of p)) }
 {
     match kind {
         // 2.2.4

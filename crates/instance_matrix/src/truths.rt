@@ -5,8 +5,8 @@ ghost use Rattle.relational.specs.Trees.{Comparison, Test, Connective, Quantifie
 ghost use Rattle.relational.specs.Trees.{comparison-symbol, test-symbol, connective-symbol, quantifier-symbol};
 ghost use Rattle.relational.specs.Matrices as matrices;
 ghost use Rattle.relational.specs.Evaluation as spec;
-ghost use Rattle.relational.specs.Evaluation.{truthConnective};
-ghost use Rattle.instance_matrix.specs.Values.{matrixOf, Fine, counted, paired};
+ghost use Rattle.relational.specs.Evaluation.{truth_connective};
+ghost use Rattle.instance_matrix.specs.Values.{matrix_of, Fine, counted, paired};
 
 use super::basic::matched;
 use super::flags::{Pairing, pair};
@@ -17,7 +17,7 @@ use prelude::both;
 fn all_matched(pairing: Pairing, p: Value, q: Value) -> bool
     requires fine { Fine p }
     requires fine_2 { Fine q }
-    ensures { result ≡ all (paired pairing) (matrices.matched false (matrixOf p) (matrixOf q)) }
+    ensures { result ≡ all (paired pairing) (matrices.matched false (matrix_of p) (matrix_of q)) }
 {
     let n = size(p.rows, p.columns);
     let mut fine = true;
@@ -33,7 +33,7 @@ fn all_matched(pairing: Pairing, p: Value, q: Value) -> bool
 pub fn compare(kind: usize, p: Value, q: Value) -> bool
     requires fine { Fine p }
     requires fine_2 { Fine q }
-    ensures { (o : Comparison) → symbol_of kind ≡ comparison-symbol o → result ≡ spec.truthComparison o (matrixOf p) (matrixOf q) }
+    ensures { (o : Comparison) → symbol_of kind ≡ comparison-symbol o → result ≡ spec.truth_comparison o (matrix_of p) (matrix_of q) }
 {
     match kind {
         20 => all_matched(Pairing::Same, p, q),
@@ -52,7 +52,7 @@ fn add_flag(n: usize, flag: bool) -> usize
 // How many cells are true.
 pub(crate) fn count(p: Value) -> usize
     requires { Fine p }
-    ensures { result ≡ spec.count (matrixOf p).cells }
+    ensures { result ≡ spec.count (matrix_of p).cells }
 {
     let n = size(p.rows, p.columns);
     let mut total: usize = 0;
@@ -67,7 +67,7 @@ pub(crate) fn count(p: Value) -> usize
 // Kinds 22 to 24: some, none, at most one.
 pub fn test(kind: usize, p: Value) -> bool
     requires { Fine p }
-    ensures { (o : Test) → symbol_of kind ≡ test-symbol o → result ≡ spec.truthTest o (matrixOf p).cells }
+    ensures { (o : Test) → symbol_of kind ≡ test-symbol o → result ≡ spec.truth_test o (matrix_of p).cells }
 {
     let n = count(p);
     match kind {
@@ -79,7 +79,7 @@ pub fn test(kind: usize, p: Value) -> bool
 
 // Kinds 31 to 34: and, or, implies, iff.
 pub fn connect(kind: usize, a: bool, b: bool) -> bool
-    ensures { (o : Connective) → symbol_of kind ≡ connective-symbol o → result ≡ truthConnective o a b }
+    ensures { (o : Connective) → symbol_of kind ≡ connective-symbol o → result ≡ truth_connective o a b }
 {
     match kind {
         31 => pair(Pairing::Both, a, b),
@@ -94,7 +94,7 @@ pub fn quantify(kind: usize, atoms: Value, bodies: Value) -> bool
     requires fine { Fine atoms }
     requires fine_2 { Fine bodies }
     ensures { (o : Quantifier) → symbol_of kind ≡ quantifier-symbol o
-        → result ≡ spec.truthQuantifier o (matrixOf atoms) (matrixOf bodies) }
+        → result ≡ spec.truth_quantifier o (matrix_of atoms) (matrix_of bodies) }
 {
     match kind {
         40 => all_matched(Pairing::Implies, atoms, bodies),

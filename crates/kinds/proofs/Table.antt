@@ -18,42 +18,42 @@ use Rattle.kinds.specs.declared.Rule.TheVariants.{Closure, Comprehension, Compar
 use Rattle.kinds.specs.declared.Row.{Row}
 use Rattle.kinds.specs.declared.Codes.{Codes}
 use Rattle.kinds.specs.Kinds.{row, kinds, lookup, row_of}
-use Rattle.kinds.specs.Codes.{field_at, ruleAt, table, codes_of}
+use Rattle.kinds.specs.Codes.{field_at, rule_at, table, codes_of}
 
 -- ---- fields and rules by number, so that a test can compare them
-abbrev fieldNumber : Field → ℕ
-fieldNumber Unused = 0
-fieldNumber Node = 1
-fieldNumber Relation = 2
-fieldNumber Variable = 3
-fieldNumber Sort = 4
+abbrev field_number : Field → ℕ
+field_number Unused = 0
+field_number Node = 1
+field_number Relation = 2
+field_number Variable = 3
+field_number Sort = 4
 
-field-at : (f : Field) → field_at (fieldNumber f) ≡ f
+field-at : (f : Field) → field_at (field_number f) ≡ f
 field-at Unused = refl
 field-at Node = refl
 field-at Relation = refl
 field-at Variable = refl
 field-at Sort = refl
 
-abbrev pub ruleNumber : Rule → ℕ
-ruleNumber Unknown = 0
-ruleNumber OfRelation = 1
-ruleNumber OfVariable = 2
-ruleNumber OfSort = 3
-ruleNumber OfIdentity = 4
-ruleNumber Same = 5
-ruleNumber Join = 6
-ruleNumber Product = 7
-ruleNumber Inverse = 8
-ruleNumber Closure = 9
-ruleNumber Comprehension = 10
-ruleNumber Comparison = 11
-ruleNumber Test = 12
-ruleNumber Negation = 13
-ruleNumber Connective = 14
-ruleNumber Quantifier = 15
+abbrev pub rule_number : Rule → ℕ
+rule_number Unknown = 0
+rule_number OfRelation = 1
+rule_number OfVariable = 2
+rule_number OfSort = 3
+rule_number OfIdentity = 4
+rule_number Same = 5
+rule_number Join = 6
+rule_number Product = 7
+rule_number Inverse = 8
+rule_number Closure = 9
+rule_number Comprehension = 10
+rule_number Comparison = 11
+rule_number Test = 12
+rule_number Negation = 13
+rule_number Connective = 14
+rule_number Quantifier = 15
 
-rule-at : (r : Rule) → ruleAt (ruleNumber r) ≡ r
+rule-at : (r : Rule) → rule_at (rule_number r) ≡ r
 rule-at Unknown = refl
 rule-at OfRelation = refl
 rule-at OfVariable = refl
@@ -71,22 +71,22 @@ rule-at Negation = refl
 rule-at Connective = refl
 rule-at Quantifier = refl
 
-same-field : (f g : Field) → eqb (fieldNumber f) (fieldNumber g) ≡ true → f ≡ g
-same-field f g e = sym (field-at f) ∙ ap field_at (eqb-true (fieldNumber f) (fieldNumber g) e) ∙ field-at g
+same-field : (f g : Field) → eqb (field_number f) (field_number g) ≡ true → f ≡ g
+same-field f g e = sym (field-at f) ∙ ap field_at (eqb-true (field_number f) (field_number g) e) ∙ field-at g
 
-pub same-rule : (r s : Rule) → eqb (ruleNumber r) (ruleNumber s) ≡ true → r ≡ s
-same-rule r s e = sym (rule-at r) ∙ ap ruleAt (eqb-true (ruleNumber r) (ruleNumber s) e) ∙ rule-at s
+pub same-rule : (r s : Rule) → eqb (rule_number r) (rule_number s) ≡ true → r ≡ s
+same-rule r s e = sym (rule-at r) ∙ ap rule_at (eqb-true (rule_number r) (rule_number s) e) ∙ rule-at s
 
-abbrev sameRow : Row → Row → Bool
-sameRow r s =
-    eqb (fieldNumber r.a) (fieldNumber s.a)
-    && (eqb (fieldNumber r.b) (fieldNumber s.b) && eqb (ruleNumber r.rule) (ruleNumber s.rule))
+abbrev same_row : Row → Row → Bool
+same_row r s =
+    eqb (field_number r.a) (field_number s.a)
+    && (eqb (field_number r.b) (field_number s.b) && eqb (rule_number r.rule) (rule_number s.rule))
 
-same_row : (r s : Row) → sameRow r s ≡ true → r ≡ s
-same_row r s e =
-    let a_test : Bool = eqb (fieldNumber r.a) (fieldNumber s.a) in
-    let b-test : Bool = eqb (fieldNumber r.b) (fieldNumber s.b) in
-    let rule-test : Bool = eqb (ruleNumber r.rule) (ruleNumber s.rule) in
+same_row_lem : (r s : Row) → same_row r s ≡ true → r ≡ s
+same_row_lem r s e =
+    let a_test : Bool = eqb (field_number r.a) (field_number s.a) in
+    let b-test : Bool = eqb (field_number r.b) (field_number s.b) in
+    let rule-test : Bool = eqb (rule_number r.rule) (rule_number s.rule) in
     let rest : b-test && rule-test ≡ true = and_right a_test (b-test && rule-test) e in
     let at_a : r.a ≡ s.a = same-field r.a s.a (and_left a_test (b-test && rule-test) e) in
     let at_b : r.b ≡ s.b = same-field r.b s.b (and_left b-test rule-test rest) in
@@ -95,15 +95,15 @@ same_row r s e =
 
 -- ---- the table
 abbrev pub row_by : ℕ → Row
-row_by kind = row (field_at (codes_of kind).0) (field_at (codes_of kind).1) (ruleAt (codes_of kind).2)
+row_by kind = row (field_at (codes_of kind).0) (field_at (codes_of kind).1) (rule_at (codes_of kind).2)
 
 row_at : (kind : ℕ) → kind < 42 → row_by kind ≡ row_of kind
 unfolding table row_of each
-row_at kind h = same_row (row_by kind) (row_of kind) (each_at (λ k. sameRow (row_by k) (row_of k)) 42 refl kind h)
+row_at kind h = same_row_lem (row_by kind) (row_of kind) (each_at (λ k. same_row (row_by k) (row_of k)) 42 refl kind h)
 
 -- the row that stands for the numbers of the table
 pub row_from : (kind : ℕ) (k : Codes) (a b : Field) (r : Rule) → kind < 42
-    → k ≡ codes_of kind → a ≡ field_at k.0 → b ≡ field_at k.1 → r ≡ ruleAt k.2 → row a b r ≡ row_of kind
+    → k ≡ codes_of kind → a ≡ field_at k.0 → b ≡ field_at k.1 → r ≡ rule_at k.2 → row a b r ≡ row_of kind
 row_from kind k a b r h ek ea eb er = rw (ea, eb, er, ek) (row_at kind h)
 
 past_all : (n kind : ℕ) (rs : List (ℕ × Row)) → all (λ r. ltb r.0 n) rs ≡ true → n ≤ kind

@@ -8,19 +8,19 @@ use Rattle.kinds.specs.declared.Rule.{Rule}
 use Rattle.kinds.specs.declared.Rule.TheVariants.{Unknown, OfRelation, OfVariable, OfSort, OfIdentity, Same, Join, Product, Inverse}
 use Rattle.kinds.specs.declared.Rule.TheVariants.{Closure, Comprehension, Comparison, Test, Negation, Connective, Quantifier}
 
-abbrev pub namedFields : List Field
-namedFields = Node ∷ Relation ∷ Variable ∷ Sort ∷ []
+abbrev pub named_fields : List Field
+named_fields = Node ∷ Relation ∷ Variable ∷ Sort ∷ []
 
 abbrev pub field_at : ℕ → Field
-field_at n = get_or (Unused ∷ namedFields) n Unused
+field_at n = get_or (Unused ∷ named_fields) n Unused
 
-abbrev pub knownRules : List Rule
-knownRules =
+abbrev pub known_rules : List Rule
+known_rules =
     OfRelation ∷ OfVariable ∷ OfSort ∷ OfIdentity ∷ Same ∷ Join ∷ Product ∷ Inverse ∷ Closure ∷ Comprehension ∷ Comparison ∷ Test ∷
     Negation ∷ Connective ∷ Quantifier ∷ []
 
-abbrev pub ruleAt : ℕ → Rule
-ruleAt n = get_or (Unknown ∷ knownRules) n Unknown
+abbrev pub rule_at : ℕ → Rule
+rule_at n = get_or (Unknown ∷ known_rules) n Unknown
 
 abbrev pub codes : ℕ → ℕ → ℕ → Codes
 codes a b rule = record { 0 = a; 1 = b; 2 = rule }

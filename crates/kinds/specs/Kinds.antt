@@ -46,20 +46,20 @@ lookup kind (r ∷ rs) = cond (eqb kind r.0) r.1 (lookup kind rs)
 unfoldable pub row_of : ℕ → Row
 row_of kind = lookup kind kinds
 
-abbrev pub isKnown : Rule → Bool
-isKnown Unknown = false
-isKnown OfRelation = true
-isKnown OfVariable = true
-isKnown OfSort = true
-isKnown OfIdentity = true
-isKnown Same = true
-isKnown Join = true
-isKnown Product = true
-isKnown Inverse = true
-isKnown Closure = true
-isKnown Comprehension = true
-isKnown Comparison = true
-isKnown Test = true
-isKnown Negation = true
-isKnown Connective = true
-isKnown Quantifier = true
+abbrev pub is_known : Rule → Bool
+is_known Unknown = false
+is_known OfRelation = true
+is_known OfVariable = true
+is_known OfSort = true
+is_known OfIdentity = true
+is_known Same = true
+is_known Join = true
+is_known Product = true
+is_known Inverse = true
+is_known Closure = true
+is_known Comprehension = true
+is_known Comparison = true
+is_known Test = true
+is_known Negation = true
+is_known Connective = true
+is_known Quantifier = true

@@ -1,7 +1,7 @@
 // "Each kind has one row in a constant table: which fields are nodes, and what shapes it takes."
 ghost use Rattle.std.specs.Prelude.{◌≡◌, ◌<◌};
-ghost use Rattle.kinds.specs.Kinds.{isKnown, row_of};
-ghost use Rattle.kinds.specs.Codes.{field_at, ruleAt, codes_of};
+ghost use Rattle.kinds.specs.Kinds.{is_known, row_of};
+ghost use Rattle.kinds.specs.Codes.{field_at, rule_at, codes_of};
 
 // What a field of a node names.
 #[derive(Drop)]
@@ -147,7 +147,7 @@ fn field_of(code: u8) -> Field
 }
 
 fn rule_by(code: u8) -> Rule
-    ensures { result ≡ ruleAt code }
+    ensures { result ≡ rule_at code }
 {
     match code {
         OF_RELATION => Rule::OfRelation,
@@ -208,7 +208,7 @@ pub fn rule_of(kind: usize) -> Rule
 
 // Whether a rule is one of a known kind.
 pub fn is_known(rule: Rule) -> bool
-    ensures { result ≡ isKnown rule }
+    ensures { result ≡ is_known rule }
 {
     match rule {
         Rule::Unknown => false,

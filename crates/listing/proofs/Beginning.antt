@@ -11,19 +11,19 @@ use lib.ListN.{length, take, drop, length-append}
 use borrow.Author.Tests.{leb-true, leb-false, le-leb, lt-leb}
 use Rattle.prelude.proofs.Laws.{decided}
 use Rattle.text.specs.Puts.{Put}
-use Rattle.text.specs.Texts.{bytes_of, endLine, Prints}
+use Rattle.text.specs.Texts.{bytes_of, end_line, Prints}
 use Rattle.text.proofs.Puts.{prints, counts}
-use Rattle.sheet_rules.specs.Blocks.{sheetOf}
-use Rattle.clauses_rules.specs.Whole.{words, wordTotal}
+use Rattle.sheet_rules.specs.Blocks.{sheet_of}
+use Rattle.clauses_rules.specs.Whole.{words, word_total}
 use Rattle.clauses.specs.declared.answer.Size.{Size}
-use Rattle.clauses.specs.Answers.{Answer, fits, refused, countAnswer, writeAnswer, listAfter}
+use Rattle.clauses.specs.Answers.{Answer, fits, refused, count_answer, write_answer, list_after}
 use Rattle.clauses.proofs.Answered.{count_fits, write-fits}
 use Rattle.listing.specs.declared.answer.Begun.{Begun}
 use Rattle.listing.specs.declared.answer.Begun.TheVariants.{Refused, Cases}
-use Rattle.listing.specs.Printed.{asFinder, beginning, listBegun, begunText, begunOf, bytesIn}
+use Rattle.listing.specs.Printed.{as_finder, beginning, list_begun, begun_text, begun_of, bytes_in}
 
 -- the numbers of an answer
-pub sized : (a : Answer) (size : Size) → Cases size ≡ begunOf a
+pub sized : (a : Answer) (size : Size) → Cases size ≡ begun_of a
     → a ≡ fits size.variables size.clauses size.words
 sized (refused n) size e = absurd (let z : ◌≡◌ {A = ℕ} 0 1 = cc in omega arith)
 sized (fits v c w) size e =
@@ -35,16 +35,16 @@ module _ (input : List ℕ) (list : List ℤ) where
   unfolding beginning
   long-refused h = rw (lt-leb (length input) 4096 h)
 
-  pub long-list : 4096 < length input → listBegun input list ≡ list
-  unfolding listBegun
+  pub long-list : 4096 < length input → list_begun input list ≡ list
+  unfolding list_begun
   long-list h = rw (lt-leb (length input) 4096 h)
 
-  pub short-writes : length input ≤ 4096 → beginning input list ≡ asFinder (countAnswer input) (writeAnswer input list)
+  pub short-writes : length input ≤ 4096 → beginning input list ≡ as_finder (count_answer input) (write_answer input list)
   unfolding beginning
   short-writes h = rw (le-leb (length input) 4096 h)
 
-  pub short-list : length input ≤ 4096 → listBegun input list ≡ listAfter input list
-  unfolding listBegun
+  pub short-list : length input ≤ 4096 → list_begun input list ≡ list_after input list
+  unfolding list_begun
   short-list h = rw (le-leb (length input) 4096 h)
 
   -- it begins where the input is short and writing answers with numbers
@@ -58,34 +58,34 @@ module _ (input : List ℕ) (list : List ℤ) where
         absurd (omega arith))
         (decided (leb (length input) 4096))
 
-    pub begun-writes : writeAnswer input list ≡ fits v c w
-    begun-writes = by (writeAnswer input list) (sym (short-writes begun-short) ∙ e)
+    pub begun-writes : write_answer input list ≡ fits v c w
+    begun-writes = by (write_answer input list) (sym (short-writes begun-short) ∙ e)
       where
-        by : (a : Answer) → asFinder (countAnswer input) a ≡ fits v c w → a ≡ fits v c w
+        by : (a : Answer) → as_finder (count_answer input) a ≡ fits v c w → a ≡ fits v c w
         by (refused n) d = absurd (let z : ◌≡◌ {A = ℕ} 0 1 = cc in omega arith)
         by (fits v' c' w') d = d
 
     -- the words are in the list, and the variables are within the limit
-    begun-fits : (w ≤ length (listBegun input list)) × (v ≤ 16000)
+    begun-fits : (w ≤ length (list_begun input list)) × (v ≤ 16000)
     begun-fits =
         let l = write-fits input list v c w begun-writes in
         let d = count_fits input v c w l.counted in
         let k = ap length (short-list begun-short ∙ l.list) in (
-          omega (arith, d.words, k, length-append (words (sheetOf input)) (drop (wordTotal (sheetOf input)) list)),
+          omega (arith, d.words, k, length-append (words (sheet_of input)) (drop (word_total (sheet_of input)) list)),
           omega (arith, d.variables, d.small),
         )
 
-  pub cases_fit : (size : Size) → Cases size ≡ begunOf (beginning input list)
-      → (size.words ≤ length (listBegun input list)) × (size.variables ≤ 16000)
+  pub cases_fit : (size : Size) → Cases size ≡ begun_of (beginning input list)
+      → (size.words ≤ length (list_begun input list)) × (size.variables ≤ 16000)
   cases_fit size e = begun-fits size.variables size.clauses size.words (sized (beginning input list) size e)
 
 -- what is ensured of an answer, but for the list
 abbrev Begins : Answer → Begun → (before after : List ℕ) → Type 0
 Begins a r before after =
-    (r ≡ begunOf a)
-    × (((bytesIn r ≤ length after) × (bytesIn r ≡ length (take (bytesIn r) after))) × Prints (begunText a) before after (bytesIn r))
+    (r ≡ begun_of a)
+    × (((bytes_in r ≤ length after) × (bytes_in r ≡ length (take (bytes_in r) after))) × Prints (begun_text a) before after (bytes_in r))
 
-refused-is : (n : ℕ) {before after : List ℕ} {end : ℕ} → Put before 0 (endLine (bytes_of "refused ") n) after end → end ≤ length before
+refused-is : (n : ℕ) {before after : List ℕ} {end : ℕ} → Put before 0 (end_line (bytes_of "refused ") n) after end → end ≤ length before
     → Begins (refused n) (Refused end) before after
 refused-is n p l = (ap Refused (p.ends ∙ zero-add _), (counts p l, prints p l))
 
@@ -93,7 +93,7 @@ cases-are : (size : Size) (text : List ℕ) → Begins (fits size.variables size
 cases-are size text = (refl, ((omega arith, refl), record { ends = refl; stands = refl }))
 
 pub begins-refused : (a : Answer) (n : ℕ) → a ≡ refused n → {before after : List ℕ} {end : ℕ}
-    → Put before 0 (endLine (bytes_of "refused ") n) after end → end ≤ length before → Begins a (Refused end) before after
+    → Put before 0 (end_line (bytes_of "refused ") n) after end → end ≤ length before → Begins a (Refused end) before after
 begins-refused a n e {before} {after} {end} p l = subst (λ (x : Answer). Begins x (Refused end) before after) (sym e) (refused-is n p l)
 
 pub begins_cases : (a : Answer) (size : Size) → a ≡ fits size.variables size.clauses size.words → (text : List ℕ)

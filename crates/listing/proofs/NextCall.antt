@@ -10,23 +10,23 @@ use lib.ListN.{length, take}
 use Rattle.text.specs.Puts.{Put}
 use Rattle.text.specs.Texts.{Prints}
 use Rattle.text.proofs.Puts.{put_as, prints, counts}
-use Rattle.sheet_rules.specs.Blocks.{sheetOf}
+use Rattle.sheet_rules.specs.Blocks.{sheet_of}
 use Rattle.sheet_rules.specs.Reading.{reading}
 use Rattle.search_rules.specs.declared.Steps.{Steps}
 use Rattle.search_rules.specs.declared.Position.{Position}
 use Rattle.search_rules.specs.Run.{total}
-use Rattle.search_rules.specs.Held.{stepLimit}
-use Rattle.search.specs.Answers.{Answer, found, none, spent, refused, stepsIn}
+use Rattle.search_rules.specs.Held.{step_limit}
+use Rattle.search.specs.Answers.{Answer, found, none, spent, refused, steps_in}
 use Rattle.search.specs.Resumed.{Resumption, left}
-use Rattle.search.specs.Following.{followedRun, following}
+use Rattle.search.specs.Following.{followed_run, following}
 use Rattle.search.proofs.Counters.{followed-limit}
 use Rattle.search.proofs.ResumedCalls.{answered}
-use Rattle.solve_rules.specs.Finding.{instanceFor}
+use Rattle.solve_rules.specs.Finding.{instance_for}
 use Rattle.report.specs.Printed.{report, lines_of}
-use Rattle.listing.specs.Printed.{standing, isFound, Shown, shownOf, shown}
+use Rattle.listing.specs.Printed.{standing, is_found, Shown, shown_of, shown}
 
 -- an answer that is not "found"
-pub found-not : (a : Answer) → ((steps : Steps) → a ≡ found steps → ⊥) → false ≡ isFound a
+pub found-not : (a : Answer) → ((steps : Steps) → a ≡ found steps → ⊥) → false ≡ is_found a
 found-not (found steps) h = absurd (h steps refl)
 found-not (none steps) h = refl
 found-not (spent steps) h = refl
@@ -40,32 +40,32 @@ module _ (list : List ℤ) (v : ℕ) (values : List ℕ) (trail : List ℤ) (p :
   -- a call that found something had room for the values
   pub found-wide : (steps : Steps) → a ≡ found steps → v ≤ length values
   found-wide steps e =
-      (answered (followedRun list v) list v values trail p budget (found steps) (refused-not-found steps)
+      (answered (followed_run list v) list v values trail p budget (found steps) (refused-not-found steps)
       (sym (ap (λ (r : Resumption). r.outcome.answer) call) ∙ e)).0.wide
 
   -- its steps fit
-  pub steps-fit : (steps : Steps) → stepsIn a ≡ some steps → total steps ≤ stepLimit
+  pub steps-fit : (steps : Steps) → steps_in a ≡ some steps → total steps ≤ step_limit
   steps-fit steps e =
-      followed-limit list v values trail p budget steps (sym (ap (λ (r : Resumption). stepsIn r.outcome.answer) call) ∙ e)
+      followed-limit list v values trail p budget steps (sym (ap (λ (r : Resumption). steps_in r.outcome.answer) call) ∙ e)
 
   -- what is shown of it
-  module _ (input instance read : List ℕ) (reads : read ≡ instanceFor a input (take v vs) instance) where
+  module _ (input instance read : List ℕ) (reads : read ≡ instance_for a input (take v vs) instance) where
     abbrev is : Shown
     is = shown input list v (standing values trail p) budget instance
 
     -- the text of the answer with an instance
     abbrev text_of : List ℕ → List ℕ
-    text_of x = report a (lines_of (reading input) (sheetOf input) x)
+    text_of x = report a (lines_of (reading input) (sheet_of input) x)
 
-    shown-is : record { text = text_of read; more = isFound a; left = standing vs ts q; instance = read } ≡ is
+    shown-is : record { text = text_of read; more = is_found a; left = standing vs ts q; instance = read } ≡ is
     unfolding shown
     shown-is =
-        ap (λ (x : List ℕ). record { text = text_of x; more = isFound a; left = standing vs ts q; instance = x }) reads
-        ∙ ap (shownOf input v instance) call
+        ap (λ (x : List ℕ). record { text = text_of x; more = is_found a; left = standing vs ts q; instance = x }) reads
+        ∙ ap (shown_of input v instance) call
 
     pub ensured : {before after : List ℕ} {end : ℕ} {more : Bool}
         → Put before 0 (text_of read) after end → end ≤ length before
-        → more ≡ isFound a
+        → more ≡ is_found a
         → ((end ≤ length after) × (end ≡ length (take end after)))
         × (Prints is.text before after end × ((more ≡ is.more) × ((standing vs ts q ≡ is.left) × (read ≡ is.instance))))
     ensured e l m =

@@ -4,10 +4,10 @@ ghost use Rattle.text.specs.Texts.{Prints};
 ghost use Rattle.search.specs.Answers.{answer_of};
 ghost use Rattle.search.specs.Resumed.{left};
 ghost use Rattle.search.specs.Following.{following};
-ghost use Rattle.solve_rules.specs.Finding.{instanceFor};
+ghost use Rattle.solve_rules.specs.Finding.{instance_for};
 ghost use Rattle.refusal.specs.Refusals.{number_of};
-ghost use Rattle.clauses.specs.Answers.{countAnswer};
-ghost use Rattle.listing.specs.Printed.{finderNumber, beginning, listBegun, begunText, begunOf, bytesIn, standing, isFound, shown};
+ghost use Rattle.clauses.specs.Answers.{count_answer};
+ghost use Rattle.listing.specs.Printed.{finder_number, beginning, list_begun, begun_text, begun_of, bytes_in, standing, is_found, shown};
 
 use answer::{Begun, Piece};
 use cells::MOST_CELLS;
@@ -23,7 +23,7 @@ pub mod answer; // answer.rt: what the pieces of a listing answer
 
 // What the finder says of an input that writing refuses: more than 2^31 - 1 words come before a list that is too short.
 fn finder_refusal(input: &[u8], refused: Refusal) -> Refusal
-    ensures { number_of result ≡ finderNumber (countAnswer input.now) (number_of refused) }
+    ensures { number_of result ≡ finder_number (count_answer input.now) (number_of refused) }
 {
     let counted = clauses::count(input);
     match counted {
@@ -40,10 +40,10 @@ fn finder_refusal(input: &[u8], refused: Refusal) -> Refusal
 // Writes the clauses of an input to the list, with as many words as the finder has. A refusal is put to the front of the text, with the number
 // that the finder prints (`SameRefusals`).
 pub fn begin(input: &[u8], list: &mut [i32; 16384], text: &mut [u8; 2048]) -> Begun
-    ensures value { result ≡ begunOf (beginning input.now list.old) }
-    ensures list_after { list.new ≡ listBegun input.now list.old }
-    ensures result_in_bounds { (bytesIn result ≤ length text.new) × (bytesIn result ≡ length (take (bytesIn result) text.new)) }
-    ensures prints { Prints (begunText (beginning input.now list.old)) text.old text.new (bytesIn result) }
+    ensures value { result ≡ begun_of (beginning input.now list.old) }
+    ensures list_after { list.new ≡ list_begun input.now list.old }
+    ensures result_in_bounds { (bytes_in result ≤ length text.new) × (bytes_in result ≡ length (take (bytes_in result) text.new)) }
+    ensures prints { Prints (begun_text (beginning input.now list.old)) text.old text.new (bytes_in result) }
 {
     if input.len() > 4096 {
         return Begun::Refused(put_end(text, b"refused ", 2));
@@ -61,7 +61,7 @@ pub fn begin(input: &[u8], list: &mut [i32; 16384], text: &mut [u8; 2048]) -> Be
 
 // Whether a call found a case.
 fn is_found(answer: Search) -> bool
-    ensures { result ≡ isFound (answer_of answer) }
+    ensures { result ≡ is_found (answer_of answer) }
 {
     match answer {
         Search::Found(_) => true,
@@ -83,7 +83,7 @@ fn find_next(
     ensures position_after { left (answer_of result.answer) values.new trail.new result.position
         ≡ following list.now v values.old trail.old position budget }
     ensures instance_after { instance.new
-        ≡ instanceFor (answer_of result.answer) input.now (take v values.new) instance.old }
+        ≡ instance_for (answer_of result.answer) input.now (take v values.new) instance.old }
 {
     let call = followed(list, v, values, trail, position, budget);
     let answer = call.answer;

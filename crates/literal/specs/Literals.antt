@@ -15,12 +15,12 @@ opposite (positive v) = negative v
 opposite (negative v) = positive v
 
 -- two literals are the same
-abbrev pub isSame : Literal → Literal → Bool
-isSame (positive v) (positive w) = eqb v w
-isSame (positive v) (negative w) = false
-isSame (negative v) (positive w) = false
-isSame (negative v) (negative w) = eqb v w
+abbrev pub is_same : Literal → Literal → Bool
+is_same (positive v) (positive w) = eqb v w
+is_same (positive v) (negative w) = false
+is_same (negative v) (positive w) = false
+is_same (negative v) (negative w) = eqb v w
 
 -- a word is a literal of the variables 1 to v: not 0 and not beyond v
-abbrev pub isLiteral : ℕ → ℤ → Bool
-isLiteral v w = between 1 v (nat_abs w)
+abbrev pub is_literal : ℕ → ℤ → Bool
+is_literal v w = between 1 v (nat_abs w)

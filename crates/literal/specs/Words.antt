@@ -9,27 +9,27 @@ variable (positive v) = v
 variable (negative v) = v
 
 -- the literal that a word is (0 is none: it reads as a literal of variable 0)
-abbrev pub literalOf : ℤ → Literal
-literalOf (pos n) = positive n
-literalOf (negsuc n) = negative (suc n)
+abbrev pub literal_of : ℤ → Literal
+literal_of (pos n) = positive n
+literal_of (negsuc n) = negative (suc n)
 
 -- the last variable whose two literals are 32-bit numbers: the lowest number has no opposite, and is no literal
-abbrev pub lastVariable : ℕ
-lastVariable = 2147483647
+abbrev pub last_variable : ℕ
+last_variable = 2147483647
 
 -- a word says that its variable is true
-abbrev pub isPositive : ℤ → Bool
-isPositive (pos n) = ltb 0 n
-isPositive (negsuc n) = false
+abbrev pub is_positive : ℤ → Bool
+is_positive (pos n) = ltb 0 n
+is_positive (negsuc n) = false
 
 -- the opposite of a word; of the lowest number, which has none, 0
-abbrev pub oppositeWord : ℤ → ℤ
-oppositeWord (pos n) = neg_ℤ (pos n)
-oppositeWord (negsuc n) = cond (ltb n lastVariable) (pos (suc n)) (pos 0)
+abbrev pub opposite_word : ℤ → ℤ
+opposite_word (pos n) = neg_ℤ (pos n)
+opposite_word (negsuc n) = cond (ltb n last_variable) (pos (suc n)) (pos 0)
 
 -- the word that says that a variable is true; 0 where no word does
-abbrev pub positiveWord : ℕ → ℤ
-positiveWord v = cond (leb v lastVariable) (pos v) (pos 0)
+abbrev pub positive_word : ℕ → ℤ
+positive_word v = cond (leb v last_variable) (pos v) (pos 0)
 
 -- the count that a word gives: a word below 0 counts nothing
 abbrev pub count_of : ℤ → ℕ

@@ -1,14 +1,14 @@
 // 32-bit literals (document 01, "Clauses"): a word is negated, its sign tested and its width changed here alone.
 // A function that asks nothing takes every word, and sets the lowest number, which has no opposite, aside before any negation.
 ghost use Rattle.std.specs.Prelude.{◌≡◌, min, ◌-◌, ◌≤◌, pos, nat_abs};
-ghost use Rattle.literal.specs.Literals.{isLiteral};
-ghost use Rattle.literal.specs.Words.{isPositive, oppositeWord, positiveWord, count_of, lastVariable};
+ghost use Rattle.literal.specs.Literals.{is_literal};
+ghost use Rattle.literal.specs.Words.{is_positive, opposite_word, positive_word, count_of, last_variable};
 
 const LOWEST: i32 = -2147483648;
 
 // The opposite literal; 0 for the lowest number.
 pub fn opposite(l: i32) -> i32
-    ensures { result ≡ oppositeWord l }
+    ensures { result ≡ opposite_word l }
 {
     if l == LOWEST {
         return 0;
@@ -31,7 +31,7 @@ pub fn variable(l: i32) -> u32
 
 // The place of a literal's variable, counted from 0. The word is known to be a literal: nothing is tested.
 pub fn place(l: i32) -> usize
-    requires { (1 ≤ nat_abs l) × (nat_abs l ≤ lastVariable) }
+    requires { (1 ≤ nat_abs l) × (nat_abs l ≤ last_variable) }
     ensures { result ≡ nat_abs l - 1 }
 {
     if l < 0 {
@@ -42,14 +42,14 @@ pub fn place(l: i32) -> usize
 
 // Whether a literal says that its variable is true.
 pub fn is_positive(l: i32) -> bool
-    ensures { result ≡ isPositive l }
+    ensures { result ≡ is_positive l }
 {
     0 < l
 }
 
 // The literal that says that a variable is true; 0 for a variable that no word names.
 pub fn positive(v: u32) -> i32
-    ensures { result ≡ positiveWord v }
+    ensures { result ≡ positive_word v }
 {
     if 2147483647 < v {
         return 0;
@@ -77,7 +77,7 @@ pub fn known_count(w: i32) -> usize
 
 // Whether a word is a literal of the variables 1 to v. The lowest number is none, so v counts up to 2^31 - 1.
 pub fn is_literal(l: i32, v: u32) -> bool
-    ensures { result ≡ isLiteral (min v lastVariable) l }
+    ensures { result ≡ is_literal (min v last_variable) l }
 {
     if l == LOWEST {
         return false;

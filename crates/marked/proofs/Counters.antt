@@ -7,29 +7,29 @@ use lib.IntN.{pos}
 use lib.ListN.{length, replicate}
 use Rattle.prelude.specs.Tests.{each, all, any}
 use Rattle.text.specs.Texts.{bytes_of, digits, decimal}
-use Rattle.clause_list.specs.ClauseList.{cut, words_of, wellCut, isList}
+use Rattle.clause_list.specs.ClauseList.{cut, words_of, well_cut, is_list}
 use Rattle.kinds.specs.Kinds.{row_of}
 use Rattle.sheet_rules.specs.Tables as tables
-use Rattle.sheet_rules.specs.Tables.{shapeStep, freeStep, visitsStep}
-use Rattle.sheet_rules.specs.Reading.{counted, scoped, declared, nodesFine, shaped, rooted, walkable, reading}
-use Rattle.relational.specs.Trees.{symbol_of, treeStep}
-use Rattle.relational.specs.Cells.{firstMember, firstCell}
+use Rattle.sheet_rules.specs.Tables.{shape_step, free_step, visits_step}
+use Rattle.sheet_rules.specs.Reading.{counted, scoped, declared, nodes_fine, shaped, rooted, walkable, reading}
+use Rattle.relational.specs.Trees.{symbol_of, tree_step}
+use Rattle.relational.specs.Cells.{first_member, first_cell}
 use Rattle.clauses_rules.specs.Builder as builder
-use Rattle.clauses_rules.specs.Gates.{remaining, or, inputClauses, gatesClauses}
+use Rattle.clauses_rules.specs.Gates.{remaining, or, input_clauses, gates_clauses}
 use Rattle.clauses_rules.specs.Translation.{translate}
-use Rattle.clauses_rules.specs.Whole.{series, memberClauses, markClauses, rootWalk, clauses, words, variableTotal}
-use Rattle.clauses.specs.Answers.{countAnswer, writeAnswer, listAfter}
-use Rattle.search_rules.specs.Rules.{truth_of, negated, literal, isFalsified, isSatisfied, conflict, openOf, sameLiteral, only, unit_of}
-use Rattle.search_rules.specs.Rules.{firstUnit, lowestOpen, word_of, byte_of, place_of, values_of, trailOf, turn, decide, next}
+use Rattle.clauses_rules.specs.Whole.{series, member_clauses, mark_clauses, root_walk, clauses, words, variable_total}
+use Rattle.clauses.specs.Answers.{count_answer, write_answer, list_after}
+use Rattle.search_rules.specs.Rules.{truth_of, negated, literal, is_falsified, is_satisfied, conflict, open_of, same_literal, only, unit_of}
+use Rattle.search_rules.specs.Rules.{first_unit, lowest_open, word_of, byte_of, place_of, values_of, trail_of, turn, decide, next}
 use Rattle.search_rules.specs.Run.{tally, total, count, run}
-use Rattle.search.specs.Answers.{Answer, found, none, spent, answerAt, valuesAt, trailAt, outcome}
-use Rattle.solve_rules.specs.Answers.{readBackAnswer, instanceAfter}
+use Rattle.search.specs.Answers.{Answer, found, none, spent, answer_at, values_at, trail_at, outcome}
+use Rattle.solve_rules.specs.Answers.{read_back_answer, instance_after}
 use Rattle.solve_rules.specs.Finding.{Slices, slices, finding}
-use Rattle.report.specs.Printed.{relationLines, memberLines, findingText}
+use Rattle.report.specs.Printed.{relation_lines, member_lines, finding_text}
 
 -- two sets r and s over a sort of one atom, and nodes 0 to 3: r, some r, s, some s; then other nodes
-abbrev pub twoSets : List ℕ → List ℕ
-twoSets nodes =
+abbrev pub two_sets : List ℕ → List ℕ
+two_sets nodes =
     let all : List ℕ = 1 ∷ 0 ∷ 0 ∷ 22 ∷ 0 ∷ 0 ∷ 1 ∷ 1 ∷ 0 ∷ 22 ∷ 2 ∷ 0 ∷ nodes in
     1 ∷ 0 ∷ 1 ∷ 1 ∷ 0 ∷ 0 ∷ 0 ∷ 8 ∷ 1 ∷ 0 ∷ 0 ∷ 0 ∷ 1 ∷ 0 ∷ 0 ∷ 0 ∷ 0 ∷ length all ∷ all
 
@@ -39,12 +39,12 @@ either = 32 ∷ 1 ∷ 3 ∷ 30 ∷ 3 ∷ 0 ∷ 32 ∷ 1 ∷ 5 ∷ []
 
 -- both: with r false s is forced, and clashes
 abbrev both : List ℕ
-both = twoSets (either ++ 31 ∷ 4 ∷ 6 ∷ [])
+both = two_sets (either ++ 31 ∷ 4 ∷ 6 ∷ [])
 
 -- both, and "not r or s" and "not r or not s": no instance
 abbrev all-four : List ℕ
 all-four =
-    twoSets (either ++ 30 ∷ 1 ∷ 0 ∷ 32 ∷ 7 ∷ 3 ∷ 32 ∷ 7 ∷ 5 ∷ 31 ∷ 4 ∷ 6 ∷ 31 ∷ 8 ∷ 9 ∷ 31 ∷ 10 ∷ 11 ∷ [])
+    two_sets (either ++ 30 ∷ 1 ∷ 0 ∷ 32 ∷ 7 ∷ 3 ∷ 32 ∷ 7 ∷ 5 ∷ 31 ∷ 4 ∷ 6 ∷ 31 ∷ 8 ∷ 9 ∷ 31 ∷ 10 ∷ 11 ∷ [])
 
 record Row : Type 0 where
   sheet : List ℕ
@@ -71,13 +71,13 @@ record Shown : Type 0 where
   text : List ℕ
 
 abbrev shown : Row → Shown
-shown row = record { answer = (finding row.sheet lent row.budget).answer; text = findingText row.budget row.sheet lent }
+shown row = record { answer = (finding row.sheet lent row.budget).answer; text = finding_text row.budget row.sheet lent }
 
 pub counters : map shown rows ≡ map (λ row. record { answer = row.answer; text = bytes_of row.prints }) rows
-unfolding digits decimal row_of each all any tables.table shapeStep freeStep visitsStep counted scoped declared nodesFine shaped rooted walkable
-    reading symbol_of treeStep firstMember firstCell builder.each remaining or inputClauses gatesClauses translate series
-    memberClauses markClauses rootWalk clauses words
-    words_of variableTotal countAnswer writeAnswer listAfter cut wellCut isList truth_of negated literal isFalsified isSatisfied conflict openOf
-    sameLiteral only unit_of firstUnit lowestOpen word_of byte_of place_of values_of trailOf turn decide next total count run answerAt valuesAt
-    trailAt outcome readBackAnswer instanceAfter finding relationLines memberLines findingText
+unfolding digits decimal row_of each all any tables.table shape_step free_step visits_step counted scoped declared nodes_fine shaped rooted walkable
+    reading symbol_of tree_step first_member first_cell builder.each remaining or input_clauses gates_clauses translate series
+    member_clauses mark_clauses root_walk clauses words
+    words_of variable_total count_answer write_answer list_after cut well_cut is_list truth_of negated literal is_falsified is_satisfied conflict open_of
+    same_literal only unit_of first_unit lowest_open word_of byte_of place_of values_of trail_of turn decide next total count run answer_at values_at
+    trail_at outcome read_back_answer instance_after finding relation_lines member_lines finding_text
 counters = refl

@@ -8,33 +8,33 @@ use lib.IntN.{ℤ, pos}
 use lib.ListN.{length, replicate}
 use Rattle.prelude.specs.Tests.{each, all, any}
 use Rattle.text.specs.Texts.{bytes_of, digits, decimal}
-use Rattle.clause_list.specs.ClauseList.{cut, words_of, wellCut, isList}
+use Rattle.clause_list.specs.ClauseList.{cut, words_of, well_cut, is_list}
 use Rattle.kinds.specs.Kinds.{row_of}
 use Rattle.sheet_rules.specs.Tables as tables
-use Rattle.sheet_rules.specs.Tables.{shapeStep, freeStep, visitsStep}
-use Rattle.sheet_rules.specs.Reading.{counted, scoped, declared, nodesFine, shaped, rooted, walkable, reading}
-use Rattle.relational.specs.Trees.{symbol_of, treeStep}
-use Rattle.relational.specs.Cells.{firstMember, firstCell, hasCells}
+use Rattle.sheet_rules.specs.Tables.{shape_step, free_step, visits_step}
+use Rattle.sheet_rules.specs.Reading.{counted, scoped, declared, nodes_fine, shaped, rooted, walkable, reading}
+use Rattle.relational.specs.Trees.{symbol_of, tree_step}
+use Rattle.relational.specs.Cells.{first_member, first_cell, has_cells}
 use Rattle.relational.specs.Evaluation as evaluation
-use Rattle.relational.specs.Evaluation.{value_of, marksHold, cellsInside, holds}
+use Rattle.relational.specs.Evaluation.{value_of, marks_hold, cells_inside, holds}
 use Rattle.instance.specs.Answers as check
-use Rattle.instance.specs.Held.{heldAnswer, checkAnswer}
+use Rattle.instance.specs.Held.{held_answer, check_answer}
 use Rattle.clauses_rules.specs.Builder as builder
-use Rattle.clauses_rules.specs.Gates.{remaining, or, inputClauses, gatesClauses}
+use Rattle.clauses_rules.specs.Gates.{remaining, or, input_clauses, gates_clauses}
 use Rattle.clauses_rules.specs.Translation.{translate}
-use Rattle.clauses_rules.specs.Whole.{series, memberClauses, markClauses, rootWalk, clauses, words, variableTotal}
-use Rattle.clauses.specs.Answers.{countAnswer, writeAnswer, listAfter}
-use Rattle.dimacs.specs.Text.{literalText, clauseLine, clauseLines, header, text_of}
-use Rattle.search_rules.specs.Rules.{truth_of, negated, literal, isFalsified, isSatisfied, conflict, openOf, sameLiteral}
-use Rattle.search_rules.specs.Rules.{only, unit_of, firstUnit, lowestOpen, word_of, byte_of, place_of, values_of, trailOf}
+use Rattle.clauses_rules.specs.Whole.{series, member_clauses, mark_clauses, root_walk, clauses, words, variable_total}
+use Rattle.clauses.specs.Answers.{count_answer, write_answer, list_after}
+use Rattle.dimacs.specs.Text.{literal_text, clause_line, clause_lines, header, text_of}
+use Rattle.search_rules.specs.Rules.{truth_of, negated, literal, is_falsified, is_satisfied, conflict, open_of, same_literal}
+use Rattle.search_rules.specs.Rules.{only, unit_of, first_unit, lowest_open, word_of, byte_of, place_of, values_of, trail_of}
 use Rattle.search_rules.specs.Rules.{turn, decide, next}
 use Rattle.search_rules.specs.Run.{tally, total, count, run}
-use Rattle.search.specs.Answers.{Answer, found, none, answerAt, valuesAt, trailAt, outcome}
-use Rattle.solve_rules.specs.Answers.{readBackAnswer, instanceAfter}
+use Rattle.search.specs.Answers.{Answer, found, none, answer_at, values_at, trail_at, outcome}
+use Rattle.solve_rules.specs.Answers.{read_back_answer, instance_after}
 use Rattle.solve_rules.specs.Finding.{Slices, slices, finding}
-use Rattle.report.specs.Printed.{finderBudget, relationLines, memberLines, findingText}
-use Rattle.cnf_text.specs.Printed.{clauseText}
-use Rattle.marked.specs.Table.{neg, oneSet}
+use Rattle.report.specs.Printed.{finder_budget, relation_lines, member_lines, finding_text}
+use Rattle.cnf_text.specs.Printed.{clause_text}
+use Rattle.marked.specs.Table.{neg, one_set}
 
 -- a block: its length in two bytes, then its bytes
 abbrev block : List ℕ → List ℕ
@@ -45,13 +45,13 @@ sheet sorts variables relations nodes = 1 ∷ (block sorts ++ (block variables +
 
 -- K1, K3 and K5 with up to 2 atoms
 abbrev pub k1-bounded : List ℕ
-k1-bounded = oneSet 130 0 (1 ∷ 0 ∷ 0 ∷ 22 ∷ 0 ∷ 0 ∷ [])
+k1-bounded = one_set 130 0 (1 ∷ 0 ∷ 0 ∷ 22 ∷ 0 ∷ 0 ∷ [])
 
 abbrev pub k3-bounded : List ℕ
-k3-bounded = oneSet 130 2 (1 ∷ 0 ∷ 0 ∷ 22 ∷ 0 ∷ 0 ∷ 30 ∷ 1 ∷ 0 ∷ [])
+k3-bounded = one_set 130 2 (1 ∷ 0 ∷ 0 ∷ 22 ∷ 0 ∷ 0 ∷ 30 ∷ 1 ∷ 0 ∷ [])
 
 abbrev k5-bounded : List ℕ
-k5-bounded = oneSet 130 0 (1 ∷ 0 ∷ 0 ∷ 24 ∷ 0 ∷ 0 ∷ [])
+k5-bounded = one_set 130 0 (1 ∷ 0 ∷ 0 ∷ 24 ∷ 0 ∷ 0 ∷ [])
 
 -- ---- the check: an instance, and the answer
 record Check : Type 0 where
@@ -80,10 +80,10 @@ checks =
     ∷ checked k1-bounded (0 ∷ 1 ∷ 0 ∷ 1 ∷ 0 ∷ []) (check.refused 11)
     ∷ []
 
-pub all-checked : map (λ c. checkAnswer c.sheet c.instance) checks ≡ map (λ c. c.answer) checks
-unfolding row_of each all tables.table shapeStep freeStep visitsStep counted scoped declared nodesFine shaped rooted
-    walkable reading symbol_of treeStep firstMember firstCell hasCells value_of evaluation.truth_of marksHold
-    cellsInside holds heldAnswer checkAnswer
+pub all-checked : map (λ c. check_answer c.sheet c.instance) checks ≡ map (λ c. c.answer) checks
+unfolding row_of each all tables.table shape_step free_step visits_step counted scoped declared nodes_fine shaped rooted
+    walkable reading symbol_of tree_step first_member first_cell has_cells value_of evaluation.truth_of marks_hold
+    cells_inside holds held_answer check_answer
 all-checked = refl
 
 -- ---- clause text, whole, in parts: (1), the members, the marks, the walk; the last part ends with the root's literal
@@ -148,7 +148,7 @@ lists =
     ∷ listed (over 1 (41 ∷ 0 ∷ 3 ∷ []))
     ("p cnf 10 11\n1 0\n" ∷ bodies ∷ "10 -8 0\n10 -9 0\n-10 8 9 0\n10 0\n" ∷ [])
     -- some of all atoms
-    ∷ listed (oneSet 130 0 (3 ∷ 0 ∷ 0 ∷ 22 ∷ 0 ∷ 0 ∷ []))
+    ∷ listed (one_set 130 0 (3 ∷ 0 ∷ 0 ∷ 22 ∷ 0 ∷ 0 ∷ []))
     ("p cnf 6 7\n1 0\n" ∷ "-4 2 0\n-5 3 0\n" ∷ "6 -2 0\n6 -3 0\n-6 2 3 0\n6 0\n" ∷ [])
     -- r within the identity: the member on the diagonal, -1 beside it
     ∷ listed (sheet (130 ∷ []) [] (2 ∷ 0 ∷ 0 ∷ 0 ∷ []) (1 ∷ 0 ∷ 0 ∷ 4 ∷ 0 ∷ 0 ∷ 21 ∷ 0 ∷ 1 ∷ []))
@@ -161,14 +161,14 @@ abbrev joined : List String → List ℕ
 joined [] = []
 joined (t ∷ ts) = bytes_of t ++ joined ts
 
-abbrev lentList : List ℤ
-lentList = replicate 80 (pos 9)
+abbrev lent_list : List ℤ
+lent_list = replicate 80 (pos 9)
 
-pub all_listed : map (λ l. clauseText l.sheet lentList) lists ≡ map (λ l. joined l.text) lists
-unfolding row_of each all any digits decimal tables.table shapeStep freeStep visitsStep counted scoped declared
-    nodesFine shaped rooted walkable reading symbol_of treeStep firstMember firstCell builder.each remaining or
-    inputClauses gatesClauses translate series memberClauses markClauses rootWalk clauses words words_of
-    variableTotal countAnswer writeAnswer cut literalText clauseLine clauseLines header text_of clauseText
+pub all_listed : map (λ l. clause_text l.sheet lent_list) lists ≡ map (λ l. joined l.text) lists
+unfolding row_of each all any digits decimal tables.table shape_step free_step visits_step counted scoped declared
+    nodes_fine shaped rooted walkable reading symbol_of tree_step first_member first_cell builder.each remaining or
+    input_clauses gates_clauses translate series member_clauses mark_clauses root_walk clauses words words_of
+    variable_total count_answer write_answer cut literal_text clause_line clause_lines header text_of clause_text
 all_listed = refl
 
 -- ---- what `find` answers and leaves in slices that just fit, and what the finder prints
@@ -191,8 +191,8 @@ row sheet answer values trail instance prints =
     }
 
 -- a relation with mark 2 from sort 1, of up to 2 atoms, to sort 0, of one; some atom of sort 1
-abbrev secondSort : List ℕ
-secondSort = sheet (1 ∷ 130 ∷ []) [] (2 ∷ 2 ∷ 1 ∷ 0 ∷ []) (3 ∷ 1 ∷ 0 ∷ 22 ∷ 0 ∷ 0 ∷ [])
+abbrev second_sort : List ℕ
+second_sort = sheet (1 ∷ 130 ∷ []) [] (2 ∷ 2 ∷ 1 ∷ 0 ∷ []) (3 ∷ 1 ∷ 0 ∷ 22 ∷ 0 ∷ 0 ∷ [])
 
 abbrev rows : List Row
 rows =
@@ -205,7 +205,7 @@ rows =
     (1 ∷ 3 ∷ 3 ∷ 0 ∷ 0 ∷ 1 ∷ []) (pos 1 ∷ pos 6 ∷ neg 2 ∷ neg 4 ∷ neg 3 ∷ neg 5 ∷ [])
     (0 ∷ 0 ∷ 0 ∷ 0 ∷ []) "found 6\ns0 00\nr0 00\n"
     -- a line `s` only for the sort that has members; the row of the atom left out is empty
-    ∷ row secondSort (found (tally 5 1 0))
+    ∷ row second_sort (found (tally 5 1 0))
     (1 ∷ 3 ∷ 1 ∷ 0 ∷ 1 ∷ 1 ∷ []) (pos 1 ∷ pos 6 ∷ neg 2 ∷ neg 4 ∷ pos 3 ∷ pos 5 ∷ [])
     (0 ∷ 1 ∷ 0 ∷ 1 ∷ []) "found 6\ns1 01\nr0 0 1\n"
     -- "none": with fewer atoms there is none either
@@ -213,25 +213,25 @@ rows =
     ∷ []
 
 abbrev lent : Slices
-lent = slices lentList (replicate 6 9) (replicate 6 (pos 9)) (replicate 4 9)
+lent = slices lent_list (replicate 6 9) (replicate 6 (pos 9)) (replicate 4 9)
 
 abbrev shown : List ℕ → Found
 shown sheet =
-    let f = finding sheet lent finderBudget in
+    let f = finding sheet lent finder_budget in
     record {
       answer = f.answer;
       values = f.left.values;
       trail = f.left.trail;
       instance = f.left.instance;
-      text = findingText finderBudget sheet lent;
+      text = finding_text finder_budget sheet lent;
     }
 
 pub all_found : map (λ row. shown row.sheet) rows ≡ map (λ row. row.stated) rows
-unfolding row_of each all any digits decimal tables.table shapeStep freeStep visitsStep counted scoped declared
-    nodesFine shaped rooted walkable reading symbol_of treeStep firstMember firstCell builder.each remaining or
-    inputClauses gatesClauses translate series memberClauses markClauses rootWalk clauses words words_of
-    variableTotal countAnswer writeAnswer listAfter cut wellCut isList truth_of negated literal isFalsified
-    isSatisfied conflict openOf sameLiteral only unit_of firstUnit lowestOpen word_of byte_of place_of values_of trailOf
-    turn decide next total count run answerAt valuesAt trailAt outcome readBackAnswer instanceAfter finding
-    relationLines memberLines findingText
+unfolding row_of each all any digits decimal tables.table shape_step free_step visits_step counted scoped declared
+    nodes_fine shaped rooted walkable reading symbol_of tree_step first_member first_cell builder.each remaining or
+    input_clauses gates_clauses translate series member_clauses mark_clauses root_walk clauses words words_of
+    variable_total count_answer write_answer list_after cut well_cut is_list truth_of negated literal is_falsified
+    is_satisfied conflict open_of same_literal only unit_of first_unit lowest_open word_of byte_of place_of values_of trail_of
+    turn decide next total count run answer_at values_at trail_at outcome read_back_answer instance_after finding
+    relation_lines member_lines finding_text
 all_found = refl

@@ -5,19 +5,19 @@ use Rattle.prelude.specs.Order.{Each}
 use Rattle.text.specs.Texts.{bytes_of}
 use Rattle.sheet_rules.specs.declared.Layout.{Layout}
 use Rattle.sheet_rules.specs.Reading.{Answer, accepted, refused, reading}
-use Rattle.relational.specs.Cells.{mostCells}
+use Rattle.relational.specs.Cells.{most_cells}
 use Rattle.instance.specs.Answers as check
-use Rattle.instance.specs.Held.{checkAnswer}
+use Rattle.instance.specs.Held.{check_answer}
 use Rattle.clauses.specs.Answers as count
-use Rattle.clauses.specs.Answers.{fits, countAnswer, writeAnswer, listAfter}
+use Rattle.clauses.specs.Answers.{fits, count_answer, write_answer, list_after}
 use Rattle.dimacs.specs.Answers as text
-use Rattle.dimacs.specs.Answers.{sizeAnswer, textAfter}
+use Rattle.dimacs.specs.Answers.{size_answer, text_after}
 use Rattle.search.specs.Answers.{Outcome, outcome}
 use Rattle.solve_rules.specs.Answers as back
-use Rattle.solve_rules.specs.Answers.{readBackAnswer, instanceAfter}
+use Rattle.solve_rules.specs.Answers.{read_back_answer, instance_after}
 use Rattle.solve_rules.specs.Finding.{Slices, slices, Finding, finding, decline}
-use Rattle.report.specs.Printed.{finderBudget, findingText, slicesAfter}
-use Rattle.cnf_text.specs.Printed.{clauseText, listLeft}
+use Rattle.report.specs.Printed.{finder_budget, finding_text, slices_after}
+use Rattle.cnf_text.specs.Printed.{clause_text, list_left}
 use Rattle.marked.specs.Table as table
 use Rattle.marked.specs.Table.{Stated, Row}
 
@@ -25,12 +25,12 @@ use Rattle.marked.specs.Table.{Stated, Row}
 abbrev pub lent : Slices
 lent = slices (replicate 40 (pos 99)) (replicate 12 9) (replicate 12 (pos 99)) (replicate 10 9)
 
-abbrev pub lentText : List ℕ
-lentText = replicate 300 9
+abbrev pub lent_text : List ℕ
+lent_text = replicate 300 9
 
 -- what the finder lends: "with 16,384 clause words", and room for all variables and cells that there can be
-abbrev pub finderLent : Slices
-finderLent = slices (replicate 16384 (pos 0)) (replicate 16000 0) (replicate 16000 (pos 0)) (replicate mostCells 0)
+abbrev pub finder_lent : Slices
+finder_lent = slices (replicate 16384 (pos 0)) (replicate 16000 0) (replicate 16000 (pos 0)) (replicate most_cells 0)
 
 -- the calls that take a sheet, and what `cnf` and the finder print for it
 pub record Calls : Type 0 where
@@ -39,7 +39,7 @@ pub record Calls : Type 0 where
   pub counting : count.Answer
   pub writing : count.Answer
   pub list : List ℤ
-  pub reading-back : back.Answer
+  pub reading_back : back.Answer
   pub instance : List ℕ
   pub find : Finding
   pub cnf : List ℕ
@@ -64,29 +64,29 @@ calls row values =
     let s = row.sheet in
     record {
       reading = reading s;
-      checking = checkAnswer s row.checked;
-      counting = countAnswer s;
-      writing = writeAnswer s lent.list;
-      list = listAfter s lent.list;
-      reading-back = readBackAnswer s values lent.instance;
-      instance = instanceAfter s values lent.instance;
+      checking = check_answer s row.checked;
+      counting = count_answer s;
+      writing = write_answer s lent.list;
+      list = list_after s lent.list;
+      reading_back = read_back_answer s values lent.instance;
+      instance = instance_after s values lent.instance;
       find = finding s lent row.budget;
-      cnf = clauseText s lent.list;
-      finder = findingText finderBudget s finderLent;
+      cnf = clause_text s lent.list;
+      finder = finding_text finder_budget s finder_lent;
     }
 
 -- search and clause text get exactly the words written and the v that counting answers, read-back the values that the search left
-abbrev pub shownAfter : count.Answer → Row → Shown
-shownAfter (count.fits v c w) row =
-    let ws = take w (listAfter row.sheet lent.list) in
+abbrev pub shown_after : count.Answer → Row → Shown
+shown_after (count.fits v c w) row =
+    let ws = take w (list_after row.sheet lent.list) in
     let searched = outcome ws v lent.values lent.trail row.budget in
     fitting (calls row (take v searched.values))
-    record { search = searched; sizing = sizeAnswer v ws; texting = text.writeAnswer v ws lentText; text = textAfter v ws lentText }
-shownAfter (count.refused n) row =
-    declining (calls row []) (listLeft row.sheet lent.list) (slicesAfter finderBudget row.sheet finderLent)
+    record { search = searched; sizing = size_answer v ws; texting = text.write_answer v ws lent_text; text = text_after v ws lent_text }
+shown_after (count.refused n) row =
+    declining (calls row []) (list_left row.sheet lent.list) (slices_after finder_budget row.sheet finder_lent)
 
 abbrev pub shown : Row → Shown
-shown row = shownAfter (countAnswer row.sheet) row
+shown row = shown_after (count_answer row.sheet) row
 
 -- what stands in front of a slice, and after it what was lent
 abbrev front : {A : Type 0} → List A → List A → List A
@@ -103,14 +103,14 @@ layout n =
     }
 
 -- what a row states, in full: words, values, trail, instance and text stand in front of what was lent
-abbrev pub inFull : Stated → Shown
-inFull (table.fitting f) =
+abbrev pub in_full : Stated → Shown
+in_full (table.fitting f) =
     let size = fits f.variables f.clauses f.size in
     let list = front f.words lent.list in
     let values = front f.values lent.values in
     let trail = front f.trail lent.trail in
     let instance = front f.instance lent.instance in
-    let textSize = text.bytes (length (bytes_of f.text)) in
+    let text_size = text.bytes (length (bytes_of f.text)) in
     fitting
     record {
       reading = accepted (layout f.nodes);
@@ -118,7 +118,7 @@ inFull (table.fitting f) =
       counting = size;
       writing = size;
       list = list;
-      reading-back = f.reading-back;
+      reading_back = f.reading_back;
       instance = instance;
       find = record { answer = f.search; left = slices list values trail instance };
       cnf = bytes_of f.text;
@@ -126,12 +126,12 @@ inFull (table.fitting f) =
     }
     record {
       search = record { answer = f.search; values = values; trail = trail };
-      sizing = textSize;
-      texting = textSize;
-      text = front (bytes_of f.text) lentText;
+      sizing = text_size;
+      texting = text_size;
+      text = front (bytes_of f.text) lent_text;
     }
 -- a refusal: the number everywhere, and every slice as it was
-inFull (table.refusing n prints) =
+in_full (table.refusing n prints) =
     declining
     record {
       reading = refused n;
@@ -139,15 +139,15 @@ inFull (table.refusing n prints) =
       counting = count.refused n;
       writing = count.refused n;
       list = lent.list;
-      reading-back = back.refused n;
+      reading_back = back.refused n;
       instance = lent.instance;
       find = decline n lent;
       cnf = bytes_of prints;
       finder = bytes_of prints;
     }
     lent.list
-    finderLent
+    finder_lent
 
 -- "These ten are shown in a joint table with one theorem over all its rows.": every row shows what it states
 abbrev pub Marked : Type 0
-Marked = Each (λ (row : Row). shown row ≡ inFull row.stated) table.table
+Marked = Each (λ (row : Row). shown row ≡ in_full row.stated) table.table

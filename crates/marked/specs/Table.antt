@@ -25,7 +25,7 @@ pub record Fitting : Type 0 where
   pub values : List ℕ
   pub trail : List ℤ
   -- read-back of these values, and the instance that it leaves
-  pub reading-back : back.Answer
+  pub reading_back : back.Answer
   pub instance : List ℕ
   -- the clause text, whole, and what the finder prints
   pub text : String
@@ -59,18 +59,18 @@ k1 =
     ∷ []
 
 -- K1 with another scope, another mark and other nodes
-abbrev pub oneSet : ℕ → ℕ → List ℕ → List ℕ
-oneSet scope mark nodes = 1 ∷ 0 ∷ 1 ∷ scope ∷ 0 ∷ 0 ∷ 0 ∷ 4 ∷ 1 ∷ mark ∷ 0 ∷ 0 ∷ 0 ∷ length nodes ∷ nodes
+abbrev pub one_set : ℕ → ℕ → List ℕ → List ℕ
+one_set scope mark nodes = 1 ∷ 0 ∷ 1 ∷ scope ∷ 0 ∷ 0 ∷ 0 ∷ 4 ∷ 1 ∷ mark ∷ 0 ∷ 0 ∷ 0 ∷ length nodes ∷ nodes
 
 -- "mark 2 in K1", "K2 with node (30, 1, 0)", ""at most one" in K1" and "closure at scope 1"
 abbrev pub k2 : List ℕ
-k2 = oneSet 2 2 (1 ∷ 0 ∷ 0 ∷ 22 ∷ 0 ∷ 0 ∷ [])
+k2 = one_set 2 2 (1 ∷ 0 ∷ 0 ∷ 22 ∷ 0 ∷ 0 ∷ [])
 
 abbrev pub k3 : List ℕ
-k3 = oneSet 2 2 (1 ∷ 0 ∷ 0 ∷ 22 ∷ 0 ∷ 0 ∷ 30 ∷ 1 ∷ 0 ∷ [])
+k3 = one_set 2 2 (1 ∷ 0 ∷ 0 ∷ 22 ∷ 0 ∷ 0 ∷ 30 ∷ 1 ∷ 0 ∷ [])
 
 abbrev pub k5 : List ℕ
-k5 = oneSet 2 0 (1 ∷ 0 ∷ 0 ∷ 24 ∷ 0 ∷ 0 ∷ [])
+k5 = one_set 2 0 (1 ∷ 0 ∷ 0 ∷ 24 ∷ 0 ∷ 0 ∷ [])
 
 abbrev pub k6 : List ℕ
 k6 = 1 ∷ 0 ∷ 1 ∷ 1 ∷ 0 ∷ 0 ∷ 0 ∷ 4 ∷ 2 ∷ 0 ∷ 0 ∷ 0 ∷ 0 ∷ 9 ∷ 1 ∷ 0 ∷ 0 ∷ 11 ∷ 0 ∷ 0 ∷ 22 ∷ 1 ∷ 0 ∷ []
@@ -88,7 +88,7 @@ k1-fits =
       search = found (tally 3 1 0);
       values = 1 ∷ 3 ∷ 1 ∷ 1 ∷ [];
       trail = pos 1 ∷ pos 4 ∷ neg 2 ∷ pos 3 ∷ [];
-      reading-back = back.copied 2;
+      reading_back = back.copied 2;
       instance = 0 ∷ 1 ∷ [];
       text = "p cnf 4 5\n1 0\n4 -2 0\n4 -3 0\n-4 2 3 0\n4 0\n";
       prints = "found 4\nr0 01\n";
@@ -115,7 +115,7 @@ table =
             search = found (tally 3 1 0);
             values = 1 ∷ 3 ∷ 1 ∷ 1 ∷ [];
             trail = pos 1 ∷ pos 4 ∷ neg 2 ∷ pos 3 ∷ [];
-            reading-back = back.copied 2;
+            reading_back = back.copied 2;
             instance = 0 ∷ 1 ∷ [];
             text = "p cnf 4 7\n1 0\n-2 -3 0\n2 3 0\n4 -2 0\n4 -3 0\n-4 2 3 0\n4 0\n";
             prints = "found 4\nr0 01\n";
@@ -138,7 +138,7 @@ table =
             search = none (tally 4 0 0);
             values = 2 ∷ 2 ∷ 2 ∷ 2 ∷ [];
             trail = pos 0 ∷ pos 0 ∷ pos 0 ∷ pos 0 ∷ [];
-            reading-back = back.refused 11;
+            reading_back = back.refused 11;
             instance = [];
             text = "p cnf 4 7\n1 0\n-2 -3 0\n2 3 0\n4 -2 0\n4 -3 0\n-4 2 3 0\n-4 0\n";
             prints = "none 4\n";
@@ -161,7 +161,7 @@ table =
             search = spent (tally 2 1 0);
             values = 1 ∷ 3 ∷ 2 ∷ 1 ∷ [];
             trail = pos 1 ∷ pos 4 ∷ neg 2 ∷ pos 0 ∷ [];
-            reading-back = back.refused 11;
+            reading_back = back.refused 11;
             instance = [];
             text = k1-fits.text;
             prints = k1-fits.prints;
@@ -187,7 +187,7 @@ table =
             search = found (tally 2 2 0);
             values = 1 ∷ 3 ∷ 3 ∷ 1 ∷ [];
             trail = pos 1 ∷ pos 4 ∷ neg 2 ∷ neg 3 ∷ [];
-            reading-back = back.copied 2;
+            reading_back = back.copied 2;
             instance = 0 ∷ 0 ∷ [];
             text = "p cnf 4 5\n1 0\n4 2 0\n4 3 0\n-4 -2 -3 0\n4 0\n";
             prints = "found 4\nr0 00\n";
@@ -210,7 +210,7 @@ table =
             search = found (tally 2 0 0);
             values = 1 ∷ 1 ∷ [];
             trail = pos 1 ∷ pos 2 ∷ [];
-            reading-back = back.copied 1;
+            reading_back = back.copied 1;
             instance = 1 ∷ [];
             text = "p cnf 2 2\n1 0\n2 0\n";
             prints = "found 2\nr0 1\n";
@@ -220,7 +220,7 @@ table =
     ∷ record { sheet = []; budget = 1000000; checked = []; stated = refusing 1 "refused 1\n" }
     -- K8: "scope 8 passes, 9 gives 4"
     ∷ record {
-      sheet = oneSet 8 0 (1 ∷ 0 ∷ 0 ∷ 22 ∷ 0 ∷ 0 ∷ []);
+      sheet = one_set 8 0 (1 ∷ 0 ∷ 0 ∷ 22 ∷ 0 ∷ 0 ∷ []);
       budget = 1000000;
       checked = replicate 8 0;
       stated =
@@ -240,18 +240,18 @@ table =
             search = found (tally 3 7 0);
             values = 1 ∷ 3 ∷ 3 ∷ 3 ∷ 3 ∷ 3 ∷ 3 ∷ 3 ∷ 1 ∷ 1 ∷ [];
             trail = pos 1 ∷ pos 10 ∷ neg 2 ∷ neg 3 ∷ neg 4 ∷ neg 5 ∷ neg 6 ∷ neg 7 ∷ neg 8 ∷ pos 9 ∷ [];
-            reading-back = back.copied 8;
+            reading_back = back.copied 8;
             instance = 0 ∷ 0 ∷ 0 ∷ 0 ∷ 0 ∷ 0 ∷ 0 ∷ 1 ∷ [];
             text = "p cnf 10 11\n1 0\n10 -2 0\n10 -3 0\n10 -4 0\n10 -5 0\n10 -6 0\n10 -7 0\n10 -8 0\n10 -9 0\n-10 2 3 4 5 6 7 8 9 0\n10 0\n";
             prints = "found 10\nr0 00000001\n";
           };
     }
-    ∷ record { sheet = oneSet 9 0 (1 ∷ 0 ∷ 0 ∷ 22 ∷ 0 ∷ 0 ∷ []); budget = 1000000; checked = replicate 9 0; stated = refusing 4 "refused 4\n" }
+    ∷ record { sheet = one_set 9 0 (1 ∷ 0 ∷ 0 ∷ 22 ∷ 0 ∷ 0 ∷ []); budget = 1000000; checked = replicate 9 0; stated = refusing 4 "refused 4\n" }
     -- K9: "a node naming itself: 6"
-    ∷ record { sheet = oneSet 2 0 (1 ∷ 0 ∷ 0 ∷ 22 ∷ 1 ∷ 0 ∷ []); budget = 1000000; checked = 0 ∷ 1 ∷ []; stated = refusing 6 "refused 6\n" }
+    ∷ record { sheet = one_set 2 0 (1 ∷ 0 ∷ 0 ∷ 22 ∷ 1 ∷ 0 ∷ []); budget = 1000000; checked = 0 ∷ 1 ∷ []; stated = refusing 6 "refused 6\n" }
     -- K10: "set joined with set: 7"
     ∷ record {
-      sheet = oneSet 2 0 (1 ∷ 0 ∷ 0 ∷ 8 ∷ 0 ∷ 0 ∷ 22 ∷ 1 ∷ 0 ∷ []);
+      sheet = one_set 2 0 (1 ∷ 0 ∷ 0 ∷ 8 ∷ 0 ∷ 0 ∷ 22 ∷ 1 ∷ 0 ∷ []);
       budget = 1000000;
       checked = 0 ∷ 1 ∷ [];
       stated = refusing 7 "refused 7\n";

@@ -1,7 +1,7 @@
 -- What the form of a node says of it where its tree is a formula.
 use mathlib.Core.Path.{◌≡◌, refl, sym}
 use Prim.Native.Nat.{ℕ}
-use Rattle.sheet_rules.specs.Blocks.{Sheet, kind, fieldA, fieldB}
+use Rattle.sheet_rules.specs.Blocks.{Sheet, kind, field_a, field_b}
 use Rattle.sheet_rules.specs.Facts.{Facts}
 use Rattle.relational.specs.Trees.{Formula, comparison, test, negation, connective, quantified, expression, formula}
 use Rattle.relational.specs.Trees.{Symbol, leaf-symbol, binary-symbol, unary-symbol, comparison-symbol, test-symbol, connective-symbol}
@@ -9,8 +9,8 @@ use Rattle.relational.specs.Trees.{quantifier-symbol, comprehension-symbol, nega
 use Rattle.nodes.specs.declared.forms.FormulaForm.{FormulaForm}
 use Rattle.nodes.specs.declared.forms.FormulaForm.TheVariants as claim
 use Rattle.nodes.specs.declared.forms.Node.{Node}
-use Rattle.nodes.specs.Nodes.{formulaForm, nodeAt, IsFormula}
-use Rattle.relational.proofs.Rows.{rowOfSymbol, row-of-symbol}
+use Rattle.nodes.specs.Nodes.{formula_form, node_at, IsFormula}
+use Rattle.relational.proofs.Rows.{row_of_symbol, row-of-symbol}
 use Rattle.nodes.proofs.Views.{Reached, TwoAt, OneAt, BodyAt, expressions, formulas, no_both}
 use Rattle.nodes.proofs.Views.{field-a, field-b, grown, grows_from, two_at, one_at, body_at}
 
@@ -41,14 +41,14 @@ module _ (sheet : Sheet) (v : ℕ) (node : Node) where
 
 module _ {sheet : Sheet} {v : ℕ} (fine : Facts sheet) (tree : IsFormula sheet v) where
   formula-by : (s : Symbol) → symbol_of (kind sheet v) ≡ s
-      → FormulaView sheet v (nodeAt sheet.nodes v) tree.it (formulaForm (rowOfSymbol s).rule)
+      → FormulaView sheet v (node_at sheet.nodes v) tree.it (formula_form (row_of_symbol s).rule)
   formula-by (leaf-symbol l) q = no_both _ _ (sym (grown formulas fine tree q))
   formula-by (binary-symbol o) q =
-      let t = grows_from formulas fine tree expressions (fieldA sheet v) _ (grown formulas fine tree q) in
-      let u = grows_from formulas fine tree expressions (fieldB sheet v) _ t.grown in
+      let t = grows_from formulas fine tree expressions (field_a sheet v) _ (grown formulas fine tree q) in
+      let u = grows_from formulas fine tree expressions (field_b sheet v) _ t.grown in
       no_both _ _ (sym u.grown)
   formula-by (unary-symbol o) q =
-      no_both _ _ (sym (grows_from formulas fine tree expressions (fieldA sheet v) _ (grown formulas fine tree q)).grown)
+      no_both _ _ (sym (grows_from formulas fine tree expressions (field_a sheet v) _ (grown formulas fine tree q)).grown)
   formula-by (comparison-symbol o) q =
       two_at formulas fine tree expressions comparison-symbol o q comparison
       (field-a formulas fine tree q) (field-b formulas fine tree q) (grown formulas fine tree q)
@@ -61,7 +61,7 @@ module _ {sheet : Sheet} {v : ℕ} (fine : Facts sheet) (tree : IsFormula sheet 
       body_at formulas fine tree formulas quantifier-symbol o q quantified
       (field-a formulas fine tree q) (field-b formulas fine tree q) (grown formulas fine tree q)
   formula-by comprehension-symbol q =
-      no_both _ _ (sym (grows_from formulas fine tree formulas (fieldB sheet v) _ (grown formulas fine tree q)).grown)
+      no_both _ _ (sym (grows_from formulas fine tree formulas (field_b sheet v) _ (grown formulas fine tree q)).grown)
   formula-by negation-symbol q =
       one_at formulas fine tree formulas (λ o. negation-symbol) tt q (λ o. negation)
       (field-a formulas fine tree q) (grown formulas fine tree q)
@@ -70,7 +70,7 @@ module _ {sheet : Sheet} {v : ℕ} (fine : Facts sheet) (tree : IsFormula sheet 
 module _ {sheet : Sheet} {v : ℕ} {node : Node} (h : Reached sheet v node IsFormula) where
   view : (x : FormulaForm) → node.formula ≡ x → FormulaView sheet v node h.tree.it x
   view x p =
-      let w : formulaForm (rowOfSymbol (symbol_of (kind sheet v))).rule ≡ x = rw (h.read, row-of-symbol (kind sheet v)) at p in
+      let w : formula_form (row_of_symbol (symbol_of (kind sheet v))).rule ≡ x = rw (h.read, row-of-symbol (kind sheet v)) at p in
       rw (h.read, ← w) (formula-by h.facts h.tree (symbol_of (kind sheet v)) refl)
 
   pub at-comparison : node.formula ≡ claim.Comparison → ComparisonAt sheet v node h.tree.it

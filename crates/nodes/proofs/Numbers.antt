@@ -9,7 +9,7 @@ use Rattle.relational.specs.Trees.{Leaf, relation, variable, atoms, identity, Bi
 use Rattle.relational.specs.Trees.{Unary, inverse, closure, Comparison, equal, within, Test, some, none, lone}
 use Rattle.relational.specs.Trees.{Connective, conjunction, disjunction, implication, equivalence, Quantifier, for-all, for_some}
 use Rattle.relational.specs.Trees.{Symbol, leaf-symbol, binary-symbol, unary-symbol, comparison-symbol, test-symbol, connective-symbol}
-use Rattle.relational.specs.Trees.{quantifier-symbol, comprehension-symbol, negation-symbol, unknown-symbol, symbols, symbolIn, symbol_of}
+use Rattle.relational.specs.Trees.{quantifier-symbol, comprehension-symbol, negation-symbol, unknown-symbol, symbols, symbol_in, symbol_of}
 
 abbrev pub number_of : Symbol → ℕ
 number_of (leaf-symbol relation) = 1
@@ -38,17 +38,17 @@ number_of (quantifier-symbol for-all) = 40
 number_of (quantifier-symbol for_some) = 41
 number_of unknown-symbol = 0
 
-abbrev isKnown : Symbol → Bool
-isKnown unknown-symbol = false
-isKnown (leaf-symbol l) = true
-isKnown (binary-symbol o) = true
-isKnown (unary-symbol o) = true
-isKnown (comparison-symbol o) = true
-isKnown (test-symbol o) = true
-isKnown (connective-symbol o) = true
-isKnown (quantifier-symbol o) = true
-isKnown comprehension-symbol = true
-isKnown negation-symbol = true
+abbrev is_known : Symbol → Bool
+is_known unknown-symbol = false
+is_known (leaf-symbol l) = true
+is_known (binary-symbol o) = true
+is_known (unary-symbol o) = true
+is_known (comparison-symbol o) = true
+is_known (test-symbol o) = true
+is_known (connective-symbol o) = true
+is_known (quantifier-symbol o) = true
+is_known comprehension-symbol = true
+is_known negation-symbol = true
 
 abbrev numbered : ℕ × Symbol → ℕ × Symbol
 numbered s = (number_of s.1, s.1)
@@ -57,21 +57,21 @@ numbered s = (number_of s.1, s.1)
 all-numbered : symbols ≡ map numbered symbols
 all-numbered = refl
 
-number_in : (k : ℕ) (ss : List (ℕ × Symbol)) → isKnown (symbolIn k (map numbered ss)) ≡ true → k ≡ number_of (symbolIn k (map numbered ss))
+number_in : (k : ℕ) (ss : List (ℕ × Symbol)) → is_known (symbol_in k (map numbered ss)) ≡ true → k ≡ number_of (symbol_in k (map numbered ss))
 number_in k [] e = absurd (true≢false (sym e))
 number_in k (s ∷ ss) e = go (eqb k (number_of s.1)) refl (number_in k ss) e
   where
     go : (b : Bool) → eqb k (number_of s.1) ≡ b
-        → (isKnown (symbolIn k (map numbered ss)) ≡ true → k ≡ number_of (symbolIn k (map numbered ss)))
-        → isKnown (cond b s.1 (symbolIn k (map numbered ss))) ≡ true → k ≡ number_of (cond b s.1 (symbolIn k (map numbered ss)))
+        → (is_known (symbol_in k (map numbered ss)) ≡ true → k ≡ number_of (symbol_in k (map numbered ss)))
+        → is_known (cond b s.1 (symbol_in k (map numbered ss))) ≡ true → k ≡ number_of (cond b s.1 (symbol_in k (map numbered ss)))
     go true h ih e = eqb-true k (number_of s.1) h
     go false h ih e = ih e
 
-pub number-of : (k : ℕ) (s : Symbol) → symbol_of k ≡ s → isKnown s ≡ true → k ≡ number_of s
+pub number-of : (k : ℕ) (s : Symbol) → symbol_of k ≡ s → is_known s ≡ true → k ≡ number_of s
 unfolding symbol_of
 number-of k s e h =
-    let f : symbolIn k (map numbered symbols) ≡ s = ap (symbolIn k) (sym all-numbered) ∙ e in
-    number_in k symbols (ap isKnown f ∙ h) ∙ ap number_of f
+    let f : symbol_in k (map numbered symbols) ≡ s = ap (symbol_in k) (sym all-numbered) ∙ e in
+    number_in k symbols (ap is_known f ∙ h) ∙ ap number_of f
 
 pub relation-symbol : (k : ℕ) → k ≡ 1 → symbol_of k ≡ leaf-symbol relation
 unfolding symbol_of

@@ -4,5 +4,5 @@ use Rattle.sheet_rules.specs.Facts.{Facts}
 use Rattle.relational.proofs.Satisfaction.{root_is}
 use Rattle.nodes.specs.Nodes.{IsFormula}
 
-pub root-formula : (sheet : Sheet) → Facts sheet → IsFormula sheet (root sheet)
-root-formula sheet f = let r = root_is sheet f in record { it = r.0; is = r.1 }
+pub root_formula : (sheet : Sheet) → Facts sheet → IsFormula sheet (root sheet)
+root_formula sheet f = let r = root_is sheet f in record { it = r.0; is = r.1 }

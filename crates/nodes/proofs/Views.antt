@@ -8,21 +8,21 @@ use lib.Dec.{ltb}
 use lib.ListN.{get_or, get_or-eq_default}
 use borrow.Author.Tests.{ltb-true, ltb-false}
 use Rattle.prelude.proofs.Laws.{decided}
-use Rattle.sheet_rules.specs.Blocks.{Sheet, variableCount, nodeCount, kind, fieldA, fieldB}
+use Rattle.sheet_rules.specs.Blocks.{Sheet, variable_count, node_count, kind, field_a, field_b}
 use Rattle.sheet_rules.specs.Tables.{table}
-use Rattle.sheet_rules.specs.Reading.{fieldFine}
+use Rattle.sheet_rules.specs.Reading.{field_fine}
 use Rattle.sheet_rules.specs.Facts.{Facts}
 use Rattle.relational.specs.Trees.{Expression, Formula, Symbol, symbol_of, Tree, expression, formula, broken}
-use Rattle.relational.specs.Trees.{withExpression, withFormula, treeBy, treeStep, trees}
+use Rattle.relational.specs.Trees.{with_expression, with_formula, tree_by, tree_step, trees}
 use Rattle.nodes.specs.declared.forms.Node.{Node}
-use Rattle.nodes.specs.Nodes.{nodeAt, treeAt, IsTree, IsExpression, IsFormula}
+use Rattle.nodes.specs.Nodes.{node_at, tree_at, IsTree, IsExpression, IsFormula}
 use Rattle.sheet_rules.proofs.TableLaws.{table-length, table_at, table_same}
-use Rattle.relational.proofs.Rows.{rowOfSymbol, row-of-symbol}
+use Rattle.relational.proofs.Rows.{row_of_symbol, row-of-symbol}
 
 -- a walk is at node v, and has read it
 pub record Reached (sheet : Sheet) (v : ℕ) (node : Node) (Is : Sheet → ℕ → Type 0) : Type 0 where
   pub facts : Facts sheet
-  pub read : node ≡ nodeAt sheet.nodes v
+  pub read : node ≡ node_at sheet.nodes v
   pub tree : Is sheet v
 
 -- ---- a node whose fields name two operands, one operand, a variable and a body
@@ -31,8 +31,8 @@ module _ (sheet : Sheet) (v : ℕ) (node : Node) {O S T : Type 0} (symbolic : O 
   pub record TwoAt (build : O → S → S → T) (t : T) : Type 0 where
     pub it : O
     pub symbol : symbol_of node.kind ≡ symbolic it
-    pub lower-a : node.a < v
-    pub lower-b : node.b < v
+    pub lower_a : node.a < v
+    pub lower_b : node.b < v
     pub left : IsTree made sheet node.a
     pub right : IsTree made sheet node.b
     pub is : t ≡ build it left.it right.it
@@ -40,7 +40,7 @@ module _ (sheet : Sheet) (v : ℕ) (node : Node) {O S T : Type 0} (symbolic : O 
   pub record OneAt (build : O → S → T) (t : T) : Type 0 where
     pub it : O
     pub symbol : symbol_of node.kind ≡ symbolic it
-    pub lower-a : node.a < v
+    pub lower_a : node.a < v
     pub left : IsTree made sheet node.a
     pub is : t ≡ build it left.it
 
@@ -48,7 +48,7 @@ module _ (sheet : Sheet) (v : ℕ) (node : Node) {O S T : Type 0} (symbolic : O 
     pub it : O
     pub symbol : symbol_of node.kind ≡ symbolic it
     pub names : node.a < 4
-    pub lower-b : node.b < v
+    pub lower_b : node.b < v
     pub body : IsTree made sheet node.b
     pub is : t ≡ build it node.a body.it
 
@@ -78,39 +78,39 @@ same-expression p = cc
 same-formula : {d e : Formula} → formula d ≡ formula e → e ≡ d
 same-formula p = cc
 
-from-expression : (x : Tree) (grow : Expression → Tree) (t : Tree) → (t ≡ broken → ⊥) → withExpression x grow ≡ t
+from-expression : (x : Tree) (grow : Expression → Tree) (t : Tree) → (t ≡ broken → ⊥) → with_expression x grow ≡ t
     → Grown expression x grow t
 from-expression (expression e) grow t h p = record { it = e; is = refl; grown = p }
 from-expression (formula f) grow t h p = absurd (h (sym p))
 from-expression broken grow t h p = absurd (h (sym p))
 
-from-formula : (x : Tree) (grow : Formula → Tree) (t : Tree) → (t ≡ broken → ⊥) → withFormula x grow ≡ t
+from-formula : (x : Tree) (grow : Formula → Tree) (t : Tree) → (t ≡ broken → ⊥) → with_formula x grow ≡ t
     → Grown formula x grow t
 from-formula (expression e) grow t h p = absurd (h (sym p))
 from-formula (formula f) grow t h p = record { it = f; is = refl; grown = p }
 from-formula broken grow t h p = absurd (h (sym p))
 
-pub expressions : Family expression withExpression
+pub expressions : Family expression with_expression
 expressions = record { whole = whole-expression; same = same-expression; grows = from-expression }
 
-pub formulas : Family formula withFormula
+pub formulas : Family formula with_formula
 formulas = record { whole = whole-formula; same = same-formula; grows = from-formula }
 
 -- ---- only nodes have trees that are not broken, and a sheet has at most 200
 module _ {S : Type 0} {made : S → Tree} {from : Tree → (S → Tree) → Tree} (family : Family made from) {sheet : Sheet} {v : ℕ} where
-  there : IsTree made sheet v → v < nodeCount sheet
-  there i = go (decided (ltb v (nodeCount sheet)))
+  there : IsTree made sheet v → v < node_count sheet
+  there i = go (decided (ltb v (node_count sheet)))
     where
-      go : (ltb v (nodeCount sheet) ≡ true) ⊎ (ltb v (nodeCount sheet) ≡ false) → v < nodeCount sheet
-      go (inl e) = ltb-true v (nodeCount sheet) e
+      go : (ltb v (node_count sheet) ≡ true) ⊎ (ltb v (node_count sheet) ≡ false) → v < node_count sheet
+      go (inl e) = ltb-true v (node_count sheet) e
       go (inr e) =
-          let past = ltb-false v (nodeCount sheet) e in
-          let h : treeAt sheet v ≡ broken =
-          get_or-eq_default (trees sheet) broken {n = v} (omega (arith, table-length (treeStep sheet) (nodeCount sheet))) in
+          let past = ltb-false v (node_count sheet) e in
+          let h : tree_at sheet v ≡ broken =
+          get_or-eq_default (trees sheet) broken {n = v} (omega (arith, table-length (tree_step sheet) (node_count sheet))) in
           absurd (family.whole i.it (sym i.is ∙ h))
 
   low : Facts sheet → IsTree made sheet v → v ≤ 200
-  low f i = omega (arith, there i, f.counts.few-nodes)
+  low f i = omega (arith, there i, f.counts.few_nodes)
 
 pub expression-low : {sheet : Sheet} {v : ℕ} → Facts sheet → IsExpression sheet v → v ≤ 200
 expression-low f i = low expressions f i
@@ -120,24 +120,24 @@ formula-low f i = low formulas f i
 
 -- ---- the trees before a node
 abbrev pub before : Sheet → ℕ → ℕ → Tree
-before sheet v x = get_or (table (treeStep sheet) v) x broken
+before sheet v x = get_or (table (tree_step sheet) v) x broken
 
 module _ {T : Type 0} {to : T → Tree} {from : Tree → (T → Tree) → Tree} (family : Family to from)
     {sheet : Sheet} {v : ℕ} (fine : Facts sheet) (tree : IsTree to sheet v) where
-  is-before : {x : ℕ} {t : Tree} → x < v → before sheet v x ≡ t → treeAt sheet x ≡ t
-  is-before {x} h p = table_same (treeStep sheet) broken v (nodeCount sheet) x h (omega (arith, there family tree)) ∙ p
+  is-before : {x : ℕ} {t : Tree} → x < v → before sheet v x ≡ t → tree_at sheet x ≡ t
+  is-before {x} h p = table_same (tree_step sheet) broken v (node_count sheet) x h (omega (arith, there family tree)) ∙ p
 
   -- what its symbol says of a node's fields, and its tree over the trees before it
   module _ {s : Symbol} (q : symbol_of (kind sheet v) ≡ s) where
-    pub field-a : fieldFine sheet (rowOfSymbol s).a v (fieldA sheet v) ≡ true
-    field-a = rw (row-of-symbol (kind sheet v), q) at (fine.fine-a v (there family tree))
+    pub field-a : field_fine sheet (row_of_symbol s).a v (field_a sheet v) ≡ true
+    field-a = rw (row-of-symbol (kind sheet v), q) at (fine.fine_a v (there family tree))
 
-    pub field-b : fieldFine sheet (rowOfSymbol s).b v (fieldB sheet v) ≡ true
-    field-b = rw (row-of-symbol (kind sheet v), q) at (fine.fine-b v (there family tree))
+    pub field-b : field_fine sheet (row_of_symbol s).b v (field_b sheet v) ≡ true
+    field-b = rw (row-of-symbol (kind sheet v), q) at (fine.fine_b v (there family tree))
 
-    pub grown : treeBy s (fieldA sheet v) (before sheet v (fieldA sheet v)) (before sheet v (fieldB sheet v)) ≡ to tree.it
-    unfolding treeStep
-    grown = sym (table_at (treeStep sheet) broken (nodeCount sheet) v (there family tree) ∙ rw q) ∙ tree.is
+    pub grown : tree_by s (field_a sheet v) (before sheet v (field_a sheet v)) (before sheet v (field_b sheet v)) ≡ to tree.it
+    unfolding tree_step
+    grown = sym (table_at (tree_step sheet) broken (node_count sheet) v (there family tree) ∙ rw q) ∙ tree.is
 
   module _ {S : Type 0} {made : S → Tree} {with : Tree → (S → Tree) → Tree} (operands : Family made with) where
     -- the tree before it that a node's tree grows from
@@ -146,45 +146,45 @@ module _ {T : Type 0} {to : T → Tree} {from : Tree → (T → Tree) → Tree} 
     grows_from x grow p = operands.grows (before sheet v x) grow (to tree.it) (family.whole tree.it) p
 
     module _ {O : Type 0} (symbolic : O → Symbol) (o : O) (q : symbol_of (kind sheet v) ≡ symbolic o) where
-      pub two_at : (build : O → S → S → T) → ltb (fieldA sheet v) v ≡ true → ltb (fieldB sheet v) v ≡ true
-          → with (before sheet v (fieldA sheet v)) (λ d. with (before sheet v (fieldB sheet v)) λ e. to (build o d e)) ≡ to tree.it
-          → TwoAt sheet v (nodeAt sheet.nodes v) symbolic made build tree.it
+      pub two_at : (build : O → S → S → T) → ltb (field_a sheet v) v ≡ true → ltb (field_b sheet v) v ≡ true
+          → with (before sheet v (field_a sheet v)) (λ d. with (before sheet v (field_b sheet v)) λ e. to (build o d e)) ≡ to tree.it
+          → TwoAt sheet v (node_at sheet.nodes v) symbolic made build tree.it
       two_at build a b p =
-          let lower-a = ltb-true (fieldA sheet v) v a in
-          let lower-b = ltb-true (fieldB sheet v) v b in
-          let t = grows_from (fieldA sheet v) _ p in
-          let u = grows_from (fieldB sheet v) _ t.grown in
+          let lower_a = ltb-true (field_a sheet v) v a in
+          let lower_b = ltb-true (field_b sheet v) v b in
+          let t = grows_from (field_a sheet v) _ p in
+          let u = grows_from (field_b sheet v) _ t.grown in
           record {
             it = o;
             symbol = q;
-            lower-a = lower-a;
-            lower-b = lower-b;
-            left = record { it = t.it; is = is-before lower-a t.is };
-            right = record { it = u.it; is = is-before lower-b u.is };
+            lower_a = lower_a;
+            lower_b = lower_b;
+            left = record { it = t.it; is = is-before lower_a t.is };
+            right = record { it = u.it; is = is-before lower_b u.is };
             is = family.same u.grown;
           }
 
-      pub one_at : (build : O → S → T) → ltb (fieldA sheet v) v ≡ true
-          → with (before sheet v (fieldA sheet v)) (λ d. to (build o d)) ≡ to tree.it
-          → OneAt sheet v (nodeAt sheet.nodes v) symbolic made build tree.it
+      pub one_at : (build : O → S → T) → ltb (field_a sheet v) v ≡ true
+          → with (before sheet v (field_a sheet v)) (λ d. to (build o d)) ≡ to tree.it
+          → OneAt sheet v (node_at sheet.nodes v) symbolic made build tree.it
       one_at build a p =
-          let lower-a = ltb-true (fieldA sheet v) v a in
-          let t = grows_from (fieldA sheet v) _ p in
-          let left : IsTree made sheet (fieldA sheet v) = record { it = t.it; is = is-before lower-a t.is } in
-          record { it = o; symbol = q; lower-a = lower-a; left = left; is = family.same t.grown }
+          let lower_a = ltb-true (field_a sheet v) v a in
+          let t = grows_from (field_a sheet v) _ p in
+          let left : IsTree made sheet (field_a sheet v) = record { it = t.it; is = is-before lower_a t.is } in
+          record { it = o; symbol = q; lower_a = lower_a; left = left; is = family.same t.grown }
 
-      pub body_at : (build : O → ℕ → S → T) → ltb (fieldA sheet v) (variableCount sheet) ≡ true → ltb (fieldB sheet v) v ≡ true
-          → with (before sheet v (fieldB sheet v)) (λ d. to (build o (fieldA sheet v) d)) ≡ to tree.it
-          → BodyAt sheet v (nodeAt sheet.nodes v) symbolic made build tree.it
+      pub body_at : (build : O → ℕ → S → T) → ltb (field_a sheet v) (variable_count sheet) ≡ true → ltb (field_b sheet v) v ≡ true
+          → with (before sheet v (field_b sheet v)) (λ d. to (build o (field_a sheet v) d)) ≡ to tree.it
+          → BodyAt sheet v (node_at sheet.nodes v) symbolic made build tree.it
       body_at build a b p =
-          let named = ltb-true (fieldA sheet v) (variableCount sheet) a in
-          let lower-b = ltb-true (fieldB sheet v) v b in
-          let t = grows_from (fieldB sheet v) _ p in
+          let named = ltb-true (field_a sheet v) (variable_count sheet) a in
+          let lower_b = ltb-true (field_b sheet v) v b in
+          let t = grows_from (field_b sheet v) _ p in
           record {
             it = o;
             symbol = q;
-            names = omega (arith, fine.counts.few-variables);
-            lower-b = lower-b;
-            body = record { it = t.it; is = is-before lower-b t.is };
+            names = omega (arith, fine.counts.few_variables);
+            lower_b = lower_b;
+            body = record { it = t.it; is = is-before lower_b t.is };
             is = family.same t.grown;
           }

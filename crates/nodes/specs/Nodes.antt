@@ -12,61 +12,61 @@ use Rattle.nodes.specs.declared.forms.FormulaForm.{FormulaForm}
 use Rattle.nodes.specs.declared.forms.FormulaForm.TheVariants.{Comparison, Test, Negation, Connective, Quantifier}
 use Rattle.nodes.specs.declared.forms.Node.{Node}
 
-abbrev pub expressionForm : Rule → ExpressionForm
-expressionForm rule.Unknown = Leaf
-expressionForm rule.OfRelation = Leaf
-expressionForm rule.OfVariable = Leaf
-expressionForm rule.OfSort = Leaf
-expressionForm rule.OfIdentity = Leaf
-expressionForm rule.Same = Binary
-expressionForm rule.Join = Binary
-expressionForm rule.Product = Binary
-expressionForm rule.Inverse = Unary
-expressionForm rule.Closure = Unary
-expressionForm rule.Comprehension = Comprehension
-expressionForm rule.Comparison = Leaf
-expressionForm rule.Test = Leaf
-expressionForm rule.Negation = Leaf
-expressionForm rule.Connective = Leaf
-expressionForm rule.Quantifier = Leaf
+abbrev pub expression_form : Rule → ExpressionForm
+expression_form rule.Unknown = Leaf
+expression_form rule.OfRelation = Leaf
+expression_form rule.OfVariable = Leaf
+expression_form rule.OfSort = Leaf
+expression_form rule.OfIdentity = Leaf
+expression_form rule.Same = Binary
+expression_form rule.Join = Binary
+expression_form rule.Product = Binary
+expression_form rule.Inverse = Unary
+expression_form rule.Closure = Unary
+expression_form rule.Comprehension = Comprehension
+expression_form rule.Comparison = Leaf
+expression_form rule.Test = Leaf
+expression_form rule.Negation = Leaf
+expression_form rule.Connective = Leaf
+expression_form rule.Quantifier = Leaf
 
-abbrev pub formulaForm : Rule → FormulaForm
-formulaForm rule.Unknown = Negation
-formulaForm rule.OfRelation = Negation
-formulaForm rule.OfVariable = Negation
-formulaForm rule.OfSort = Negation
-formulaForm rule.OfIdentity = Negation
-formulaForm rule.Same = Negation
-formulaForm rule.Join = Negation
-formulaForm rule.Product = Negation
-formulaForm rule.Inverse = Negation
-formulaForm rule.Closure = Negation
-formulaForm rule.Comprehension = Negation
-formulaForm rule.Comparison = Comparison
-formulaForm rule.Test = Test
-formulaForm rule.Negation = Negation
-formulaForm rule.Connective = Connective
-formulaForm rule.Quantifier = Quantifier
+abbrev pub formula_form : Rule → FormulaForm
+formula_form rule.Unknown = Negation
+formula_form rule.OfRelation = Negation
+formula_form rule.OfVariable = Negation
+formula_form rule.OfSort = Negation
+formula_form rule.OfIdentity = Negation
+formula_form rule.Same = Negation
+formula_form rule.Join = Negation
+formula_form rule.Product = Negation
+formula_form rule.Inverse = Negation
+formula_form rule.Closure = Negation
+formula_form rule.Comprehension = Negation
+formula_form rule.Comparison = Comparison
+formula_form rule.Test = Test
+formula_form rule.Negation = Negation
+formula_form rule.Connective = Connective
+formula_form rule.Quantifier = Quantifier
 
 -- node v of the block of nodes
-abbrev pub nodeAt : List ℕ → ℕ → Node
-nodeAt nodes v =
+abbrev pub node_at : List ℕ → ℕ → Node
+node_at nodes v =
     record {
-      expression = expressionForm (row_of (byte nodes (3 * v))).rule;
-      formula = formulaForm (row_of (byte nodes (3 * v))).rule;
+      expression = expression_form (row_of (byte nodes (3 * v))).rule;
+      formula = formula_form (row_of (byte nodes (3 * v))).rule;
       kind = byte nodes (3 * v);
       a = byte nodes (3 * v + 1);
       b = byte nodes (3 * v + 2);
     }
 
 -- the tree of node v
-abbrev pub treeAt : Sheet → ℕ → Tree
-treeAt sheet v = get_or (trees sheet) v broken
+abbrev pub tree_at : Sheet → ℕ → Tree
+tree_at sheet v = get_or (trees sheet) v broken
 
 -- node v has a tree of a family: an expression, a formula
 pub record IsTree {T : Type 0} (made : T → Tree) (sheet : Sheet) (v : ℕ) : Type 0 where
   pub it : T
-  pub is : treeAt sheet v ≡ made it
+  pub is : tree_at sheet v ≡ made it
 
 abbrev pub IsExpression : Sheet → ℕ → Type 0
 IsExpression = IsTree expression

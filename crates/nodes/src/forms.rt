@@ -1,8 +1,8 @@
 // A node of the sheet, and what the walk does there.
 ghost use Rattle.std.specs.Prelude.{◌≡◌, ◌≤◌, ◌<◌};
-ghost use Rattle.sheet_rules.specs.Blocks.{sheetOf};
+ghost use Rattle.sheet_rules.specs.Blocks.{sheet_of};
 ghost use Rattle.sheet_rules.specs.Reading.{accepted, reading};
-ghost use Rattle.nodes.specs.Nodes.{expressionForm, formulaForm, nodeAt};
+ghost use Rattle.nodes.specs.Nodes.{expression_form, formula_form, node_at};
 
 use cells::blocks::nodes_of;
 use kinds::{Rule, rule_of};
@@ -39,7 +39,7 @@ pub struct Node {
 
 // The form of an expression's node; of any other node it says nothing.
 fn expression_form(rule: Rule) -> ExpressionForm
-    ensures { result ≡ expressionForm rule }
+    ensures { result ≡ expression_form rule }
 {
     match rule {
         Rule::Unknown => ExpressionForm::Leaf,
@@ -63,7 +63,7 @@ fn expression_form(rule: Rule) -> ExpressionForm
 
 // The form of a formula's node; of any other node it says nothing.
 fn formula_form(rule: Rule) -> FormulaForm
-    ensures { result ≡ formulaForm rule }
+    ensures { result ≡ formula_form rule }
 {
     match rule {
         Rule::Unknown => FormulaForm::Negation,
@@ -89,7 +89,7 @@ fn formula_form(rule: Rule) -> FormulaForm
 pub fn read_node(sheet: &[u8], layout: Layout, v: usize) -> Node
     requires sheet_value { reading sheet.now ≡ accepted layout }
     requires v_bound { v ≤ 200 }
-    ensures { (result ≡ nodeAt (sheetOf sheet.now).nodes v) × (result.a < 256) }
+    ensures { (result ≡ node_at (sheet_of sheet.now).nodes v) × (result.a < 256) }
 {
     let nodes = nodes_of(sheet, layout);
     let kind = field(nodes, 3, v, 0);

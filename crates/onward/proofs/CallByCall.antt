@@ -10,8 +10,8 @@ use Rattle.search_rules.specs.declared.Position.{Position}
 use Rattle.search.specs.Answers.{Answer, spent}
 use Rattle.search.specs.Resumed.{Resumption, left, resumption}
 use Rattle.search.specs.Resuming.{start, Chain, last, spends}
-use Rattle.search.proofs.Resuming.{none_done, same-as-one}
-use Rattle.onward.specs.Limits.{mostSteps}
+use Rattle.search.proofs.Resuming.{none_done, same_as_one}
+use Rattle.onward.specs.Limits.{most_steps}
 use Rattle.search.proofs.MoreSteps.{Unspent, more-steps}
 
 -- the calls that are made at most, and the steps of each
@@ -47,25 +47,25 @@ module _ (list : List ℤ) (v : ℕ) (values₀ : List ℕ) (trail₀ : List ℤ
   }
 
   -- a chain of all the steps at most
-  one-call : (n : ℕ) (r : Resumption) → n ≤ mostSteps → From r n → r ≡ resumption list v values₀ trail₀ start n
-  one-call n r few c = same-as-one list v values₀ trail₀ start n r c (none_done n (omega arith))
+  one-call : (n : ℕ) (r : Resumption) → n ≤ most_steps → From r n → r ≡ resumption list v values₀ trail₀ start n
+  one-call n r few c = same_as_one list v values₀ trail₀ start n r c (none_done n (omega arith))
 
   module _ (values : List ℕ) (trail : List ℤ) (p : Position) (calls : ℕ) (l : Loop list v values₀ trail₀ values trail p calls) where
     -- no call is left: a call with no steps says where the search stands
-    pub at-end : calls ≤ 0 → (r : Resumption) → r ≡ resumption list v values trail p 0 → r ≡ resumption list v values₀ trail₀ start mostSteps
+    pub at-end : calls ≤ 0 → (r : Resumption) → r ≡ resumption list v values trail p 0 → r ≡ resumption list v values₀ trail₀ start most_steps
     at-end h r call =
-        let e : so_far calls + 0 ≡ mostSteps = omega arith in
-        call ∙ one-call mostSteps _ (omega arith) (subst (From _) e (l.chain 0 _ (last 0)))
+        let e : so_far calls + 0 ≡ most_steps = omega arith in
+        call ∙ one-call most_steps _ (omega arith) (subst (From _) e (l.chain 0 _ (last 0)))
 
     -- one call more
     module _ (some : 0 < calls) (a : Answer) (vs : List ℕ) (ts : List ℤ) (q : Position)
         (call : left a vs ts q ≡ resumption list v values trail p per-call) where
       -- it is not spent
-      pub ended : Unspent a → left a vs ts q ≡ resumption list v values₀ trail₀ start mostSteps
+      pub ended : Unspent a → left a vs ts q ≡ resumption list v values₀ trail₀ start most_steps
       ended h =
           let m = so_far calls + per-call in
           let n = (calls - 1) * per-call in
-          let e : m + n ≡ mostSteps = omega (arith, l.few) in
+          let e : m + n ≡ most_steps = omega (arith, l.few) in
           let d = call ∙ one-call m _ (omega (arith, l.few)) (l.chain per-call _ (last per-call)) in
           d
           ∙ sym (more-steps list v values₀ trail₀ start m n (none_done (m + n) (omega (arith, e)))

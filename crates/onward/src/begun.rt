@@ -1,10 +1,10 @@
 // A search that was begun with no steps, and is taken up.
 ghost use Rattle.std.specs.Prelude.{◌≡◌};
-ghost use Rattle.clauses.specs.Answers.{fits, countAnswer};
+ghost use Rattle.clauses.specs.Answers.{fits, count_answer};
 ghost use Rattle.search.specs.Answers.{answer_of};
 ghost use Rattle.solve_rules.specs.Finding.{Slices, slices};
 ghost use Rattle.solve.specs.Private.{Left};
-ghost use Rattle.onward.specs.Limits.{mostSteps};
+ghost use Rattle.onward.specs.Limits.{most_steps};
 ghost use Rattle.onward.specs.Private.{Begun, SomeBegun};
 
 use super::calls::go_on;
@@ -22,12 +22,12 @@ fn run_on(
     trail: &mut [i32],
     instance: &mut [u8],
 ) -> Search
-    requires sheet_value { countAnswer sheet.now ≡ fits size.variables size.clauses size.words }
+    requires sheet_value { count_answer sheet.now ≡ fits size.variables size.clauses size.words }
     requires some_begun { SomeBegun sheet.now (slices list.now values.old trail.old instance.old) }
     ensures { (lent : Slices)
         → Begun sheet.now lent
         (slices list.now values.old trail.old instance.old)
-        → Left sheet.now lent mostSteps (answer_of result)
+        → Left sheet.now lent most_steps (answer_of result)
         (slices list.now values.new trail.new instance.new) }
 {
     let v = size.variables;
@@ -53,7 +53,7 @@ pub(crate) fn take_up(
     ensures { (lent : Slices)
         → Begun sheet.now lent
         (slices list.now values.old trail.old instance.old)
-        → Left sheet.now lent mostSteps (answer_of result)
+        → Left sheet.now lent most_steps (answer_of result)
         (slices list.now values.new trail.new instance.new) }
 {
     let counted = count(sheet);

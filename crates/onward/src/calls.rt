@@ -3,7 +3,7 @@ ghost use Rattle.std.specs.Prelude.{◌≡◌};
 ghost use Rattle.search.specs.Answers.{answer_of};
 ghost use Rattle.search.specs.Resumed.{left, resumption};
 ghost use Rattle.search.specs.Resuming.{start};
-ghost use Rattle.onward.specs.Limits.{mostSteps};
+ghost use Rattle.onward.specs.Limits.{most_steps};
 
 use super::shown::{end_line, show};
 use report::finder::step_figure;
@@ -20,7 +20,7 @@ const CALLS: u64 = 18446744073709;
 // leaves are those of one call of all the steps.
 pub(crate) fn go_on(list: &[i32], v: u32, values: &mut [u8], trail: &mut [i32]) -> Resumed
     ensures { left (answer_of result.answer) values.new trail.new result.position
-        ≡ resumption list.now v values.old trail.old start mostSteps }
+        ≡ resumption list.now v values.old trail.old start most_steps }
 {
     let mut position = Position {
         length: 0,

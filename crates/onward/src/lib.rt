@@ -4,9 +4,9 @@ ghost use Rattle.text.specs.Texts.{Prints};
 ghost use Rattle.search.specs.Answers.{answer_of};
 ghost use Rattle.solve_rules.specs.Finding.{slices, finding};
 ghost use Rattle.solve_rules.specs.Finds.{Finds};
-ghost use Rattle.report.specs.Printed.{findingText, slicesAfter};
+ghost use Rattle.report.specs.Printed.{finding_text, slices_after};
 ghost use Rattle.report.specs.Tells.{Tells};
-ghost use Rattle.onward.specs.Limits.{mostSteps};
+ghost use Rattle.onward.specs.Limits.{most_steps};
 
 use begun::take_up;
 use cells::MOST_CELLS;
@@ -30,12 +30,12 @@ pub fn find_on(
 ) -> Search
     ensures result_value { answer_of result
         ≡ (finding sheet.now
-        (slices list.old values.old trail.old instance.old) mostSteps).answer }
+        (slices list.old values.old trail.old instance.old) most_steps).answer }
     ensures instance_after { slices list.new values.new trail.new instance.new
         ≡ (finding sheet.now
-        (slices list.old values.old trail.old instance.old) mostSteps).left }
+        (slices list.old values.old trail.old instance.old) most_steps).left }
     ensures finds { Finds sheet.now
-        (slices list.old values.old trail.old instance.old) mostSteps
+        (slices list.old values.old trail.old instance.old) most_steps
         (answer_of result) (slices list.new values.new trail.new instance.new) }
 {
     let begun = find(sheet, list, values, trail, instance, 0);
@@ -57,11 +57,11 @@ pub fn find_on_text(
 ) -> usize
     ensures upper_bound { (result ≤ length text.new) × (result ≡ length (take result text.new)) }
     ensures prints { Prints
-        (findingText mostSteps input.now
+        (finding_text most_steps input.now
         (slices list.old values.old trail.old instance.old))
         text.old text.new result }
     ensures instance_after { slices list.new values.new trail.new instance.new
-        ≡ slicesAfter mostSteps input.now
+        ≡ slices_after most_steps input.now
         (slices list.old values.old trail.old instance.old) }
     ensures tells { Tells input.now (take result text.new) }
 {

@@ -154,9 +154,9 @@ module _ (P Q : List ℕ → Type 0) (f : List ℕ → List ℕ) (maps : (x : Li
         each = each-of-map P Q (λ x p r. maps x p) xs l.each l.each;
         ascending = rise;
         different = ascending-different (map f xs) rise;
-        others-later = λ y q.
+        others_later = λ y q.
             let o = onto y q in
             ⊎_elim (λ h. inl (some-of-map y o.0 o.2 xs h))
             (λ h. inr (each-of-map (λ x. Before x o.0) (λ z. Before z y) (λ x p b. rw o.2 at (up x o.0 p o.1 b)) xs l.each h))
-            (l.others-later o.0 o.1);
+            (l.others_later o.0 o.1);
       }

@@ -32,4 +32,4 @@ pub record Lists (P : List ℕ → Type 0) (listed : List (List ℕ)) : Type 0 w
   pub each : Each P listed
   pub ascending : Pairs Before listed
   pub different : Pairs (λ xs ys. xs ≡ ys → ⊥) listed
-  pub others-later : (other : List ℕ) → P other → (Some (λ xs. xs ≡ other) listed) ⊎ (Each (λ xs. Before xs other) listed)
+  pub others_later : (other : List ℕ) → P other → (Some (λ xs. xs ≡ other) listed) ⊎ (Each (λ xs. Before xs other) listed)

@@ -7,7 +7,7 @@ use Prim.Native.Nat.{ℕ, ◌<◌}
 use native.Mathlib.Decide.{ℕ_discrete}
 use borrow.Author.Tests.{eq-eqb, ne_eqb}
 use Rattle.shapes.specs.declared.Shape.{Shape}
-use Rattle.sheet_rules.specs.Blocks.{Sheet, scope, variableCount, sortOf}
+use Rattle.sheet_rules.specs.Blocks.{Sheet, scope, variable_count, sort_of}
 use Rattle.relational.specs.Trees.{atoms, intersection, Expression, comprehension, Formula}
 use Rattle.relational.specs.Meaning.{Tuple, one, two, Environment, bind, Combined, CanBe, Denoted, Member, Holds}
 use Rattle.relational.specs.Evaluation.{value_of, truth_of}
@@ -29,31 +29,31 @@ use Rattle.relational.proofs.Typing.{Formed, of-comparison, of_test, of-negation
 module _ (sheet : Sheet) where
   -- the environments that a walk meets
   abbrev pub InRange : Environment → Type 0
-  InRange env = (x : ℕ) → x < variableCount sheet → CanBe sheet (sortOf sheet x) (env x)
+  InRange env = (x : ℕ) → x < variable_count sheet → CanBe sheet (sort_of sheet x) (env x)
 
-  pub in-range-bind : (env : Environment) (x v : ℕ) → CanBe sheet (sortOf sheet x) v → InRange env
+  pub in-range-bind : (env : Environment) (x v : ℕ) → CanBe sheet (sort_of sheet x) v → InRange env
       → InRange (bind env x v)
   in-range-bind env x v h r y l = go (ℕ_discrete y x)
     where
-      go : Dec (y ≡ x) → bind env x v y < scope sheet (sortOf sheet y)
+      go : Dec (y ≡ x) → bind env x v y < scope sheet (sort_of sheet y)
       go (yes p) = rw (p, eq-eqb x x refl) h
       go (no d) = rw (ne_eqb y x d) (r y l)
 
 module _ (sheet : Sheet) (instance : List ℕ) where
   -- ---- comprehension: a binder, as the quantifiers of 2.2.6
   stands-comprehension : (x : ℕ) (f : Formula) (env : Environment)
-      → ((v : ℕ) → CanBe sheet (sortOf sheet x) v
+      → ((v : ℕ) → CanBe sheet (sort_of sheet x) v
       → Is (truth_of sheet instance f (bind env x v)) (Holds sheet instance f (bind env x v)))
-      → Stands (line (scope sheet (sortOf sheet x))) (value_of sheet instance (comprehension x f) env)
+      → Stands (line (scope sheet (sort_of sheet x))) (value_of sheet instance (comprehension x f) env)
       (Member sheet instance (comprehension x f) env)
   unfolding value_of
   stands-comprehension x f env h =
-      stands_same (stands-intersection (stands-sort sheet instance (sortOf sheet x) env)
-      (stands-body (scope sheet (sortOf sheet x)) (λ v. truth_of sheet instance f (bind env x v))
+      stands_same (stands-intersection (stands-sort sheet instance (sort_of sheet x) env)
+      (stands-body (scope sheet (sort_of sheet x)) (λ v. truth_of sheet instance f (bind env x v))
       (λ v. Holds sheet instance f (bind env x v)) h)) same
     where
-      same : (t : Tuple) → Combined intersection (Denoted sheet instance atoms (sortOf sheet x) env)
-          (Body (scope sheet (sortOf sheet x)) (λ v. Holds sheet instance f (bind env x v))) t ↔ Member sheet instance
+      same : (t : Tuple) → Combined intersection (Denoted sheet instance atoms (sort_of sheet x) env)
+          (Body (scope sheet (sort_of sheet x)) (λ v. Holds sheet instance f (bind env x v))) t ↔ Member sheet instance
           (comprehension x f) env t
       same (one v) = ((λ e. (e.0, e.1.1)), λ e. (e.0, (e.0.0, e.1)))
       same (two i j) = ((λ e. e.0), λ e. absurd e)
@@ -89,7 +89,7 @@ module _ (sheet : Sheet) (instance : List ℕ) where
     evaluates (of-connective {f} {g = h} o p q) env g =
         truth-connective o (truth_of sheet instance f env) (truth_of sheet instance h env) (evaluates p env g) (evaluates q env g)
     evaluates (of-quantified {f} q x l p) env g =
-        truth-quantifier q (scope sheet (sortOf sheet x)) (stands-sort sheet instance (sortOf sheet x) env)
-        (stands-body (scope sheet (sortOf sheet x)) (λ v. truth_of sheet instance f (bind env x v))
+        truth-quantifier q (scope sheet (sort_of sheet x)) (stands-sort sheet instance (sort_of sheet x) env)
+        (stands-body (scope sheet (sort_of sheet x)) (λ v. truth_of sheet instance f (bind env x v))
         (λ v. Holds sheet instance f (bind env x v))
         (λ v h. evaluates p (bind env x v) (in-range-bind sheet env x v h g)))

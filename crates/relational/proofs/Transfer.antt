@@ -4,14 +4,14 @@ use mathlib.Core.Logic.Iff
 use mathlib.Core.Logic.{inl, inr, ⊎_elim, ◌↔◌}
 use mathlib.Core.List.{List}
 use Prim.Native.Nat.{ℕ}
-use Rattle.sheet_rules.specs.Blocks.{Sheet, fourBlocks, sortOf, multiplicity, firstSort}
+use Rattle.sheet_rules.specs.Blocks.{Sheet, four_blocks, sort_of, multiplicity, first_sort}
 use Rattle.relational.specs.Trees.{Leaf, relation, variable, atoms, identity, Binary, union, intersection}
 use Rattle.relational.specs.Trees.{difference, join, product, Unary, inverse, closure, Comparison, equal}
 use Rattle.relational.specs.Trees.{within, Test, some, none, lone, Connective, conjunction, disjunction}
 use Rattle.relational.specs.Trees.{implication, equivalence, Quantifier, for-all, for_some, Expression, leaf}
 use Rattle.relational.specs.Trees.{binary, unary, comprehension, Formula, comparison, test, negation}
-use Rattle.relational.specs.Trees.{connective, quantified, Tree, expression, formula, broken, treeStep}
-use Rattle.relational.specs.Trees.{rootTree}
+use Rattle.relational.specs.Trees.{connective, quantified, Tree, expression, formula, broken, tree_step}
+use Rattle.relational.specs.Trees.{root_tree}
 use Rattle.relational.specs.Meaning.{Atom, Tuple, one, two, Tuples, Environment, bind, Combined, Converted}
 use Rattle.relational.specs.Meaning.{Compared, Tested, Connected, Quantified, IsAtom, Given, Denoted, Member}
 use Rattle.relational.specs.Meaning.{Holds, Marks, OfAtoms, IsTrue, Satisfies}
@@ -63,13 +63,13 @@ quantified-over for_some a p x = (x.0, (a x.0).0 x.1, (p x.0).0 x.2)
 -- ---- trees and marks, over all blocks but the sorts
 module _ (variables relations nodes sorts sorts' : List ℕ) where
   abbrev sheet : Sheet
-  sheet = fourBlocks sorts variables relations nodes
+  sheet = four_blocks sorts variables relations nodes
 
   abbrev other : Sheet
-  other = fourBlocks sorts' variables relations nodes
+  other = four_blocks sorts' variables relations nodes
 
-  same-root : rootTree sheet ≡ rootTree other
-  unfolding treeStep
+  same-root : root_tree sheet ≡ root_tree other
+  unfolding tree_step
   same-root = refl
 
   -- the same atoms and tuples
@@ -96,7 +96,7 @@ module _ (variables relations nodes sorts sorts' : List ℕ) where
         combined o (λ u. Iff.symm (member p env u)) (λ u. Iff.symm (member q env u)) t,
       )
       member (unary o p) env t = (converted o (λ u. member p env u) t, converted o (λ u. Iff.symm (member p env u)) t)
-      member (comprehension x f) env (one v) = Iff.and (same.atoms (sortOf sheet x) v) (holds f (bind env x v))
+      member (comprehension x f) env (one v) = Iff.and (same.atoms (sort_of sheet x) v) (holds f (bind env x v))
       member (comprehension x f) env (two i j) = Iff.rfl
 
       holds : (f : Formula) (env : Environment) → Holds sheet I f env ↔ Holds other J f env
@@ -109,17 +109,17 @@ module _ (variables relations nodes sorts sorts' : List ℕ) where
       holds (connective o f g) env =
           (connected o (holds f env) (holds g env), connected o (Iff.symm (holds f env)) (Iff.symm (holds g env)))
       holds (quantified q x f) env = (
-        quantified-over q (λ v. same.atoms (sortOf sheet x) v) (λ v. holds f (bind env x v)),
-        quantified-over q (λ v. Iff.symm (same.atoms (sortOf sheet x) v)) (λ v. Iff.symm (holds f (bind env x v))),
+        quantified-over q (λ v. same.atoms (sort_of sheet x) v) (λ v. holds f (bind env x v)),
+        quantified-over q (λ v. Iff.symm (same.atoms (sort_of sheet x) v)) (λ v. Iff.symm (holds f (bind env x v))),
       )
 
-    is_true : (t : Tree) → IsTrue sheet I t → IsTrue other J t
-    is_true (expression e) x = x
-    is_true (formula f) x = (holds f (λ x. 0)).0 x
-    is_true broken x = x
+    is_true_lem : (t : Tree) → IsTrue sheet I t → IsTrue other J t
+    is_true_lem (expression e) x = x
+    is_true_lem (formula f) x = (holds f (λ x. 0)).0 x
+    is_true_lem broken x = x
 
-    pub of-atoms : (r : ℕ) → OfAtoms sheet I r → OfAtoms other J r
-    of-atoms r x =
+    pub of_atoms : (r : ℕ) → OfAtoms sheet I r → OfAtoms other J r
+    of_atoms r x =
         record {
           set = λ i y. (same.atoms _ i).0 (x.set i ((same.given r (one i)).1 y));
           rows = λ i j y.
@@ -133,12 +133,12 @@ module _ (variables relations nodes sorts sorts' : List ℕ) where
           set = λ e. marked-same (multiplicity sheet r) _ _ (λ j. same.given r (one j)) (x.set e);
           rows = λ e i a.
               marked-same (multiplicity sheet r) _ _ (λ j. same.given r (two i j))
-              (x.rows e i ((same.atoms (firstSort sheet r) i).1 a));
+              (x.rows e i ((same.atoms (first_sort sheet r) i).1 a));
         }
 
     pub satisfies : Satisfies sheet I → Satisfies other J
     satisfies x =
         record {
           marks = λ r l. marks r (x.marks r l);
-          root = rw (← same-root) (is_true (rootTree sheet) x.root);
+          root = rw (← same-root) (is_true_lem (root_tree sheet) x.root);
         }

@@ -11,20 +11,20 @@ use Rattle.relational.specs.Trees.{intersection, Comparison, equal, within, Test
 use Rattle.relational.specs.Trees.{conjunction, disjunction, implication, equivalence, Quantifier, for-all, for_some}
 use Rattle.relational.specs.Meaning.{Atom, Tuple, one, two, Tuples, Combined, Compared, Tested, Connected}
 use Rattle.relational.specs.Meaning.{Quantified}
-use Rattle.relational.specs.Matrices.{upto, Matrix, setOf, matched}
-use Rattle.relational.specs.Evaluation.{implies, same, truthComparison, truthTest, truthConnective, truthQuantifier}
+use Rattle.relational.specs.Matrices.{upto, Matrix, set_of, matched}
+use Rattle.relational.specs.Evaluation.{implies, same, truth_comparison, truth_test, truth_connective, truth_quantifier}
 use Rattle.relational.proofs.Flags.{Is, recast, is-or, is-and, is-implies, is_same, is_all}
 use Rattle.relational.proofs.Counts as counts
-use Rattle.relational.proofs.Stands.{Size, line, table, matrixOf, total, Fits, place, place-lt, place-injective, tuple_at}
+use Rattle.relational.proofs.Stands.{Size, line, table, matrix_of, total, Fits, place, place-lt, place-injective, tuple_at}
 use Rattle.relational.proofs.Stands.{Cells, Stands, cells-line}
-use Rattle.relational.proofs.Basic.{cellPair, matched-is, Decides, stands-intersection}
+use Rattle.relational.proofs.Basic.{cell_pair, matched-is, Decides, stands-intersection}
 
 -- ---- comparisons: all pairs of cells together
 module _ {z : Size} {m k : Matrix Bool} {P Q : Tuples} (a : Stands z m P) (b : Stands z k Q) where
   truth-matched : (R : Tuples) (o : Bool × Bool → Bool) → Decides P Q R o
       → Is (all o (matched false m k)) ((t : Tuple) → Fits z t → R t)
   truth-matched R o d =
-      rw (a.1, b.1, matched-is z p q) (recast (is_all o (cellPair p q) (total z) Place-at at) (forth, λ f i l t g e. f t g))
+      rw (a.1, b.1, matched-is z p q) (recast (is_all o (cell_pair p q) (total z) Place-at at) (forth, λ f i l t g e. f t g))
     where
       p : List Bool
       p = a.0
@@ -35,10 +35,10 @@ module _ {z : Size} {m k : Matrix Bool} {P Q : Tuples} (a : Stands z m P) (b : S
       Place-at : ℕ → Type 0
       Place-at i = (t : Tuple) → Fits z t → place z t ≡ i → R t
 
-      tell : (t : Tuple) → Fits z t → Is (o (cellPair p q (place z t))) (R t)
+      tell : (t : Tuple) → Fits z t → Is (o (cell_pair p q (place z t))) (R t)
       tell t h = d t (get_or p (place z t) false) (get_or q (place z t) false) (a.2.cell t h) (b.2.cell t h)
 
-      at : (i : ℕ) → i < total z → Is (o (cellPair p q i)) (Place-at i)
+      at : (i : ℕ) → i < total z → Is (o (cell_pair p q i)) (Place-at i)
       at i l =
           let u = tuple_at z i l in
           ((λ e t g r. (tell t g).0 (rw r e)), λ f. rw (← u.2) ((tell u.0 u.1).1 (f u.0 u.1 u.2)))
@@ -46,7 +46,7 @@ module _ {z : Size} {m k : Matrix Bool} {P Q : Tuples} (a : Stands z m P) (b : S
       forth : ((i : ℕ) → i < total z → Place-at i) → (t : Tuple) → Fits z t → R t
       forth f t g = f (place z t) (place-lt z t g) t g refl
 
-  pub truth-comparison : (o : Comparison) → Is (truthComparison o m k) (Compared o P Q)
+  pub truth-comparison : (o : Comparison) → Is (truth_comparison o m k) (Compared o P Q)
   truth-comparison equal =
       recast (truth-matched (λ t. P t ↔ Q t) same (λ t x y h g. is_same x y h g))
       ((λ f t. ((λ x. (f t (a.2.fits t x)).0 x), λ y. (f t (b.2.fits t y)).1 y)), λ f t g. f t)
@@ -70,7 +70,7 @@ module _ {z : Size} {p : List Bool} {P : Tuples} (a : Cells z p P) where
   cell-true : (t : Tuple) → P t → get_or p (place z t) false ≡ true
   cell-true t x = (a.cell t (a.fits t x)).1 x
 
-  test-cells : (o : Test) → Is (truthTest o p) (Tested o P)
+  test-cells : (o : Test) → Is (truth_test o p) (Tested o P)
   test-cells some =
       recast (counts.is_some p) ((λ x. let u = true-cell x.0 x.1 in (u.0, u.1)), λ x. (place z x.0, cell-true x.0 x.1))
   test-cells none =
@@ -82,15 +82,15 @@ module _ {z : Size} {p : List Bool} {P : Tuples} (a : Cells z p P) where
         λ f i j h g. let u = true-cell i h in let w = true-cell j g in sym u.2 ∙ ap (place z) (f u.0 w.0 u.1 w.1) ∙ w.2,
       )
 
-cells_of : (z : Size) (bs : List Bool) → (matrixOf z bs).cells ≡ bs
+cells_of : (z : Size) (bs : List Bool) → (matrix_of z bs).cells ≡ bs
 cells_of (line n) bs = refl
 cells_of (table r c) bs = refl
 
-pub truth-test : {z : Size} {m : Matrix Bool} {P : Tuples} → Stands z m P → (o : Test) → Is (truthTest o m.cells) (Tested o P)
+pub truth-test : {z : Size} {m : Matrix Bool} {P : Tuples} → Stands z m P → (o : Test) → Is (truth_test o m.cells) (Tested o P)
 truth-test {z} {m} {P} a o = rw (a.1, cells_of z a.0) (test-cells a.2 o)
 
 -- ---- connectives
-pub truth-connective : {P Q : Type 0} (o : Connective) (a b : Bool) → Is a P → Is b Q → Is (truthConnective o a b) (Connected o P Q)
+pub truth-connective : {P Q : Type 0} (o : Connective) (a b : Bool) → Is a P → Is b Q → Is (truth_connective o a b) (Connected o P Q)
 truth-connective conjunction a b p q = is-and a b p q
 truth-connective disjunction a b p q = is-or a b p q
 truth-connective implication a b p q = is-implies a b p q
@@ -103,7 +103,7 @@ Body n P (one v) = (v < n) × P v
 Body n P (two i j) = ⊥
 
 pub stands-body : (n : ℕ) (f : ℕ → Bool) (P : Atom → Type 0) → ((v : ℕ) → v < n → Is (f v) (P v))
-    → Stands (line n) (setOf n (map f (upto n))) (Body n P)
+    → Stands (line n) (set_of n (map f (upto n))) (Body n P)
 stands-body n f P h = (
   map f (upto n),
   refl,
@@ -116,7 +116,7 @@ stands-body n f P h = (
 
 pub truth-quantifier : (q : Quantifier) (n : ℕ) {m k : Matrix Bool} {R : Tuples} {P : Atom → Type 0}
     → Stands (line n) m R → Stands (line n) k (Body n P)
-    → Is (truthQuantifier q m k) (Quantified q (λ v. R (one v)) P)
+    → Is (truth_quantifier q m k) (Quantified q (λ v. R (one v)) P)
 truth-quantifier for-all n {R} {P} a b = recast (truth-comparison a b within) ((λ f v r. (f (one v) r).1), back)
   where
     back : ((v : Atom) → R (one v) → P v) → (t : Tuple) → R t → Body n P t

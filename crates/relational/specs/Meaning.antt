@@ -1,15 +1,15 @@
 -- What expressions and formulas mean in an instance, in the order of section 2.2 of source document 001, and what
 -- satisfies a sheet.
 use Rattle.std.specs.Prelude.{◌≡◌, ◌⊎◌, ◌↔◌, true, cond, List, ℕ, zero, suc, ◌<◌, eqb}
-use Rattle.sheet_rules.specs.Blocks.{Sheet, byte, scope, isBounded, sortOf, relationCount, columns, multiplicity}
-use Rattle.sheet_rules.specs.Blocks.{firstSort, secondSort}
+use Rattle.sheet_rules.specs.Blocks.{Sheet, byte, scope, is_bounded, sort_of, relation_count, columns, multiplicity}
+use Rattle.sheet_rules.specs.Blocks.{first_sort, second_sort}
 use Rattle.relational.specs.Trees.{Leaf, relation, variable, atoms, identity, Binary, union, intersection}
 use Rattle.relational.specs.Trees.{difference, join, product, Unary, inverse, closure, Comparison, equal, within}
 use Rattle.relational.specs.Trees.{Test, some, none, lone, Connective, conjunction, disjunction, implication}
 use Rattle.relational.specs.Trees.{equivalence, Quantifier, for-all, for_some, Expression, leaf, binary, unary}
 use Rattle.relational.specs.Trees.{comprehension, Formula, comparison, test, negation, connective, quantified}
-use Rattle.relational.specs.Trees.{Tree, expression, formula, broken, rootTree}
-use Rattle.relational.specs.Cells.{memberCell, cell, hasCells}
+use Rattle.relational.specs.Trees.{Tree, expression, formula, broken, root_tree}
+use Rattle.relational.specs.Cells.{member_cell, cell, has_cells}
 
 -- "Every expression in Alloy denotes a relation, i.e. a set of tuples of atoms." Here a tuple has one atom (in a set)
 -- or two.
@@ -38,13 +38,13 @@ module _ (sheet : Sheet) where
 module _ (sheet : Sheet) (instance : List ℕ) where
   -- i is an atom of sort k: "All atoms of a sort exist.", of a bounded sort (Change 8) those whose membership cell is 1
   abbrev pub IsAtom : ℕ → Atom → Type 0
-  IsAtom k i = CanBe sheet k i × (isBounded sheet k ≡ true → byte instance (memberCell sheet k i) ≡ 1)
+  IsAtom k i = CanBe sheet k i × (is_bounded sheet k ≡ true → byte instance (member_cell sheet k i) ≡ 1)
 
   -- the tuples of relation r: those whose byte is 1
   abbrev pub Given : ℕ → Tuples
-  Given r (one i) = (columns sheet r ≡ 1) × CanBe sheet (firstSort sheet r) i × (byte instance (cell sheet r 0 i) ≡ 1)
+  Given r (one i) = (columns sheet r ≡ 1) × CanBe sheet (first_sort sheet r) i × (byte instance (cell sheet r 0 i) ≡ 1)
   Given r (two i j) =
-      (columns sheet r ≡ 2) × CanBe sheet (firstSort sheet r) i × CanBe sheet (secondSort sheet r) j
+      (columns sheet r ≡ 2) × CanBe sheet (first_sort sheet r) i × CanBe sheet (second_sort sheet r) j
       × (byte instance (cell sheet r i j) ≡ 1)
 
   -- "1 relation a; 2 variable a (its one atom); 3 all atoms of sort a; 4 identity on sort a"
@@ -117,7 +117,7 @@ module _ (sheet : Sheet) (instance : List ℕ) where
     Member (leaf l a) env t = Denoted sheet instance l a env t
     Member (binary o p q) env t = Combined o (λ u. Member p env u) (λ u. Member q env u) t
     Member (unary o p) env t = Converted o (λ u. Member p env u) t
-    Member (comprehension x f) env (one v) = IsAtom sheet instance (sortOf sheet x) v × Holds f (bind env x v)
+    Member (comprehension x f) env (one v) = IsAtom sheet instance (sort_of sheet x) v × Holds f (bind env x v)
     Member (comprehension x f) env (two i j) = ⊥
 
     pub Holds : Formula → Environment → Type 0
@@ -125,24 +125,24 @@ module _ (sheet : Sheet) (instance : List ℕ) where
     Holds (test o p) env = Tested o (λ t. Member p env t)
     Holds (negation f) env = Holds f env → ⊥
     Holds (connective o f g) env = Connected o (Holds f env) (Holds g env)
-    Holds (quantified q x f) env = Quantified q (IsAtom sheet instance (sortOf sheet x)) (λ v. Holds f (bind env x v))
+    Holds (quantified q x f) env = Quantified q (IsAtom sheet instance (sort_of sheet x)) (λ v. Holds f (bind env x v))
 
   -- "For a relation the mark holds for each atom of the first sort" (Change 8: members); "a set is a single row."
   pub record Marks (r : ℕ) : Type 0 where
     pub set : columns sheet r ≡ 1 → Marked (multiplicity sheet r) (λ j. Given sheet instance r (one j))
-    pub rows : columns sheet r ≡ 2 → (i : Atom) → IsAtom sheet instance (firstSort sheet r) i
+    pub rows : columns sheet r ≡ 2 → (i : Atom) → IsAtom sheet instance (first_sort sheet r) i
         → Marked (multiplicity sheet r) (λ j. Given sheet instance r (two i j))
 
   -- the tuples of relation r are of atoms: "a cell of a non-member is 1; such an instance isn't within the scopes"
   pub record OfAtoms (r : ℕ) : Type 0 where
-    pub set : (i : Atom) → Given sheet instance r (one i) → IsAtom sheet instance (firstSort sheet r) i
+    pub set : (i : Atom) → Given sheet instance r (one i) → IsAtom sheet instance (first_sort sheet r) i
     pub rows : (i j : Atom) → Given sheet instance r (two i j)
-        → IsAtom sheet instance (firstSort sheet r) i × IsAtom sheet instance (secondSort sheet r) j
+        → IsAtom sheet instance (first_sort sheet r) i × IsAtom sheet instance (second_sort sheet r) j
 
   -- "An instance is within the scopes when it has one byte for each cell, each 0 or 1", and its tuples are of atoms
   pub record WithinScopes : Type 0 where
-    pub bytes : hasCells sheet instance ≡ true
-    pub of-atoms : (r : ℕ) → r < relationCount sheet → OfAtoms r
+    pub bytes : has_cells sheet instance ≡ true
+    pub of_atoms : (r : ℕ) → r < relation_count sheet → OfAtoms r
 
   -- the root; no variable is free in it, so its environment does not matter (any-environment of proofs/Satisfaction)
   abbrev pub IsTrue : Tree → Type 0
@@ -152,8 +152,8 @@ module _ (sheet : Sheet) (instance : List ℕ) where
 
   -- "it satisfies marks and formula when every mark holds in it and the root is true by the kinds' meanings"
   pub record Satisfies : Type 0 where
-    pub marks : (r : ℕ) → r < relationCount sheet → Marks r
-    pub root : IsTrue (rootTree sheet)
+    pub marks : (r : ℕ) → r < relation_count sheet → Marks r
+    pub root : IsTrue (root_tree sheet)
 
 -- an instance within the scopes that satisfies marks and formula
 pub record Solution (sheet : Sheet) (instance : List ℕ) : Type 0 where

@@ -10,11 +10,11 @@ use Rattle.text.specs.Puts.{Put}
 use Rattle.text.specs.Texts.{bytes_of, decimal}
 use Rattle.text.proofs.Decimals.{decimal-short}
 use Rattle.text.proofs.Puts.{put-nothing, put_both, put_as}
-use Rattle.sheet_rules.specs.Blocks.{Sheet, byte, scope, isBounded}
-use Rattle.relational.specs.Cells.{firstMember, memberCell, memberCount, rowCount, rowLength, cells_of, firstCell, cell}
+use Rattle.sheet_rules.specs.Blocks.{Sheet, byte, scope, is_bounded}
+use Rattle.relational.specs.Cells.{first_member, member_cell, member_count, row_count, row_length, cells_of, first_cell, cell}
 use Rattle.clauses_rules.specs.Whole.{series}
-use Rattle.report.specs.Printed.{cellDigit, rowDigits, relationLine, memberDigits, memberLine}
-use Rattle.report.specs.Private.{rowFrom, lineFrom}
+use Rattle.report.specs.Printed.{cell_digit, row_digits, relation_line, member_digits, member_line}
+use Rattle.report.specs.Private.{row_from, line_from}
 
 series-more : (n : ℕ) (f : ℕ → List ℕ) → series n f ++ f n ≡ series (n + 1) f
 unfolding series
@@ -35,9 +35,9 @@ unfolding series
 bytes-length x zero = refl
 bytes-length x (suc n) = omega (arith, length-append (series n (λ j. x j ∷ [])) (x n ∷ []), bytes-length x n)
 
-pub row-length : (instance : List ℕ) (first n : ℕ) → length (rowFrom instance first n) ≡ n + 1
-unfolding rowFrom
-row-length instance first n = omega (arith, bytes-length (λ j. cellDigit (byte instance (first + j))) n)
+pub row-length : (instance : List ℕ) (first n : ℕ) → length (row_from instance first n) ≡ n + 1
+unfolding row_from
+row-length instance first n = omega (arith, bytes-length (λ j. cell_digit (byte instance (first + j))) n)
 
 -- the number of a relation has at most two digits
 pub number_short : (r : ℕ) → r < 16 → length (decimal r) ≤ 2
@@ -45,58 +45,58 @@ number_short r h = decimal-short 1 r (omega arith)
 
 -- a row, and a line, by the sheet's numbers
 row_is : (sheet : Sheet) (instance : List ℕ) (r i : ℕ)
-    → rowFrom instance (firstCell sheet r + i * rowLength sheet r) (rowLength sheet r) ≡ bytes_of " " ++ rowDigits sheet instance r i
-unfolding rowFrom
+    → row_from instance (first_cell sheet r + i * row_length sheet r) (row_length sheet r) ≡ bytes_of " " ++ row_digits sheet instance r i
+unfolding row_from
 row_is sheet instance r i =
-    let n = rowLength sheet r in
-    let e : (j : ℕ) → firstCell sheet r + i * n + j ≡ cell sheet r i j = λ j. omega arith in
-    λ k. 32 ∷ series n (λ j. cellDigit (byte instance (e j k)) ∷ [])
+    let n = row_length sheet r in
+    let e : (j : ℕ) → first_cell sheet r + i * n + j ≡ cell sheet r i j = λ j. omega arith in
+    λ k. 32 ∷ series n (λ j. cell_digit (byte instance (e j k)) ∷ [])
 
 line-is : (sheet : Sheet) (instance : List ℕ) (r : ℕ)
-    → lineFrom 114 instance r (firstCell sheet r) (rowCount sheet r) (rowLength sheet r) ≡ relationLine sheet instance r
-unfolding lineFrom
-line-is sheet instance r = λ k. 114 ∷ (decimal r ++ (series (rowCount sheet r) (λ i. row_is sheet instance r i k) ++ (10 ∷ [])))
+    → line_from 114 instance r (first_cell sheet r) (row_count sheet r) (row_length sheet r) ≡ relation_line sheet instance r
+unfolding line_from
+line-is sheet instance r = λ k. 114 ∷ (decimal r ++ (series (row_count sheet r) (λ i. row_is sheet instance r i k) ++ (10 ∷ [])))
 
 -- what the loop over the relations has put: the lines of those before r, whose next first cell is known
 pub record PutLines (sheet : Sheet) (instance old : List ℕ) (at : ℕ) (new : List ℕ) (end first r : ℕ) : Type 0 where
   pub most : end ≤ at + 76 * r
-  pub next : first ≡ firstCell sheet r
-  pub puts : Put old at (series r (relationLine sheet instance)) new end
+  pub next : first ≡ first_cell sheet r
+  pub puts : Put old at (series r (relation_line sheet instance)) new end
 
 module _ {sheet : Sheet} {instance old : List ℕ} {at : ℕ} where
-  pub lines_none : {first : ℕ} → first ≡ memberCount sheet → PutLines sheet instance old at old at first 0
-  unfolding firstCell
-  lines_none e = record { most = omega arith; next = e; puts = put-none-of (relationLine sheet instance) old at }
+  pub lines_none : {first : ℕ} → first ≡ member_count sheet → PutLines sheet instance old at old at first 0
+  unfolding first_cell
+  lines_none e = record { most = omega arith; next = e; puts = put-none-of (relation_line sheet instance) old at }
 
   pub lines_more : {mid new : List ℕ} {m end r first rows columns : ℕ} → PutLines sheet instance old at mid m first r
-      → rows ≡ rowCount sheet r → columns ≡ rowLength sheet r
-      → Put mid m (lineFrom 114 instance r first rows columns) new end → end ≤ m + 76
+      → rows ≡ row_count sheet r → columns ≡ row_length sheet r
+      → Put mid m (line_from 114 instance r first rows columns) new end → end ≤ m + 76
       → PutLines sheet instance old at new end (first + rows * columns) (r + 1)
-  unfolding firstCell
+  unfolding first_cell
   lines_more {r = r} p a b q h =
-      let e = (λ k. lineFrom 114 instance r (p.next k) (a k) (b k)) ∙ line-is sheet instance r in
+      let e = (λ k. line_from 114 instance r (p.next k) (a k) (b k)) ∙ line-is sheet instance r in
       record {
         most = omega (arith, p.most);
         next = rw (add-one r, a, b) (ap (λ (n : ℕ). n + cells_of sheet r) p.next);
-        puts = put-more (relationLine sheet instance) r p.puts (put_as e q);
+        puts = put-more (relation_line sheet instance) r p.puts (put_as e q);
       }
 
 -- the line of a sort: its only row is its membership cells
-pub sort-line : (sheet : Sheet) (instance : List ℕ) (k : ℕ) {first columns : ℕ} → first ≡ firstMember sheet k
+pub sort-line : (sheet : Sheet) (instance : List ℕ) (k : ℕ) {first columns : ℕ} → first ≡ first_member sheet k
     → columns ≡ scope sheet k
-    → isBounded sheet k ≡ true → lineFrom 115 instance k first 1 columns ≡ memberLine sheet instance k
-unfolding lineFrom rowFrom series
+    → is_bounded sheet k ≡ true → line_from 115 instance k first 1 columns ≡ member_line sheet instance k
+unfolding line_from row_from series
 sort-line sheet instance k {first} {columns} ef ec b =
-    let e : (j : ℕ) → first + 0 * columns + j ≡ memberCell sheet k j = λ j. omega (arith, ef) in
-    (λ i. 115 ∷ (decimal k ++ ((32 ∷ series (ec i) (λ j. cellDigit (byte instance (e j i)) ∷ [])) ++ (10 ∷ []))))
-    ∙ shown (isBounded sheet k) b
+    let e : (j : ℕ) → first + 0 * columns + j ≡ member_cell sheet k j = λ j. omega (arith, ef) in
+    (λ i. 115 ∷ (decimal k ++ ((32 ∷ series (ec i) (λ j. cell_digit (byte instance (e j i)) ∷ [])) ++ (10 ∷ []))))
+    ∙ shown (is_bounded sheet k) b
   where
     line : List ℕ
-    line = 115 ∷ (decimal k ++ ((32 ∷ memberDigits sheet instance k) ++ (10 ∷ [])))
+    line = 115 ∷ (decimal k ++ ((32 ∷ member_digits sheet instance k) ++ (10 ∷ [])))
 
     shown : (b : Bool) → b ≡ true → line ≡ cond b line []
     shown true e = refl
     shown false e = absurd (false≢true e)
 
-pub no_line : (sheet : Sheet) (instance : List ℕ) (k : ℕ) → isBounded sheet k ≡ false → [] ≡ memberLine sheet instance k
+pub no_line : (sheet : Sheet) (instance : List ℕ) (k : ℕ) → is_bounded sheet k ≡ false → [] ≡ member_line sheet instance k
 no_line sheet instance k b = rw b refl

@@ -2,11 +2,11 @@
 -- 02, Change 5, from the printed word on.
 use Rattle.std.specs.Prelude.{◌≡◌, List, ◌++◌, ℕ}
 use Prim.Native.String.{String}
-use Rattle.text.specs.Texts.{bytes_of, endLine}
-use Rattle.sheet_rules.specs.Blocks.{Sheet, sheetOf}
+use Rattle.text.specs.Texts.{bytes_of, end_line}
+use Rattle.sheet_rules.specs.Blocks.{Sheet, sheet_of}
 use Rattle.relational.specs.Meaning.{Solution}
 use Rattle.solve_rules.specs.Smallest.{Smallest}
-use Rattle.report.specs.Printed.{instanceLines}
+use Rattle.report.specs.Printed.{instance_lines}
 
 -- the bytes printed start with a word
 pub record StartsWith (word : String) (text : List ℕ) : Type 0 where
@@ -20,10 +20,10 @@ pub record ShowsSmallest (sheet : Sheet) (text : List ℕ) : Type 0 where
   pub instance : List ℕ
   pub solves : Solution sheet instance
   pub smallest : Smallest sheet instance
-  pub shows : text ≡ endLine (bytes_of "found ") steps ++ instanceLines sheet instance
+  pub shows : text ≡ end_line (bytes_of "found ") steps ++ instance_lines sheet instance
 
 pub record Tells (input text : List ℕ) : Type 0 where
   -- "none" only if no instance within the scopes satisfies marks and formula
-  pub none_only : StartsWith "none" text → (instance : List ℕ) → Solution (sheetOf input) instance → ⊥
+  pub none_only : StartsWith "none" text → (instance : List ℕ) → Solution (sheet_of input) instance → ⊥
   -- "found" only with one that does, the smallest
-  pub found-only : StartsWith "found" text → ShowsSmallest (sheetOf input) text
+  pub found_only : StartsWith "found" text → ShowsSmallest (sheet_of input) text

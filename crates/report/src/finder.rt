@@ -3,15 +3,15 @@ ghost use Rattle.std.specs.Prelude.{◌≡◌, ◌≤◌, length, take};
 ghost use Rattle.std.proofs.Math.Option.{some};
 ghost use Rattle.text.specs.Texts.{Prints};
 ghost use Rattle.text.specs.Puts.{Put};
-ghost use Rattle.sheet_rules.specs.Blocks.{sheetOf};
+ghost use Rattle.sheet_rules.specs.Blocks.{sheet_of};
 ghost use Rattle.sheet_rules.specs.Reading.{reading};
 ghost use Rattle.search_rules.specs.declared.Steps.{Steps};
 ghost use Rattle.search_rules.specs.Run.{total};
-ghost use Rattle.search_rules.specs.Held.{stepLimit};
-ghost use Rattle.search.specs.Answers.{found, answer_of, stepsIn};
+ghost use Rattle.search_rules.specs.Held.{step_limit};
+ghost use Rattle.search.specs.Answers.{found, answer_of, steps_in};
 ghost use Rattle.solve_rules.specs.Finding.{slices};
 ghost use Rattle.solve_rules.specs.Demand3.{FitsLimits};
-ghost use Rattle.report.specs.Printed.{instanceLines, report, lines_of, finderBudget, findingText, slicesAfter};
+ghost use Rattle.report.specs.Printed.{instance_lines, report, lines_of, finder_budget, finding_text, slices_after};
 ghost use Rattle.report.specs.Tells.{Tells};
 
 use super::lines::put_lines;
@@ -22,7 +22,7 @@ use text::put_end;
 
 // The steps done, of all three kinds. It is for a crate that shows those of its own search, and asks of it that they fit.
 pub fn step_figure(steps: Steps) -> u64
-    requires { total steps ≤ stepLimit }
+    requires { total steps ≤ step_limit }
     ensures { result ≡ total steps }
 {
     steps.propagations + steps.decisions + steps.backtracks
@@ -31,9 +31,9 @@ pub fn step_figure(steps: Steps) -> u64
 // Puts the line of `found`, and the lines of the instance where the sheet is accepted.
 fn put_found(text: &mut [u8], input: &[u8], steps: Steps, instance: &[u8]) -> usize
     requires in_bounds { 2048 ≤ length text.old }
-    requires steps_bound { total steps ≤ stepLimit }
+    requires steps_bound { total steps ≤ step_limit }
     ensures put { Put text.old 0 (report (found steps)
-        (lines_of (reading input.now) (sheetOf input.now) instance.now))
+        (lines_of (reading input.now) (sheet_of input.now) instance.now))
         text.new result }
     ensures upper_bound { result ≤ 2048 }
 {
@@ -49,9 +49,9 @@ fn put_found(text: &mut [u8], input: &[u8], steps: Steps, instance: &[u8]) -> us
 // what its own search found, and asks of it room for 2,048 bytes, and that the steps fit.
 pub fn put_answer(text: &mut [u8], input: &[u8], ended: Search, instance: &[u8]) -> usize
     requires in_bounds { 2048 ≤ length text.old }
-    requires steps_bound { (steps : Steps) → stepsIn (answer_of ended) ≡ some steps → total steps ≤ stepLimit }
+    requires steps_bound { (steps : Steps) → steps_in (answer_of ended) ≡ some steps → total steps ≤ step_limit }
     ensures put { Put text.old 0 (report (answer_of ended)
-        (lines_of (reading input.now) (sheetOf input.now) instance.now))
+        (lines_of (reading input.now) (sheet_of input.now) instance.now))
         text.new result }
     ensures upper_bound { result ≤ 2048 }
 {
@@ -67,9 +67,9 @@ pub fn put_answer(text: &mut [u8], input: &[u8], ended: Search, instance: &[u8])
 pub fn put_report(text: &mut [u8], input: &[u8], ended: Search, instance: &[u8]) -> usize
     requires in_bounds { 2048 ≤ length text.old }
     requires fits_limits { (steps : Steps) → answer_of ended ≡ found steps → FitsLimits input.now }
-    requires steps_bound { (steps : Steps) → stepsIn (answer_of ended) ≡ some steps → total steps ≤ stepLimit }
+    requires steps_bound { (steps : Steps) → steps_in (answer_of ended) ≡ some steps → total steps ≤ step_limit }
     ensures put { Put text.old 0
-        (report (answer_of ended) (instanceLines (sheetOf input.now) instance.now))
+        (report (answer_of ended) (instance_lines (sheet_of input.now) instance.now))
         text.new result }
     ensures upper_bound { result ≤ 2048 }
 {
@@ -89,11 +89,11 @@ pub fn find_text(
 ) -> usize
     ensures upper_bound { (result ≤ length text.new) × (result ≡ length (take result text.new)) }
     ensures prints { Prints
-        (findingText finderBudget input.now
+        (finding_text finder_budget input.now
         (slices list.old values.old trail.old instance.old))
         text.old text.new result }
     ensures instance_after { slices list.new values.new trail.new instance.new
-        ≡ slicesAfter finderBudget input.now
+        ≡ slices_after finder_budget input.now
         (slices list.old values.old trail.old instance.old) }
     ensures tells { Tells input.now (take result text.new) }
 {

@@ -1,12 +1,12 @@
 // The lines of the finder.
 ghost use Rattle.std.specs.Prelude.{◌≡◌, suc, ◌+◌, ◌≤◌, ◌<◌, length};
 ghost use Rattle.text.specs.Puts.{Put};
-ghost use Rattle.sheet_rules.specs.Blocks.{sheetOf};
+ghost use Rattle.sheet_rules.specs.Blocks.{sheet_of};
 ghost use Rattle.sheet_rules.specs.Blocks as blocks;
 ghost use Rattle.sheet_rules.specs.Reading.{accepted, reading};
-ghost use Rattle.relational.specs.Cells.{mostCells};
-ghost use Rattle.report.specs.Printed.{cellDigit, relationLines, memberLine, memberLines, instanceLines};
-ghost use Rattle.report.specs.Private.{rowFrom, lineFrom};
+ghost use Rattle.relational.specs.Cells.{most_cells};
+ghost use Rattle.report.specs.Printed.{cell_digit, relation_lines, member_line, member_lines, instance_lines};
+ghost use Rattle.report.specs.Private.{row_from, line_from};
 
 use cells::{first_member, is_bounded, row_count, row_length, scope};
 use sheet::bytes::byte;
@@ -15,7 +15,7 @@ use text::put_decimal;
 
 // The digit of cell k.
 fn cell_digit(instance: &[u8], k: usize) -> u8
-    ensures { result ≡ cellDigit (blocks.byte instance.now k) }
+    ensures { result ≡ cell_digit (blocks.byte instance.now k) }
 {
     if byte(instance, k) == 0 { b'0' } else { b'1' }
 }
@@ -24,7 +24,7 @@ fn cell_digit(instance: &[u8], k: usize) -> u8
 fn put_row(text: &mut [u8], at: usize, instance: &[u8], first: usize, columns: usize) -> usize
     requires columns_in_bounds { at + suc columns ≤ length text.old }
     requires columns_bound { first + columns ≤ 4096 }
-    ensures { Put text.old at (rowFrom instance.now first columns) text.new result }
+    ensures { Put text.old at (row_from instance.now first columns) text.new result }
 {
     text[at] = b' ';
     let mut end = at + 1;
@@ -50,10 +50,10 @@ fn put_line(
 ) -> usize
     requires at_in_bounds { at + 76 ≤ length text.old }
     requires number_bound { number < 16 }
-    requires first_le_most_cells { first ≤ mostCells }
+    requires first_le_most_cells { first ≤ most_cells }
     requires rows_bound { rows ≤ 8 }
     requires columns_bound { columns ≤ 8 }
-    ensures put { Put text.old at (lineFrom letter instance.now number first rows columns)
+    ensures put { Put text.old at (line_from letter instance.now number first rows columns)
         text.new result }
     ensures upper_bound { result ≤ at + 76 }
 {
@@ -79,7 +79,7 @@ fn put_sort(
 ) -> usize
     requires sheet_value { reading sheet.now ≡ accepted layout }
     requires at_in_bounds { (at + 76 ≤ length text.old) × (k < 8) }
-    ensures put { Put text.old at (memberLine (sheetOf sheet.now) instance.now k)
+    ensures put { Put text.old at (member_line (sheet_of sheet.now) instance.now k)
         text.new result }
     ensures upper_bound { result ≤ at + 76 }
 {
@@ -103,7 +103,7 @@ fn put_sort(
 fn put_sorts(text: &mut [u8], at: usize, sheet: &[u8], layout: Layout, instance: &[u8]) -> usize
     requires sheet_value { reading sheet.now ≡ accepted layout }
     requires at_in_bounds { at + 608 ≤ length text.old }
-    ensures put { Put text.old at (memberLines (sheetOf sheet.now) instance.now)
+    ensures put { Put text.old at (member_lines (sheet_of sheet.now) instance.now)
         text.new result }
     ensures upper_bound { result ≤ at + 608 }
 {
@@ -122,7 +122,7 @@ fn put_sorts(text: &mut [u8], at: usize, sheet: &[u8], layout: Layout, instance:
 fn put_relations(text: &mut [u8], at: usize, sheet: &[u8], layout: Layout, instance: &[u8]) -> usize
     requires sheet_value { reading sheet.now ≡ accepted layout }
     requires at_in_bounds { at + 1216 ≤ length text.old }
-    ensures put { Put text.old at (relationLines (sheetOf sheet.now) instance.now)
+    ensures put { Put text.old at (relation_lines (sheet_of sheet.now) instance.now)
         text.new result }
     ensures upper_bound { result ≤ at + 1216 }
 {
@@ -152,7 +152,7 @@ pub(crate) fn put_lines(
 ) -> usize
     requires sheet_value { reading sheet.now ≡ accepted layout }
     requires at_in_bounds { at + 1824 ≤ length text.old }
-    ensures put { Put text.old at (instanceLines (sheetOf sheet.now) instance.now)
+    ensures put { Put text.old at (instance_lines (sheet_of sheet.now) instance.now)
         text.new result }
     ensures upper_bound { result ≤ at + 1824 }
 {

@@ -5,12 +5,12 @@ use Prim.Native.Nat.{ℕ}
 use lib.IntN.{ℤ, pos, negsuc}
 use lib.ListN.{take}
 use Rattle.prelude.specs.Tests.{all, any}
-use Rattle.clause_list.specs.ClauseList.{cut, wellCut, isList}
+use Rattle.clause_list.specs.ClauseList.{cut, well_cut, is_list}
 use Rattle.clause_list.specs.Marked.{k1, k2}
-use Rattle.search_rules.specs.Rules.{truth_of, negated, literal, isFalsified, isSatisfied, conflict, openOf, sameLiteral, only, unit_of}
-use Rattle.search_rules.specs.Rules.{firstUnit, lowestOpen, word_of, byte_of, place_of, values_of, trailOf, turn, decide, next}
+use Rattle.search_rules.specs.Rules.{truth_of, negated, literal, is_falsified, is_satisfied, conflict, open_of, same_literal, only, unit_of}
+use Rattle.search_rules.specs.Rules.{first_unit, lowest_open, word_of, byte_of, place_of, values_of, trail_of, turn, decide, next}
 use Rattle.search_rules.specs.Run.{tally, count, run}
-use Rattle.search.specs.Answers.{Answer, found, none, spent, refused, answerAt, valuesAt, trailAt, outcome}
+use Rattle.search.specs.Answers.{Answer, found, none, spent, refused, answer_at, values_at, trail_at, outcome}
 
 -- what is lent is one byte and one word longer than v asks for
 record Row : Type 0 where
@@ -21,11 +21,11 @@ record Row : Type 0 where
   values : List ℕ
   trail : List ℤ
 
-abbrev lentValues : List ℕ
-lentValues = 7 ∷ 7 ∷ 7 ∷ 7 ∷ 9 ∷ []
+abbrev lent_values : List ℕ
+lent_values = 7 ∷ 7 ∷ 7 ∷ 7 ∷ 9 ∷ []
 
-abbrev lentTrail : List ℤ
-lentTrail = pos 7 ∷ pos 7 ∷ pos 7 ∷ pos 7 ∷ pos 9 ∷ []
+abbrev lent_trail : List ℤ
+lent_trail = pos 7 ∷ pos 7 ∷ pos 7 ∷ pos 7 ∷ pos 9 ∷ []
 
 abbrev row : List ℤ → ℕ → ℕ → Answer → List ℕ → List ℤ → Row
 row list v budget answer values trail =
@@ -41,24 +41,24 @@ rows =
     ∷ row (pos 2 ∷ pos 1 ∷ pos 2 ∷ pos 2 ∷ pos 1 ∷ negsuc 1 ∷ []) 2 4 (found (tally 1 2 1)) (1 ∷ 3 ∷ 7 ∷ 7 ∷ 9 ∷ [])
     (pos 1 ∷ negsuc 1 ∷ pos 7 ∷ pos 7 ∷ pos 9 ∷ [])
     -- 12: v of 0 and past 16,000, a count past the end, a literal 0 and one beyond v; 13: a slice of 5 where 6 are needed
-    ∷ row [] 0 1 (refused 12) lentValues lentTrail
-    ∷ row [] 16001 1 (refused 12) lentValues lentTrail
-    ∷ row (pos 2 ∷ pos 1 ∷ []) 4 1 (refused 12) lentValues lentTrail
-    ∷ row (pos 1 ∷ pos 0 ∷ []) 4 1 (refused 12) lentValues lentTrail
-    ∷ row (pos 1 ∷ negsuc 4 ∷ []) 4 1 (refused 12) lentValues lentTrail
-    ∷ row (pos 1 ∷ negsuc 2147483647 ∷ []) 4 1 (refused 12) lentValues lentTrail
-    ∷ row (negsuc 0 ∷ []) 4 1 (refused 12) lentValues lentTrail
-    ∷ row k1 6 1 (refused 13) lentValues lentTrail
+    ∷ row [] 0 1 (refused 12) lent_values lent_trail
+    ∷ row [] 16001 1 (refused 12) lent_values lent_trail
+    ∷ row (pos 2 ∷ pos 1 ∷ []) 4 1 (refused 12) lent_values lent_trail
+    ∷ row (pos 1 ∷ pos 0 ∷ []) 4 1 (refused 12) lent_values lent_trail
+    ∷ row (pos 1 ∷ negsuc 4 ∷ []) 4 1 (refused 12) lent_values lent_trail
+    ∷ row (pos 1 ∷ negsuc 2147483647 ∷ []) 4 1 (refused 12) lent_values lent_trail
+    ∷ row (negsuc 0 ∷ []) 4 1 (refused 12) lent_values lent_trail
+    ∷ row k1 6 1 (refused 13) lent_values lent_trail
     ∷ []
 
-pub cases : map (λ row. outcome row.list row.v lentValues lentTrail row.budget) rows
+pub cases : map (λ row. outcome row.list row.v lent_values lent_trail row.budget) rows
     ≡ map (λ row. record { answer = row.answer; values = row.values; trail = row.trail }) rows
-unfolding truth_of negated literal isFalsified isSatisfied conflict openOf sameLiteral only unit_of firstUnit lowestOpen word_of byte_of place_of
-    values_of trailOf turn decide next count run answerAt valuesAt trailAt outcome all any cut wellCut isList
+unfolding truth_of negated literal is_falsified is_satisfied conflict open_of same_literal only unit_of first_unit lowest_open word_of byte_of place_of
+    values_of trail_of turn decide next count run answer_at values_at trail_at outcome all any cut well_cut is_list
 cases = refl
 
 -- 13: values, then the trail, of 3 where 4 are needed, the other of 5
-pub short-slices : ((outcome k1 4 (take 3 lentValues) lentTrail 9).answer ≡ refused 13)
-    × ((outcome k1 4 lentValues (take 3 lentTrail) 9).answer ≡ refused 13)
-unfolding outcome all any cut wellCut isList
+pub short-slices : ((outcome k1 4 (take 3 lent_values) lent_trail 9).answer ≡ refused 13)
+    × ((outcome k1 4 lent_values (take 3 lent_trail) 9).answer ≡ refused 13)
+unfolding outcome all any cut well_cut is_list
 short-slices = (refl, refl)

@@ -9,14 +9,14 @@ use lib.IntN.{ℤ}
 use lib.ListN.{length, take, drop, length-take, take-append-drop, get_or-replicate}
 use borrow.Author.Tests.{le-ltb}
 use Rattle.prelude.specs.Order.{Some, Lists}
-use Rattle.clause_list.specs.ClauseList.{clausesOf, isList}
+use Rattle.clause_list.specs.ClauseList.{clauses_of, is_list}
 use Rattle.clause_list.proofs.Laws.{list-some-variable}
 use Rattle.search_rules.specs.declared.Steps.{Steps}
 use Rattle.search_rules.specs.declared.Position.{Position}
-use Rattle.search_rules.specs.Rules.{State, values_of, endNone, endFound, next}
-use Rattle.search_rules.specs.Run.{zeros, total, End, wasNone, wasFound, wasSpent, run}
-use Rattle.search_rules.specs.Held.{steps_of, position_of, stepLimit, noState, Stored}
-use Rattle.search_rules.specs.Following.{firstStep, FollowingEnded}
+use Rattle.search_rules.specs.Rules.{State, values_of, end_none, end_found, next}
+use Rattle.search_rules.specs.Run.{zeros, total, End, was_none, was_found, was_spent, run}
+use Rattle.search_rules.specs.Held.{steps_of, position_of, step_limit, no_state, Stored}
+use Rattle.search_rules.specs.Following.{first_step, FollowingEnded}
 use Rattle.search_rules.specs.Reached.{Settles, Reached, all-open}
 use Rattle.search_rules.proofs.Ranges.{Ranged, fine-list, ranged}
 use Rattle.search_rules.proofs.Booleans.{or-both-false}
@@ -29,12 +29,12 @@ use Rattle.search_rules.proofs.Reaching.{reached-sound, reached-lists, reached-a
 use Rattle.search_rules.proofs.Reaching.{spent-reached, none-reached}
 use Rattle.search_rules.proofs.Found.{found-ended}
 use Rattle.search_rules.proofs.Following.{follow-resumes}
-use Rattle.search.specs.Answers.{Answer, found, none, spent, refused, answerAt, valuesAt, trailAt, outcome}
-use Rattle.search.specs.Answers.{searchRun}
-use Rattle.search.specs.Resumed.{Resumption, left, finishAt, start_of, declinesState, resumedRun, resumption}
-use Rattle.search.specs.Resuming.{withRecord}
-use Rattle.search.specs.Following.{followedRun, OpenOrFalse, FollowingTaken}
-use Rattle.search.specs.Every.{Standing, leftBy, Fresh, nextCall, resumedCall, Calls, no_call, finds, spends}
+use Rattle.search.specs.Answers.{Answer, found, none, spent, refused, answer_at, values_at, trail_at, outcome}
+use Rattle.search.specs.Answers.{search_run}
+use Rattle.search.specs.Resumed.{Resumption, left, finish_at, start_of, declines_state, resumed_run, resumption}
+use Rattle.search.specs.Resuming.{with_record}
+use Rattle.search.specs.Following.{followed_run, OpenOrFalse, FollowingTaken}
+use Rattle.search.specs.Every.{Standing, left_by, Fresh, next_call, resumed_call, Calls, no_call, finds, spends}
 use Rattle.search.specs.Every.{Stands, Passes}
 use Rattle.search.specs.Every.{EveryCall, EveryAssignment}
 use Rattle.search.proofs.Outcomes.{was-none, was-found, was-spent, found-values}
@@ -44,7 +44,7 @@ use Rattle.search.proofs.Resumptions as resumed
 use Rattle.search.proofs.ResumedCalls.{answered, alike}
 use Rattle.search.proofs.Resuming.{fresh_start}
 use Rattle.search.proofs.FollowingCalls.{following-calls, is_found}
-use Rattle.search.proofs.LeftStates.{stored, leftValues, leftTrail, holds-left}
+use Rattle.search.proofs.LeftStates.{stored, left_values, left_trail, holds-left}
 
 take_within : {A : Type 0} (n : ℕ) (xs : List A) → length (take n xs) ≡ n → n ≤ length xs
 take_within n xs e = omega (arith, length-take n xs, min-le_right n (length xs))
@@ -52,32 +52,32 @@ take_within n xs e = omega (arith, length-take n xs, min-le_right n (length xs))
 -- a fresh start holds the state with nothing set
 fresh-held : (v : ℕ) (at : Standing) → Fresh v at
     → Stored v [] (take v at.values) (take v at.trail) at.position.length
-fresh-held v at f = rw f.zeros (stored v [] (sound-fresh v).was-open at.values at.trail f.values-open
-    f.trail-open)
+fresh-held v at f = rw f.zeros (stored v [] (sound-fresh v).was_open at.values at.trail f.values_open
+    f.trail_open)
 
 -- a call over slices that hold a state: room, and no 14 while its steps can be counted
 module _ (v : ℕ) (at : Standing) (state : State)
     (held : Stored v state (take v at.values) (take v at.trail) at.position.length) where
   is_wide : v ≤ length at.values
-  is_wide = take_within v at.values (ap length held.values-are ∙ length-values v state)
+  is_wide = take_within v at.values (ap length held.values_are ∙ length-values v state)
 
   is-deep : v ≤ length at.trail
   is-deep = take_within v at.trail (ap length held.trail_is ∙ length-trail v state)
 
-  passes-state : noState v (take v at.values) (take v at.trail) at.position.length ≡ false
+  passes-state : no_state v (take v at.values) (take v at.trail) at.position.length ≡ false
   passes-state = stored-passes v state _ _ _ held
 
-  not-declined : (n : ℕ) → total (steps_of at.position) + n ≤ stepLimit
-      → declinesState v at.values at.trail at.position n ≡ false
+  not-declined : (n : ℕ) → total (steps_of at.position) + n ≤ step_limit
+      → declines_state v at.values at.trail at.position n ≡ false
   not-declined n few = or-both-false _ _ passes-state (le-ltb _ _ few)
 
   reads : start_of v at.values at.trail at.position ≡ state
   reads = read-stored v state _ _ _ held
 
 -- over a list, of cases with a property that what is given lists, and all of it where no step is left
-module _ (list : List ℤ) (v : ℕ) (is : isList v list ≡ true) (Gives : List ℕ → List ℕ → Type 0) where
+module _ (list : List ℤ) (v : ℕ) (is : is_list v list ≡ true) (Gives : List ℕ → List ℕ → Type 0) where
   abbrev clauses : List (List ℤ)
-  clauses = clausesOf list
+  clauses = clauses_of list
 
   abbrev in-range : Ranged v clauses
   in-range = ranged v list (fine-list v list is)
@@ -87,7 +87,7 @@ module _ (list : List ℤ) (v : ℕ) (is : isList v list ≡ true) (Gives : List
 
   -- a call there is taken while its steps can be counted, and ends
   module _ (cases : List (List ℕ)) (at : Standing) (here : At cases at) where
-    pub taken-there : (n : ℕ) → total (steps_of at.position) + n ≤ stepLimit
+    pub taken-there : (n : ℕ) → total (steps_of at.position) + n ≤ step_limit
         → FollowingTaken list v at.values at.trail at.position n
     taken-there n few =
         following-calls.takes list v at.values at.trail at.position n is (is_wide v at _ here.held)
@@ -98,7 +98,7 @@ module _ (list : List ℤ) (v : ℕ) (is : isList v list ≡ true) (Gives : List
     ends_there =
         rw (reads v at _ here.held)
         (following-ends clauses v in-range here.state
-        (reached-sound clauses v in-range Gives here.reached).was-open)
+        (reached-sound clauses v in-range Gives here.reached).was_open)
 
   fresh-stands : (at : Standing) → Fresh v at → At [] at
   fresh-stands at f = record { state = []; reached = all-open; held = fresh-held v at f }
@@ -106,123 +106,123 @@ module _ (list : List ℤ) (v : ℕ) (is : isList v list ≡ true) (Gives : List
   -- where a run leads
   stands-left : (cases : List (List ℕ)) (a : Answer) (t : Steps) (s : State) (values : List ℕ) (trail : List ℤ)
       (call : Resumption)
-      → call ≡ left a (leftValues v s values trail) (leftTrail v s values trail) (position_of (length s) t)
-      → Reached clauses v Gives cases s → At cases (leftBy call)
+      → call ≡ left a (left_values v s values trail) (left_trail v s values trail) (position_of (length s) t)
+      → Reached clauses v Gives cases s → At cases (left_by call)
   stands-left cases a t s values trail call q r = record {
     state = s;
     reached = r;
-    held = rw q (holds-left v s values trail (reached-sound clauses v in-range Gives r).was-open);
+    held = rw q (holds-left v s values trail (reached-sound clauses v in-range Gives r).was_open);
   }
 
   -- a call that, where it is not refused, ends as the run of a call for the next does
   module _ (P : List ℕ → Type 0) (all : (cases : List (List ℕ)) (state : State) → Reached clauses v Gives cases state
-      → firstStep clauses v state ≡ endNone → (case : List ℕ) → P case → Some (λ c. c ≡ case) cases)
+      → first_step clauses v state ≡ end_none → (case : List ℕ) → P case → Some (λ c. c ≡ case) cases)
       (cases : List (List ℕ)) (state : State) (reached : Reached clauses v Gives cases state) (values : List ℕ)
       (trail : List ℤ) (t : Steps) (n : ℕ)
       (call : Resumption) (ends : (a : Answer) → ((k : ℕ) → refused k ≡ a → ⊥) → call.outcome.answer ≡ a
-      → call ≡ finishAt v values trail (followedRun list v t state n)) where
+      → call ≡ finish_at v values trail (followed_run list v t state n)) where
     abbrev end : End
-    end = followedRun list v t state n
+    end = followed_run list v t state n
 
-    ended : (a : Answer) → ((k : ℕ) → refused k ≡ a → ⊥) → call.outcome.answer ≡ a → answerAt end ≡ a
+    ended : (a : Answer) → ((k : ℕ) → refused k ≡ a → ⊥) → call.outcome.answer ≡ a → answer_at end ≡ a
     ended a h e = sym (ap (λ r. r.outcome.answer) (ends a h e)) ∙ e
 
-    all-given : (steps : Steps) → call.outcome.answer ≡ none steps → (case : List ℕ) → P case
+    all_given : (steps : Steps) → call.outcome.answer ≡ none steps → (case : List ℕ) → P case
         → Some (λ c. c ≡ case) cases
-    all-given steps e =
+    all_given steps e =
         let w = was-none end steps (ended (none steps) (λ k d. let z : ◌≡◌ {A = ℕ} 0 1 = cc in omega arith) e) in
         let r = none-reached clauses v Gives cases n t steps state reached w in
         all cases r.0 r.1 r.2
 
     one_more : (steps : Steps) → call.outcome.answer ≡ found steps → (case : List ℕ)
         → Gives (take v call.outcome.values) case
-        → At (cases ++ case ∷ []) (leftBy call)
-    unfolding answerAt valuesAt trailAt
+        → At (cases ++ case ∷ []) (left_by call)
+    unfolding answer_at values_at trail_at
     one_more steps e case g =
         let no : (k : ℕ) → refused k ≡ found steps → ⊥ = λ k d. let z : ◌≡◌ {A = ℕ} 0 1 = cc in omega arith in
         let w = was-found end steps (ended (found steps) no e) in
-        let q = ends (found steps) no e ∙ ap (finishAt v values trail) w.1 in
+        let q = ends (found steps) no e ∙ ap (finish_at v values trail) w.1 in
         let shows : take v call.outcome.values ≡ values_of v w.0 =
         ap (λ o. take v o.outcome.values) q ∙ found-values v w.0 values in
         stands-left (cases ++ case ∷ []) (found steps) steps w.0 values trail call q
         (found-reached clauses v Gives cases n t steps state reached w.0 w.1 case
         (subst (λ vs. Gives vs case) shows g))
 
-    goes_on : (steps : Steps) → call.outcome.answer ≡ spent steps → At cases (leftBy call)
-    unfolding answerAt valuesAt trailAt
+    goes_on : (steps : Steps) → call.outcome.answer ≡ spent steps → At cases (left_by call)
+    unfolding answer_at values_at trail_at
     goes_on steps e =
         let no : (k : ℕ) → refused k ≡ spent steps → ⊥ = λ k d. let z : ◌≡◌ {A = ℕ} 0 1 = cc in omega arith in
         let w = was-spent end steps (ended (spent steps) no e) in
         stands-left cases (spent steps) steps w.0 values trail call
-        (ends (spent steps) no e ∙ ap (finishAt v values trail) w.1)
+        (ends (spent steps) no e ∙ ap (finish_at v values trail) w.1)
         (spent-reached clauses v Gives cases n t steps state reached w.0 w.1)
 
-    starts-over : (steps : Steps) → call.outcome.answer ≡ none steps → At [] (leftBy call)
-    unfolding answerAt valuesAt trailAt
-    starts-over steps e =
+    starts_over : (steps : Steps) → call.outcome.answer ≡ none steps → At [] (left_by call)
+    unfolding answer_at values_at trail_at
+    starts_over steps e =
         let no : (k : ℕ) → refused k ≡ none steps → ⊥ = λ k d. let z : ◌≡◌ {A = ℕ} 0 1 = cc in omega arith in
         let w = was-none end steps (ended (none steps) no e) in
         stands-left [] (none steps) steps [] values trail call
-        (ends (none steps) no e ∙ ap (finishAt v values trail) w) all-open
+        (ends (none steps) no e ∙ ap (finish_at v values trail) w) all-open
 
     passes : Passes list v Gives P cases call
-    passes = record { all-given = all-given; one_more = one_more; goes_on = goes_on; starts-over = starts-over }
+    passes = record { all_given = all_given; one_more = one_more; goes_on = goes_on; starts_over = starts_over }
 
   -- a search that begins is a call for the next from all open
-  not_full : next clauses v [] ≡ endFound → ⊥
+  not_full : next clauses v [] ≡ end_found → ⊥
   not_full e =
       (found-ended clauses v [] e).1 0 (omega (arith, length-values v [], list-some-variable v list is))
       (unfold values_of in get_or-replicate v 0 2 2 (list-some-variable v list is))
 
   searches : (values : List ℕ) (trail : List ℤ) (n : ℕ) (a : Answer) → ((k : ℕ) → refused k ≡ a → ⊥)
       → (outcome list v values trail n).answer ≡ a
-      → withRecord v (outcome list v values trail n) ≡ finishAt v values trail (followedRun list v zeros [] n)
+      → with_record v (outcome list v values trail n) ≡ finish_at v values trail (followed_run list v zeros [] n)
   searches values trail n a h e =
       let r = (search.answered list v values trail n a h e).0 in
-      ap (withRecord v) r.ends
-      ∙ end-recorded v trail values (searchRun list v n) (search-open list v n is)
-      ∙ ap (finishAt v values trail) (sym (follow-resumes clauses v n zeros [] not_full))
+      ap (with_record v) r.ends
+      ∙ end-recorded v trail values (search_run list v n) (search-open list v n is)
+      ∙ ap (finish_at v values trail) (sym (follow-resumes clauses v n zeros [] not_full))
 
   follows : (cases : List (List ℕ)) (at : Standing) (here : At cases at) (n : ℕ) (a : Answer)
       → ((k : ℕ) → refused k ≡ a → ⊥)
-      → (nextCall list v at n).outcome.answer ≡ a
-      → nextCall list v at n ≡ finishAt v at.values at.trail
-      (followedRun list v (steps_of at.position) here.state n)
+      → (next_call list v at n).outcome.answer ≡ a
+      → next_call list v at n ≡ finish_at v at.values at.trail
+      (followed_run list v (steps_of at.position) here.state n)
   follows cases at here n a h e =
-      (answered (followedRun list v) list v at.values at.trail at.position n a h e).0.ends
-      ∙ ap (λ s. finishAt v at.values at.trail (followedRun list v (steps_of at.position) s n))
+      (answered (followed_run list v) list v at.values at.trail at.position n a h e).0.ends
+      ∙ ap (λ s. finish_at v at.values at.trail (followed_run list v (steps_of at.position) s n))
       (reads v at _ here.held)
 
   -- on a full assignment a resumed call ends at once
-  run-full : (n : ℕ) (t : Steps) (state : State) → next clauses v state ≡ endFound
-      → run clauses v n t state ≡ wasFound t state
+  run-full : (n : ℕ) (t : Steps) (state : State) → next clauses v state ≡ end_found
+      → run clauses v n t state ≡ was_found t state
   unfolding run
   run-full zero t state e = rw (e, run) refl
   run-full (suc n) t state e = rw (e, run) refl
 
   again : (cases : List (List ℕ)) (at : Standing) (n : ℕ) → At cases at → (OpenOrFalse list v (take v at.values) → ⊥)
-      → total (steps_of at.position) + n ≤ stepLimit
-      → resumedCall list v at n ≡ left (found (steps_of at.position)) at.values at.trail at.position
-  unfolding answerAt valuesAt trailAt
+      → total (steps_of at.position) + n ≤ step_limit
+      → resumed_call list v at n ≡ left (found (steps_of at.position)) at.values at.trail at.position
+  unfolding answer_at values_at trail_at
   again cases at n here full few =
       let p = at.position in
       let s = here.state in
       let h = here.held in
-      let f : next clauses v s ≡ endFound = is_found list v s is
-      (subst (λ vs. OpenOrFalse list v vs → ⊥) h.values-are full) in
-      let values-stay : leftValues v s at.values at.trail ≡ at.values =
-      ap (λ vs. vs ++ drop v at.values) (sym h.values-are) ∙ take-append-drop v at.values in
-      let trail-stays : leftTrail v s at.values at.trail ≡ at.trail =
+      let f : next clauses v s ≡ end_found = is_found list v s is
+      (subst (λ vs. OpenOrFalse list v vs → ⊥) h.values_are full) in
+      let values-stay : left_values v s at.values at.trail ≡ at.values =
+      ap (λ vs. vs ++ drop v at.values) (sym h.values_are) ∙ take-append-drop v at.values in
+      let trail-stays : left_trail v s at.values at.trail ≡ at.trail =
       ap (λ ts. ts ++ drop v at.trail) (sym h.trail_is) ∙ take-append-drop v at.trail in
-      resumed.runs (resumedRun list v) list v at.values at.trail p n is (is_wide v at s h) (is-deep v at s h)
+      resumed.runs (resumed_run list v) list v at.values at.trail p n is (is_wide v at s h) (is-deep v at s h)
       (passes-state v at s h) few
-      ∙ ap (λ x. finishAt v at.values at.trail (resumedRun list v (steps_of p) x n)) (reads v at s h)
-      ∙ ap (finishAt v at.values at.trail) (run-full n (steps_of p) s f)
-      ∙ (λ i. left (found (steps_of p)) (values-stay i) (trail-stays i) (position_of (sym h.used-is i) (steps_of p)))
+      ∙ ap (λ x. finish_at v at.values at.trail (resumed_run list v (steps_of p) x n)) (reads v at s h)
+      ∙ ap (finish_at v at.values at.trail) (run-full n (steps_of p) s f)
+      ∙ (λ i. left (found (steps_of p)) (values-stay i) (trail-stays i) (position_of (sym h.used_is i) (steps_of p)))
 
   -- calls for the next, one after another
   leads : {P : List ℕ → Type 0} → ((cases : List (List ℕ)) (at : Standing) (n : ℕ) → At cases at
-      → Passes list v Gives P cases (nextCall list v at n)) → (given cases : List (List ℕ)) (at to : Standing)
+      → Passes list v Gives P cases (next_call list v at n)) → (given cases : List (List ℕ)) (at to : Standing)
       → At given at → Calls list v Gives at cases to → At (given ++ cases) to
   leads followed given cases at to here no_call = rw (append-nil given) here
   leads followed given cases at to here (finds {case = case} {cases = rest} n e g calls) =
@@ -234,71 +234,71 @@ module _ (list : List ℤ) (v : ℕ) (is : isList v list ≡ true) (Gives : List
   pub every_call : (P : List ℕ → Type 0)
       → ((cases : List (List ℕ)) (state : State) → Reached clauses v Gives cases state → Lists P cases)
       → ((cases : List (List ℕ)) (state : State) → Reached clauses v Gives cases state
-      → firstStep clauses v state ≡ endNone
+      → first_step clauses v state ≡ end_none
       → (case : List ℕ) → P case → Some (λ c. c ≡ case) cases) → EveryCall list v Gives P
   every_call P lists all =
       record {
         searched = λ values trail n.
-            passes P all [] [] all-open values trail zeros n (withRecord v (outcome list v values trail n))
+            passes P all [] [] all-open values trail zeros n (with_record v (outcome list v values trail n))
             (searches values trail n);
         fresh = fresh-stands;
         lists = λ cases at here. lists cases here.state here.reached;
         followed = followed;
         resumed = λ cases at n here o.
             subst (Passes list v Gives P cases)
-            ((following-calls.calls list v at.values at.trail at.position n).as-resumed o)
+            ((following-calls.calls list v at.values at.trail at.position n).as_resumed o)
             (followed cases at n here);
-        found-again = again;
+        found_again = again;
         leads = leads followed;
       }
     where
       followed : (cases : List (List ℕ)) (at : Standing) (n : ℕ) → At cases at
-          → Passes list v Gives P cases (nextCall list v at n)
+          → Passes list v Gives P cases (next_call list v at n)
       followed cases at n here =
           passes P all cases here.state here.reached at.values at.trail (steps_of at.position) n
-          (nextCall list v at n)
+          (next_call list v at n)
           (follows cases at here n)
 
 -- "none" of a resumed call: it did not start on a full assignment
 pub none-resumed : (list : List ℤ) (v : ℕ) (Gives : List ℕ → List ℕ → Type 0) (P : List ℕ → Type 0)
     → EveryCall list v Gives P
     → (cases : List (List ℕ)) (at : Standing) (n : ℕ) → Stands list v Gives cases at → (steps : Steps)
-    → (resumedCall list v at n).outcome.answer ≡ none steps → (case : List ℕ) → P case → Some (λ c. c ≡ case) cases
+    → (resumed_call list v at n).outcome.answer ≡ none steps → (case : List ℕ) → P case → Some (λ c. c ≡ case) cases
 none-resumed list v Gives P every cases at n here steps e =
     let t = steps_of at.position in
     let s = here.state in
-    let r = answered (resumedRun list v) list v at.values at.trail at.position n (none steps)
+    let r = answered (resumed_run list v) list v at.values at.trail at.position n (none steps)
     (λ k d. let z : ◌≡◌ {A = ℕ} 0 1 = cc in omega arith) e in
     let q = reads v at s here.held in
-    let ends : run (clausesOf list) v n t s ≡ wasNone steps =
-    was-none _ steps (ap (λ x. answerAt (resumedRun list v t x n)) (sym q) ∙ r.1) in
-    let other : next (clausesOf list) v s ≡ endFound
-    → ⊥ = λ f. not_none steps t s (sym (run-full list v r.0.is-list Gives n t s f) ∙ ends) in
-    let same : nextCall list v at n ≡ resumedCall list v at n =
-    alike (followedRun list v) (resumedRun list v) list v at.values at.trail at.position n
-    (λ _. rw q (follow-resumes (clausesOf list) v n t s other)) in
-    (every.followed cases at n here).all-given steps (ap (λ x. x.outcome.answer) same ∙ e)
+    let ends : run (clauses_of list) v n t s ≡ was_none steps =
+    was-none _ steps (ap (λ x. answer_at (resumed_run list v t x n)) (sym q) ∙ r.1) in
+    let other : next (clauses_of list) v s ≡ end_found
+    → ⊥ = λ f. not_none steps t s (sym (run-full list v r.0.is_list_ok Gives n t s f) ∙ ends) in
+    let same : next_call list v at n ≡ resumed_call list v at n =
+    alike (followed_run list v) (resumed_run list v) list v at.values at.trail at.position n
+    (λ _. rw q (follow-resumes (clauses_of list) v n t s other)) in
+    (every.followed cases at n here).all_given steps (ap (λ x. x.outcome.answer) same ∙ e)
   where
-    not_none : (steps t : Steps) (s : State) → wasFound t s ≡ wasNone steps → ⊥
+    not_none : (steps t : Steps) (s : State) → was_found t s ≡ was_none steps → ⊥
     not_none steps t s d = let z : ◌≡◌ {A = ℕ} 0 1 = cc in omega arith
 
 pub every-assignment : EveryAssignment
 every-assignment list v is =
     let r = ranged v list (fine-list v list is) in
     let some-variable = list-some-variable v list is in
-    every_call list v is Settles _ (λ cases state x. reached-lists (clausesOf list) v r some-variable x)
-    (λ cases state x e. reached-all (clausesOf list) v r some-variable x e)
+    every_call list v is Settles _ (λ cases state x. reached-lists (clauses_of list) v r some-variable x)
+    (λ cases state x e. reached-all (clauses_of list) v r some-variable x e)
 
 -- from a fresh start the first call for the next is that of `search`, with the record that goes with it
 abbrev pub SearchBegins : Type 0
-SearchBegins = (list : List ℤ) (v : ℕ) (at : Standing) (n : ℕ) → Fresh v at → n ≤ stepLimit
-    → nextCall list v at n ≡ withRecord v (outcome list v at.values at.trail n)
+SearchBegins = (list : List ℤ) (v : ℕ) (at : Standing) (n : ℕ) → Fresh v at → n ≤ step_limit
+    → next_call list v at n ≡ with_record v (outcome list v at.values at.trail n)
 
 pub search-begins : SearchBegins
 search-begins list v at n f few =
-    alike (followedRun list v) (resumedRun list v) list v at.values at.trail at.position n
+    alike (followed_run list v) (resumed_run list v) list v at.values at.trail at.position n
     (λ r.
     rw (reads v at [] (fresh-held v at f))
-    (follow-resumes (clausesOf list) v n (steps_of at.position) [] (not_full list v r.is-list (λ _ _. Unit {0}))))
+    (follow-resumes (clauses_of list) v n (steps_of at.position) [] (not_full list v r.is_list_ok (λ _ _. Unit {0}))))
     ∙ ap (λ p. resumption list v at.values at.trail p n) f.zeros
-    ∙ fresh_start list v at.values at.trail n f.values-open f.trail-open few
+    ∙ fresh_start list v at.values at.trail n f.values_open f.trail_open few

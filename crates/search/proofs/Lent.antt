@@ -42,19 +42,19 @@ pub record Answers : Type 2 where
   pub answer : Result.Denot → Answer.Denot
   pub position : Result.Denot → Position
   -- the answer's MIR type and machine value, and the struct's name
-  pub answer-mir : Ty
-  pub answer-val : Answer.Denot → Val
-  pub result-name : Sym
+  pub answer_mir : Ty
+  pub answer_val : Answer.Denot → Val
+  pub result_name : Sym
   -- the struct's machine value, and what it holds
-  pub result-tells : Tells Result (Is Result) (λ r. vstruct (vcons (answer-val (answer r)) (vcons (T'.lowered (position r)) vnil)) ∷ [])
-  pub holds-answer : (r : Result.Denot) (vs : List Val) → Is Result r vs → Is Answer (answer r) (answer-val (answer r) ∷ [])
-  pub holds-position : (r : Result.Denot) (vs : List Val) → Is Result r vs → Is T.the_row (position r) (T'.lowered (position r) ∷ [])
+  pub result_tells : Tells Result (Is Result) (λ r. vstruct (vcons (answer_val (answer r)) (vcons (T'.lowered (position r)) vnil)) ∷ [])
+  pub holds_answer : (r : Result.Denot) (vs : List Val) → Is Result r vs → Is Answer (answer r) (answer_val (answer r) ∷ [])
+  pub holds_position : (r : Result.Denot) (vs : List Val) → Is Result r vs → Is T.the_row (position r) (T'.lowered (position r) ∷ [])
   -- machine values are of the MIR types, and an answer owns facts only
-  pub result-typed : {M : Type 1} {𝓤 : Ura M} (𝓛 : Logic 𝓤) → (r : Result.Denot) (vs : List Val) → Is Result r vs
-      → Typed (ty_struct result-name (tcons answer-mir (tcons T'.mir tnil)) ∷ []) vs
+  pub result_typed : {M : Type 1} {𝓤 : Ura M} (𝓛 : Logic 𝓤) → (r : Result.Denot) (vs : List Val) → Is Result r vs
+      → Typed (ty_struct result_name (tcons answer_mir (tcons T'.mir tnil)) ∷ []) vs
   pub answer_typed : {M : Type 1} {𝓤 : Ura M} (𝓛 : Logic 𝓤) → (x : Answer.Denot) (vs : List Val) → Is Answer x vs
-      → Typed (answer-mir ∷ []) vs
-  pub answer-makes : {M : Type 1} {𝓤 : Ura M} (𝓛 : Logic 𝓤) → Makes 𝓛 Answer (Is Answer)
+      → Typed (answer_mir ∷ []) vs
+  pub answer_makes : {M : Type 1} {𝓤 : Ura M} (𝓛 : Logic 𝓤) → Makes 𝓛 Answer (Is Answer)
 
 -- What is ensured: an assertion over list, v, values, trail, position and budget at entry, the answer, and values, trail and position at exit.
 abbrev pub Ensures : Answers → {M : Type 1} → Ura M → Type 2
@@ -63,7 +63,7 @@ Ensures S 𝓤 = List ℤ → ℕ → List ℕ → List ℤ → Position → ℕ
 module _ (S : Answers) where
   -- ---- the code
   abbrev pub result-mir : Ty
-  result-mir = ty_struct S.result-name (tcons S.answer-mir (tcons T'.mir tnil))
+  result-mir = ty_struct S.result_name (tcons S.answer_mir (tcons T'.mir tnil))
 
   -- a slice reference: the struct `&[]` of a reference and a length
   abbrev slice : Ty → Ty
@@ -74,7 +74,7 @@ module _ (S : Answers) where
 
   -- the answer; list, v, values, trail, position, budget; p, ended; values and trail lent on, each a reference and its slice
   abbrev locals : List Local
-  locals = of S.answer-mir ∷ of (slice (ty_ref (named 0) imm (ty_int w32))) ∷ of (ty_int w32) ∷ of (slice (ty_ref (named 1) mut (ty_int w8)))
+  locals = of S.answer_mir ∷ of (slice (ty_ref (named 0) imm (ty_int w32))) ∷ of (ty_int w32) ∷ of (slice (ty_ref (named 1) mut (ty_int w8)))
       ∷ of (slice (ty_ref (named 2) mut (ty_int w32))) ∷ of (ty_ref (named 3) mut (pointee (T.the_row).written)) ∷ of (ty_int w64)
       ∷ of T'.mir ∷ of result-mir ∷ of (ty_ref erased mut (ty_int w8)) ∷ of (slice (ty_ref erased mut (ty_int w8)))
       ∷ of (ty_ref erased mut (ty_int w32)) ∷ of (slice (ty_ref erased mut (ty_int w32))) ∷ []
@@ -149,13 +149,13 @@ search-answers = record {
   Result = R.the_row;
   answer = λ r. r.answer;
   position = λ r. r.position;
-  answer-mir = X'.mir;
-  answer-val = enums.val X.the_type X'.the_laws;
-  result-name = (R.struct).name;
-  result-tells = structs.tells R.the_type R'.the_laws;
-  holds-answer = λ r vs is. (structs.owed R.the_type R'.the_laws r vs is).0;
-  holds-position = λ r vs is. (structs.owed R.the_type R'.the_laws r vs is).1.0;
-  result-typed = λ 𝓛. (structs.lawful R.the_type R'.the_laws 𝓛).typed;
+  answer_mir = X'.mir;
+  answer_val = enums.val X.the_type X'.the_laws;
+  result_name = (R.struct).name;
+  result_tells = structs.tells R.the_type R'.the_laws;
+  holds_answer = λ r vs is. (structs.owed R.the_type R'.the_laws r vs is).0;
+  holds_position = λ r vs is. (structs.owed R.the_type R'.the_laws r vs is).1.0;
+  result_typed = λ 𝓛. (structs.lawful R.the_type R'.the_laws 𝓛).typed;
   answer_typed = λ 𝓛. (enums.lawful X.the_type X'.the_laws 𝓛 tt).typed;
-  answer-makes = enums.makes X.the_type X'.the_plain;
+  answer_makes = enums.makes X.the_type X'.the_plain;
 }

@@ -110,11 +110,11 @@ module _ (S : Answers) {M : Type 1} {𝓤 : Ura M} (E : Ensures S 𝓤) (𝓛 : 
     Left x ys us p = ‵ (fobs position.name ((T.the_row).coded.code p)) ∷ ‵ (fbor κ₃ (Body (mem T.the_row) b o position.name)) ∷ ‵ (flft κ₃ q₃)
         ∷ Tokens ∷ ‵ (finally i32 trail.name us) ∷ ‵ (finally u8 values.name ys) ∷ raw (Says x ys us p) ∷ ‵ OwnList ∷ []
 
-    exits : (x : S.Answer.Denot) (ys : List ℕ) (us : List ℤ) (p : Position) → Is S.Answer x (S.answer-val x ∷ [])
-        → length ys ≡ length values.now → length us ≡ length trail.now → ent 𝓤 (⋆ 𝓛 (Left x ys us p)) (Post (S.answer-val x))
+    exits : (x : S.Answer.Denot) (ys : List ℕ) (us : List ℤ) (p : Position) → Is S.Answer x (S.answer_val x ∷ [])
+        → length ys ≡ length values.now → length us ≡ length trail.now → ent 𝓤 (⋆ 𝓛 (Left x ys us p)) (Post (S.answer_val x))
     exits x ys us p is lv lt =
         qed 𝓛 (Left x ys us p) ∵
-        suffices ! _ (ends_at 𝓛 (ended S) (stayed S) (clauses S 𝓤 E) ((κs, qs, tt, args, vals), tt) (S.answer-val x) x
+        suffices ! _ (ends_at 𝓛 (ended S) (stayed S) (clauses S 𝓤 E) ((κs, qs, tt, args, vals), tt) (S.answer_val x) x
         (tt, (tt, (ys, (us, (p, (tt, tt)))))) (tt, (tt, (lv, (lt, (tt, (tt, tt))))))) $
         -- the tokens, in the signature's order
         move ! (3 ∷ []) $ split ! $ move ! (1 ∷ []) $ split ! $ move ! (1 ∷ []) $ split ! $
@@ -127,7 +127,7 @@ module _ (S : Answers) {M : Type 1} {𝓤 : Ura M} (E : Ensures S 𝓤) (𝓛 : 
         move ! (2 ∷ 0 ∷ []) $ fjoin ! $ move ! (2 ∷ 0 ∷ []) $ fjoin ! $
         owned ! u32 (Is u32) (uint_Makes 𝓛 w32) v _ (refl, v-fits) $ fjoin ! $ move ! (3 ∷ 0 ∷ []) $ fjoin ! $
         -- [what is had of them; the tokens; what is ensured]
-        owned ! S.Answer (Is S.Answer) (S.answer-makes 𝓛) x _ is $ move ! (1 ∷ 0 ∷ []) $ join ! $
+        owned ! S.Answer (Is S.Answer) (S.answer_makes 𝓛) x _ is $ move ! (1 ∷ 0 ∷ []) $ join ! $
         move ! (1 ∷ 0 ∷ []) $ join ! $ frame ! $ done !
 
     -- ---- the call of the core
@@ -228,19 +228,19 @@ module _ (S : Answers) {M : Type 1} {𝓤 : Ura M} (E : Ensures S 𝓤) (𝓛 : 
         move ! (1 ∷ []) $ fsplit ! $ fsplit ! $ move ! (1 ∷ []) $ feq_l ! (λ lt. move ! (1 ∷ []) $ drop ! $
         -- [the last trail; the last values; what is ensured; the tokens and the result; the record's cell; …]
         move ! (3 ∷ []) $ split ! $ move ! (1 ∷ []) $ peeks ! S.Result (Is S.Result) (shows 𝓛 S.Result) r (u ∷ []) (λ is.
-        land ! (from ! (stop !)) (init ! 17 refl (S.result-typed 𝓛 r _ is).0) $
-        rewrite ! 17 (λ (w : Val). ‵ (fat full_share (result-mir S) l₈ 0 w)) (ap only (S.result-tells r _ is)) refl $
+        land ! (from ! (stop !)) (init ! 17 refl (S.result_typed 𝓛 r _ is).0) $
+        rewrite ! 17 (λ (w : Val). ‵ (fat full_share (result-mir S) l₈ 0 w)) (ap only (S.result_tells r _ is)) refl $
         -- [the result; the tokens; the last trail; the last values; what is ensured; the record's cell at 5; the open borrow; obs; auth;
         --  local 12 at 9, …, 0 at 33; list's]
         -- *position = ended.position
         assigns ! (of_opd ! (load ! (from ! (fld ! refl (stop !))) (look_in ! 17 (sub ! 1 refl (whole !)))))
         (from ! (hop ! (look ! 23 refl) (stop !)))
-        (store_raw ! 5 refl ((structs.lawful T.the_type T'.the_laws 𝓛).typed (S.position r) _ (S.holds-position r _ is)).0) $
+        (store_raw ! 5 refl ((structs.lawful T.the_type T'.the_laws 𝓛).typed (S.position r) _ (S.holds_position r _ is)).0) $
         -- ended.answer
         assigns ! (of_opd ! (load ! (from ! (fld ! refl (stop !))) (look_in ! 17 (sub ! 0 refl (whole !))))) (from ! (stop !))
-        (init ! 33 refl (S.Answer-typed 𝓛 (S.answer r) _ (S.holds-answer r _ is)).0) $
+        (init ! 33 refl (S.Answer-typed 𝓛 (S.answer r) _ (S.holds_answer r _ is)).0) $
         -- the borrow is closed at the new record
-        drop ! $ owned ! T.the_row (Is T.the_row) (structs.makes T.the_type T'.the_plain 𝓛) (S.position r) _ (S.holds-position r _ is) $
+        drop ! $ owned ! T.the_row (Is T.the_row) (structs.makes T.the_type T'.the_plain 𝓛) (S.position r) _ (S.holds_position r _ is) $
         move ! (5 ∷ 0 ∷ 6 ∷ 7 ∷ 8 ∷ []) $ closes ! tt T.the_row (S.position r) (T'.lowered (S.position r) ∷ []) b o $
         -- [obs; the borrow; κ₃; the tokens; the last trail; the last values; what is ensured; local 12 at 7, …, 0 at 31; list's]
         returns ! (look ! 31 refl) $ forget ! 7 refl $ forget ! 9 refl $ forget ! 11 refl $ forget ! 13 refl $ forget ! 15 refl $
@@ -249,7 +249,7 @@ module _ (S : Answers) {M : Type 1} {𝓤 : Ura M} (E : Ensures S 𝓤) (𝓛 : 
         move ! (25 ∷ 26 ∷ []) $ free1 ! $ move ! (23 ∷ 24 ∷ []) $ free1 ! $ move ! (21 ∷ 22 ∷ []) $ free1 ! $ move ! (19 ∷ 20 ∷ []) $ free1 ! $
         move ! (17 ∷ 18 ∷ []) $ free1 ! $ move ! (15 ∷ 16 ∷ []) $ free1 ! $ move ! (13 ∷ 14 ∷ []) $ free1 ! $ move ! (11 ∷ 12 ∷ []) $ free1 ! $
         move ! (9 ∷ 10 ∷ []) $ free1 ! $ move ! (7 ∷ 8 ∷ []) $ free1 ! $ free0 ! $
-        by ! (exits (S.answer r) zs.1.1.0 zs.1.1.1.0 (S.position r) (S.holds-answer r _ is) lv lt))))))))))))))))))))))
+        by ! (exits (S.answer r) zs.1.1.0 zs.1.1.1.0 (S.position r) (S.holds_answer r _ is) lv lt))))))))))))))))))))))
 
   -- ---- at all of them
   walks : (core : Name) (C : Calls 𝓤 H) (Λ : Loops 𝓤 H) → FmC 𝓤 H 𝓛.laws C → Triple 𝓤 (C core) (Core S 𝓤 E 𝓛)

@@ -10,21 +10,21 @@ use lib.ListN.{length, take, drop}
 use lib.Seq.{take_at}
 use borrow.Author.Tests.{le-leb, lt-leb}
 use Rattle.prelude.proofs.Laws.{and_both, and-not-left, and-not-right}
-use Rattle.clause_list.specs.ClauseList.{isList}
-use Rattle.search_rules.specs.Rules.{State, values_of, Next, endNone, endFound, step}
+use Rattle.clause_list.specs.ClauseList.{is_list}
+use Rattle.search_rules.specs.Rules.{State, values_of, Next, end_none, end_found, step}
 use Rattle.search_rules.specs.declared.Steps.{Steps}
-use Rattle.search_rules.specs.Run.{total, count, End, wasNone, wasFound, wasSpent, run}
+use Rattle.search_rules.specs.Run.{total, count, End, was_none, was_found, was_spent, run}
 use Rattle.search_rules.specs.Held.{steps_of, position_of}
-use Rattle.search_rules.specs.Inner.{stepsAt}
-use Rattle.search_rules.specs.Following.{firstStep, followingRun}
+use Rattle.search_rules.specs.Inner.{steps_at}
+use Rattle.search_rules.specs.Following.{first_step, following_run}
 use Rattle.search_rules.proofs.Invariant.{length-values}
 use Rattle.search_rules.proofs.StepView.{total-count, Ends, run_ends}
 use Rattle.search_rules.proofs.Following.{first-not-found, follow-none, follow-waits, follow-step}
 use Rattle.search_core.specs.declared.run.End.TheVariants as core
 use Rattle.search_core.specs.declared.run.Ran.{Ran}
-use Rattle.search_core.specs.Inner.{stateAt, Ended}
-use Rattle.search.specs.Answers.{Answer, found, none, spent, refused, answerAt, valuesAt, trailAt, Outcome, refuse, finish}
-use Rattle.search.specs.Answers.{searchRun, outcome}
+use Rattle.search_core.specs.Inner.{state_at, Ended}
+use Rattle.search.specs.Answers.{Answer, found, none, spent, refused, answer_at, values_at, trail_at, Outcome, refuse, finish}
+use Rattle.search.specs.Answers.{search_run, outcome}
 use Rattle.search.specs.declared.answer.Search.{Search}
 use Rattle.search.specs.declared.answer.Search.TheVariants.{None, Found, Spent}
 use Rattle.search.specs.declared.answer.Resumed.{Resumed}
@@ -34,25 +34,25 @@ module _ (list : List ℤ) (v : ℕ) (values : List ℕ) (trail : List ℤ) (bud
   abbrev long : Bool
   long = leb v (length values) && leb v (length trail)
 
-  by_tests : (b c : Bool) → isList v list ≡ b → long ≡ c
-      → outcome list v values trail budget ≡ cond b (cond c (finish v values trail (searchRun list v budget)) (refuse 13 values trail))
+  by_tests : (b c : Bool) → is_list v list ≡ b → long ≡ c
+      → outcome list v values trail budget ≡ cond b (cond c (finish v values trail (search_run list v budget)) (refuse 13 values trail))
       (refuse 12 values trail)
   unfolding outcome
   by_tests b c p q =
-      ap (λ x. cond x (cond long (finish v values trail (searchRun list v budget)) (refuse 13 values trail)) (refuse 12 values trail)) p
-      ∙ ap (λ x. cond b (cond x (finish v values trail (searchRun list v budget)) (refuse 13 values trail)) (refuse 12 values trail)) q
+      ap (λ x. cond x (cond long (finish v values trail (search_run list v budget)) (refuse 13 values trail)) (refuse 12 values trail)) p
+      ∙ ap (λ x. cond b (cond x (finish v values trail (search_run list v budget)) (refuse 13 values trail)) (refuse 12 values trail)) q
 
-  pub no-list : isList v list ≡ false → outcome list v values trail budget ≡ refuse 12 values trail
+  pub no-list : is_list v list ≡ false → outcome list v values trail budget ≡ refuse 12 values trail
   no-list p = by_tests false long p refl
 
-  pub short-values : isList v list ≡ true → length values < v → outcome list v values trail budget ≡ refuse 13 values trail
+  pub short-values : is_list v list ≡ true → length values < v → outcome list v values trail budget ≡ refuse 13 values trail
   short-values p h = by_tests true false p (and-not-left _ _ (lt-leb v (length values) h))
 
-  pub short-trail : isList v list ≡ true → length trail < v → outcome list v values trail budget ≡ refuse 13 values trail
+  pub short-trail : is_list v list ≡ true → length trail < v → outcome list v values trail budget ≡ refuse 13 values trail
   short-trail p h = by_tests true false p (and-not-right (leb v (length values)) _ (lt-leb v (length trail) h))
 
-  pub runs : isList v list ≡ true → v ≤ length values → v ≤ length trail
-      → outcome list v values trail budget ≡ finish v values trail (searchRun list v budget)
+  pub runs : is_list v list ≡ true → v ≤ length values → v ≤ length trail
+      → outcome list v values trail budget ≡ finish v values trail (search_run list v budget)
   runs p h k = by_tests true true p (and_both _ _ (le-leb v (length values) h) (le-leb v (length trail) k))
 
 -- a refusal, as `search` ensures it
@@ -62,30 +62,30 @@ declines n values trail o e = rw e (refl, (refl, refl))
 
 -- the end of a run, as `search` ensures it
 pub finishes : (v : ℕ) (end : End) (values vs : List ℕ) (trail ts : List ℤ) (a : Answer) (o : Outcome) → o ≡ finish v values trail end
-    → a ≡ answerAt end → vs ≡ valuesAt v end → ts ≡ trailAt v end
+    → a ≡ answer_at end → vs ≡ values_at v end → ts ≡ trail_at v end
     → (a ≡ o.answer) × ((vs ++ drop v values ≡ o.values) × (ts ++ drop v trail ≡ o.trail))
 finishes v end values vs trail ts a o e p q r = rw (e, p, q, r) (refl, (refl, refl))
 
 -- a run counts at most its budget
-within : (clauses : List (List ℤ)) (v b : ℕ) (end : End) → Ends (λ t state. Unit {0}) clauses v b end → total (stepsAt end) ≤ b
+within : (clauses : List (List ℤ)) (v b : ℕ) (end : End) → Ends (λ t state. Unit {0}) clauses v b end → total (steps_at end) ≤ b
 unfolding Ends
-within clauses v b (wasNone t) h = h.3
-within clauses v b (wasFound t s) h = h.2
-within clauses v b (wasSpent t s) h = let e = h.2 in omega arith
+within clauses v b (was_none t) h = h.3
+within clauses v b (was_found t s) h = h.2
+within clauses v b (was_spent t s) h = let e = h.2 in omega arith
 
-pub figure-within : (clauses : List (List ℤ)) (v n : ℕ) (t : Steps) (state : State) → total (stepsAt (run clauses v n t state)) ≤ total t + n
+pub figure-within : (clauses : List (List ℤ)) (v n : ℕ) (t : Steps) (state : State) → total (steps_at (run clauses v n t state)) ≤ total t + n
 figure-within clauses v n t state =
     within clauses v (total t + n) (run clauses v n t state)
     (run_ends clauses v (λ t state. Unit {0}) (λ t state kind s p e. tt) n t state (run clauses v n t state) tt refl)
 
 -- and so with the first step of a call for the next
 pub following-within : (clauses : List (List ℤ)) (v n : ℕ) (t : Steps) (state : State)
-    → total (stepsAt (followingRun clauses v n t state)) ≤ total t + n
-following-within clauses v n t state = by n (firstStep clauses v state) refl
+    → total (steps_at (following_run clauses v n t state)) ≤ total t + n
+following-within clauses v n t state = by n (first_step clauses v state) refl
   where
-    by : (n : ℕ) (x : Next) → firstStep clauses v state ≡ x → total (stepsAt (followingRun clauses v n t state)) ≤ total t + n
-    by n endNone e = rw (follow-none clauses v n t state e) (omega arith)
-    by n endFound e = absurd (first-not-found clauses v state e)
+    by : (n : ℕ) (x : Next) → first_step clauses v state ≡ x → total (steps_at (following_run clauses v n t state)) ≤ total t + n
+    by n end_none e = rw (follow-none clauses v n t state e) (omega arith)
+    by n end_found e = absurd (first-not-found clauses v state e)
     by zero (step kind s) e = rw (follow-waits clauses v t state kind s e) (omega arith)
     by (suc n) (step kind s) e =
         rw (follow-step clauses v n t state kind s e) (omega (arith, figure-within clauses v n (count kind t) s, total-count kind t))
@@ -95,76 +95,76 @@ abbrev finished : Ran → (Steps → Search) → Resumed
 finished r answer = record { answer = answer (steps_of r.position); position = r.position }
 
 at-end : (v : ℕ) (end : End) (r : Ran) (values : List ℕ) (trail : List ℤ) → Ended v end r values trail
-    → r.position ≡ position_of (length (stateAt end)) (stepsAt end)
-at-end v end r values trail h = λ i. position_of (h.stored.used-is i) (h.steps-are i)
+    → r.position ≡ position_of (length (state_at end)) (steps_at end)
+at-end v end r values trail h = λ i. position_of (h.stored.used_is i) (h.steps_are i)
 
 pub finish-none : (v : ℕ) (end : End) (r : Ran) (values : List ℕ) (trail : List ℤ) → Ended v end r values trail → r.end ≡ core.None
     → Finished v end (finished r None) values trail
-unfolding answerAt valuesAt trailAt
-finish-none v (wasNone t) r values trail h e = record {
-  answer-is = ap none h.steps-are;
-  values-are = h.stored.values-are;
+unfolding answer_at values_at trail_at
+finish-none v (was_none t) r values trail h e = record {
+  answer_is = ap none h.steps_are;
+  values_are = h.stored.values_are;
   trail_is = h.stored.trail_is;
-  position-is = at-end v (wasNone t) r values trail h;
+  position_is = at-end v (was_none t) r values trail h;
 }
-finish-none v (wasFound t s) r values trail h e =
+finish-none v (was_found t s) r values trail h e =
     absurd (let d : r.end ≡ core.Found = h.end_is in let z : ◌≡◌ {A = ℕ} 0 1 = cc in omega arith)
-finish-none v (wasSpent t s) r values trail h e =
+finish-none v (was_spent t s) r values trail h e =
     absurd (let d : r.end ≡ core.Spent = h.end_is in let z : ◌≡◌ {A = ℕ} 0 1 = cc in omega arith)
 
 pub finish-found : (v : ℕ) (end : End) (r : Ran) (values : List ℕ) (trail : List ℤ) → Ended v end r values trail → r.end ≡ core.Found
     → Finished v end (finished r Found) values trail
-unfolding answerAt valuesAt trailAt
-finish-found v (wasNone t) r values trail h e =
+unfolding answer_at values_at trail_at
+finish-found v (was_none t) r values trail h e =
     absurd (let d : r.end ≡ core.None = h.end_is in let z : ◌≡◌ {A = ℕ} 0 1 = cc in omega arith)
-finish-found v (wasFound t s) r values trail h e = record {
-  answer-is = ap found h.steps-are;
-  values-are = h.stored.values-are;
+finish-found v (was_found t s) r values trail h e = record {
+  answer_is = ap found h.steps_are;
+  values_are = h.stored.values_are;
   trail_is = h.stored.trail_is;
-  position-is = at-end v (wasFound t s) r values trail h;
+  position_is = at-end v (was_found t s) r values trail h;
 }
-finish-found v (wasSpent t s) r values trail h e =
+finish-found v (was_spent t s) r values trail h e =
     absurd (let d : r.end ≡ core.Spent = h.end_is in let z : ◌≡◌ {A = ℕ} 0 1 = cc in omega arith)
 
 pub finish-spent : (v : ℕ) (end : End) (r : Ran) (values : List ℕ) (trail : List ℤ) → Ended v end r values trail → r.end ≡ core.Spent
     → Finished v end (finished r Spent) values trail
-unfolding answerAt valuesAt trailAt
-finish-spent v (wasNone t) r values trail h e =
+unfolding answer_at values_at trail_at
+finish-spent v (was_none t) r values trail h e =
     absurd (let d : r.end ≡ core.None = h.end_is in let z : ◌≡◌ {A = ℕ} 0 1 = cc in omega arith)
-finish-spent v (wasFound t s) r values trail h e =
+finish-spent v (was_found t s) r values trail h e =
     absurd (let d : r.end ≡ core.Found = h.end_is in let z : ◌≡◌ {A = ℕ} 0 1 = cc in omega arith)
-finish-spent v (wasSpent t s) r values trail h e = record {
-  answer-is = ap spent h.steps-are;
-  values-are = h.stored.values-are;
+finish-spent v (was_spent t s) r values trail h e = record {
+  answer_is = ap spent h.steps_are;
+  values_are = h.stored.values_are;
   trail_is = h.stored.trail_is;
-  position-is = at-end v (wasSpent t s) r values trail h;
+  position_is = at-end v (was_spent t s) r values trail h;
 }
 
 -- the end of a run, told by its answer
-pub was-none : (end : End) (t : Steps) → answerAt end ≡ none t → end ≡ wasNone t
-unfolding answerAt
-was-none (wasNone t) u e = let d : t ≡ u = cc in ap wasNone d
-was-none (wasFound t s) u e = absurd (let z : ◌≡◌ {A = ℕ} 0 1 = cc in omega arith)
-was-none (wasSpent t s) u e = absurd (let z : ◌≡◌ {A = ℕ} 0 1 = cc in omega arith)
+pub was-none : (end : End) (t : Steps) → answer_at end ≡ none t → end ≡ was_none t
+unfolding answer_at
+was-none (was_none t) u e = let d : t ≡ u = cc in ap was_none d
+was-none (was_found t s) u e = absurd (let z : ◌≡◌ {A = ℕ} 0 1 = cc in omega arith)
+was-none (was_spent t s) u e = absurd (let z : ◌≡◌ {A = ℕ} 0 1 = cc in omega arith)
 
-pub was-found : (end : End) (t : Steps) → answerAt end ≡ found t → (s : State) × (end ≡ wasFound t s)
-unfolding answerAt
-was-found (wasNone t) u e = absurd (let z : ◌≡◌ {A = ℕ} 0 1 = cc in omega arith)
-was-found (wasFound t s) u e = let d : t ≡ u = cc in (s, ap (λ x. wasFound x s) d)
-was-found (wasSpent t s) u e = absurd (let z : ◌≡◌ {A = ℕ} 0 1 = cc in omega arith)
+pub was-found : (end : End) (t : Steps) → answer_at end ≡ found t → (s : State) × (end ≡ was_found t s)
+unfolding answer_at
+was-found (was_none t) u e = absurd (let z : ◌≡◌ {A = ℕ} 0 1 = cc in omega arith)
+was-found (was_found t s) u e = let d : t ≡ u = cc in (s, ap (λ x. was_found x s) d)
+was-found (was_spent t s) u e = absurd (let z : ◌≡◌ {A = ℕ} 0 1 = cc in omega arith)
 
-pub was-spent : (end : End) (t : Steps) → answerAt end ≡ spent t → (s : State) × (end ≡ wasSpent t s)
-unfolding answerAt
-was-spent (wasNone t) u e = absurd (let z : ◌≡◌ {A = ℕ} 0 1 = cc in omega arith)
-was-spent (wasFound t s) u e = absurd (let z : ◌≡◌ {A = ℕ} 0 1 = cc in omega arith)
-was-spent (wasSpent t s) u e = let d : t ≡ u = cc in (s, ap (λ x. wasSpent x s) d)
+pub was-spent : (end : End) (t : Steps) → answer_at end ≡ spent t → (s : State) × (end ≡ was_spent t s)
+unfolding answer_at
+was-spent (was_none t) u e = absurd (let z : ◌≡◌ {A = ℕ} 0 1 = cc in omega arith)
+was-spent (was_found t s) u e = absurd (let z : ◌≡◌ {A = ℕ} 0 1 = cc in omega arith)
+was-spent (was_spent t s) u e = let d : t ≡ u = cc in (s, ap (λ x. was_spent x s) d)
 
 -- it is no refusal
-pub was-taken : (end : End) (number : ℕ) → answerAt end ≡ refused number → ⊥
-unfolding answerAt
-was-taken (wasNone t) number e = let z : ◌≡◌ {A = ℕ} 0 1 = cc in omega arith
-was-taken (wasFound t s) number e = let z : ◌≡◌ {A = ℕ} 0 1 = cc in omega arith
-was-taken (wasSpent t s) number e = let z : ◌≡◌ {A = ℕ} 0 1 = cc in omega arith
+pub was-taken : (end : End) (number : ℕ) → answer_at end ≡ refused number → ⊥
+unfolding answer_at
+was-taken (was_none t) number e = let z : ◌≡◌ {A = ℕ} 0 1 = cc in omega arith
+was-taken (was_found t s) number e = let z : ◌≡◌ {A = ℕ} 0 1 = cc in omega arith
+was-taken (was_spent t s) number e = let z : ◌≡◌ {A = ℕ} 0 1 = cc in omega arith
 
 -- what is left of a state in the first v values
 pub found-values : (v : ℕ) (state : State) (values : List ℕ) → take v (values_of v state ++ drop v values) ≡ values_of v state

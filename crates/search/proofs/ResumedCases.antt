@@ -4,15 +4,15 @@ use mathlib.Core.List.{List, [], ◌∷◌, map}
 use Prim.Native.Nat.{ℕ}
 use lib.IntN.{ℤ, pos, negsuc}
 use Rattle.prelude.specs.Tests as tests
-use Rattle.clause_list.specs.ClauseList.{cut, wellCut, isList}
+use Rattle.clause_list.specs.ClauseList.{cut, well_cut, is_list}
 use Rattle.clause_list.specs.Marked.{k1, k2}
 use Rattle.search_rules.specs.declared.Steps.{Steps}
-use Rattle.search_rules.specs.Rules.{truth_of, negated, literal, isFalsified, isSatisfied, conflict, openOf, sameLiteral, only, unit_of}
-use Rattle.search_rules.specs.Rules.{firstUnit, lowestOpen, word_of, byte_of, place_of, values_of, trailOf, turn, decide, next}
+use Rattle.search_rules.specs.Rules.{truth_of, negated, literal, is_falsified, is_satisfied, conflict, open_of, same_literal, only, unit_of}
+use Rattle.search_rules.specs.Rules.{first_unit, lowest_open, word_of, byte_of, place_of, values_of, trail_of, turn, decide, next}
 use Rattle.search_rules.specs.Run.{tally, zeros, total, count, run}
-use Rattle.search_rules.specs.Held.{position_of, repeats, goesWith, noState, entry_of, stateIn}
-use Rattle.search.specs.Answers.{Answer, found, none, spent, refused, answerAt, valuesAt, trailAt}
-use Rattle.search.specs.Resumed.{left, takenUp, resumption}
+use Rattle.search_rules.specs.Held.{position_of, repeats, goes_with, no_state, entry_of, state_in}
+use Rattle.search.specs.Answers.{Answer, found, none, spent, refused, answer_at, values_at, trail_at}
+use Rattle.search.specs.Resumed.{left, taken_up, resumption}
 
 -- the slices and the record of a call
 record Held : Type 0 where
@@ -116,7 +116,7 @@ pub cases :
     map (λ row. resumption row.list row.v row.lent.values row.lent.trail (position_of row.lent.length row.lent.steps)
     row.budget) rows
     ≡ map (λ row. left row.answer row.after.values row.after.trail (position_of row.after.length row.after.steps)) rows
-unfolding truth_of negated literal isFalsified isSatisfied conflict openOf sameLiteral only unit_of firstUnit lowestOpen word_of byte_of place_of
-    values_of trailOf turn decide next total count run answerAt valuesAt trailAt tests.all tests.any tests.each cut wellCut isList repeats
-    goesWith noState entry_of stateIn takenUp
+unfolding truth_of negated literal is_falsified is_satisfied conflict open_of same_literal only unit_of first_unit lowest_open word_of byte_of place_of
+    values_of trail_of turn decide next total count run answer_at values_at trail_at tests.all tests.any tests.each cut well_cut is_list repeats
+    goes_with no_state entry_of state_in taken_up
 cases = refl

@@ -3,12 +3,12 @@
 use Rattle.std.specs.Prelude.{cond, ◌&&◌, List, [], ◌++◌, ℕ, leb, ℤ, length, drop}
 use Rattle.std.proofs.Math.Option.{Option, none as Option·none, some}
 use Rattle.refusal.specs.Refusals.{number_of}
-use Rattle.clause_list.specs.ClauseList.{clausesOf, isList}
+use Rattle.clause_list.specs.ClauseList.{clauses_of, is_list}
 use Rattle.search.specs.declared.answer.Search.{Search}
 use Rattle.search.specs.declared.answer.Search.TheVariants.{Found, None, Spent, Refused}
 use Rattle.search_rules.specs.declared.Steps.{Steps}
-use Rattle.search_rules.specs.Rules.{values_of, trailOf}
-use Rattle.search_rules.specs.Run.{zeros, End, wasNone, wasFound, wasSpent, run}
+use Rattle.search_rules.specs.Rules.{values_of, trail_of}
+use Rattle.search_rules.specs.Run.{zeros, End, was_none, was_found, was_spent, run}
 
 -- the paper's answers: "found", "none" or "spent" with the steps done, or a number. "The search answer and the lent
 -- record of Change 1 show forces, choices and turns, each by itself"
@@ -24,29 +24,29 @@ answer_of (Spent steps) = spent steps
 answer_of (Refused refusal) = refused (number_of refusal)
 
 -- the steps that an answer gives
-abbrev pub stepsIn : Answer → Option Steps
-stepsIn (found steps) = some steps
-stepsIn (none steps) = some steps
-stepsIn (spent steps) = some steps
-stepsIn (refused number) = Option·none
+abbrev pub steps_in : Answer → Option Steps
+steps_in (found steps) = some steps
+steps_in (none steps) = some steps
+steps_in (spent steps) = some steps
+steps_in (refused number) = Option·none
 
 -- "The answer gives the steps done."
-unfoldable pub answerAt : End → Answer
-answerAt (wasNone t) = none t
-answerAt (wasFound t state) = found t
-answerAt (wasSpent t state) = spent t
+unfoldable pub answer_at : End → Answer
+answer_at (was_none t) = none t
+answer_at (was_found t state) = found t
+answer_at (was_spent t state) = spent t
 
 -- ""none", with values all 2 and trail all 0"; ""found" keeps its 3s in the lent values" (document 02, Change 6);
 -- "spent", where "the state stays"
-unfoldable pub valuesAt : ℕ → End → List ℕ
-valuesAt v (wasNone t) = values_of v []
-valuesAt v (wasFound t state) = values_of v state
-valuesAt v (wasSpent t state) = values_of v state
+unfoldable pub values_at : ℕ → End → List ℕ
+values_at v (was_none t) = values_of v []
+values_at v (was_found t state) = values_of v state
+values_at v (was_spent t state) = values_of v state
 
-unfoldable pub trailAt : ℕ → End → List ℤ
-trailAt v (wasNone t) = trailOf v []
-trailAt v (wasFound t state) = trailOf v state
-trailAt v (wasSpent t state) = trailOf v state
+unfoldable pub trail_at : ℕ → End → List ℤ
+trail_at v (was_none t) = trail_of v []
+trail_at v (was_found t state) = trail_of v state
+trail_at v (was_spent t state) = trail_of v state
 
 -- an answer with the content of values and trail after the call
 pub record Outcome : Type 0 where
@@ -61,16 +61,16 @@ refuse number values trail = record { answer = refused number; values = values; 
 -- "Only the first v bytes and words (v variables) are touched."
 abbrev pub finish : ℕ → List ℕ → List ℤ → End → Outcome
 finish v values trail end =
-    record { answer = answerAt end; values = valuesAt v end ++ drop v values; trail = trailAt v end ++ drop v trail }
+    record { answer = answer_at end; values = values_at v end ++ drop v values; trail = trail_at v end ++ drop v trail }
 
 -- "The start is all open."
-abbrev pub searchRun : List ℤ → ℕ → ℕ → End
-searchRun list v budget = run (clausesOf list) v budget zeros []
+abbrev pub search_run : List ℤ → ℕ → ℕ → End
+search_run list v budget = run (clauses_of list) v budget zeros []
 
 -- "search .. 12 and 13": the list first, then the lent slices, which need one byte and one word for each variable
 unfoldable pub outcome : List ℤ → ℕ → List ℕ → List ℤ → ℕ → Outcome
 outcome list v values trail budget =
-    cond (isList v list)
-    (cond (leb v (length values) && leb v (length trail)) (finish v values trail (searchRun list v budget))
+    cond (is_list v list)
+    (cond (leb v (length values) && leb v (length trail)) (finish v values trail (search_run list v budget))
     (refuse 13 values trail))
     (refuse 12 values trail)

@@ -1,12 +1,12 @@
 -- What a call that takes up a state answers, and what it leaves in the lent slices and in the lent record (document 02,
 -- Changes 1, 3 and 6).
 use Rattle.std.specs.Prelude.{Bool, cond, ◌&&◌, ◌||◌, List, ℕ, leb, ℤ, length, take}
-use Rattle.clause_list.specs.ClauseList.{clausesOf, isList}
+use Rattle.clause_list.specs.ClauseList.{clauses_of, is_list}
 use Rattle.search_rules.specs.declared.Steps.{Steps}
 use Rattle.search_rules.specs.declared.Position.{Position}
 use Rattle.search_rules.specs.Rules.{State}
-use Rattle.search_rules.specs.Run.{End, wasNone, wasFound, wasSpent, run}
-use Rattle.search_rules.specs.Held.{steps_of, position_of, noState, tooMany, stateIn}
+use Rattle.search_rules.specs.Run.{End, was_none, was_found, was_spent, run}
+use Rattle.search_rules.specs.Held.{steps_of, position_of, no_state, too_many, state_in}
 use Rattle.search.specs.Answers.{Answer, Outcome, refuse, finish}
 
 -- what a call answers and leaves, and the record after it
@@ -24,23 +24,23 @@ decline number values trail p = record { outcome = refuse number values trail; p
 
 -- "writes the new length and the total of steps to the record (length 0 after "none")": the totals of the three kinds,
 -- each by itself
-abbrev pub positionAt : End → Position
-positionAt (wasNone t) = position_of 0 t
-positionAt (wasFound t state) = position_of (length state) t
-positionAt (wasSpent t state) = position_of (length state) t
+abbrev pub position_at : End → Position
+position_at (was_none t) = position_of 0 t
+position_at (was_found t state) = position_of (length state) t
+position_at (was_spent t state) = position_of (length state) t
 
 -- the end of a run, as that of `search`, with the record
-abbrev pub finishAt : ℕ → List ℕ → List ℤ → End → Resumption
-finishAt v values trail end = record { outcome = finish v values trail end; position = positionAt end }
+abbrev pub finish_at : ℕ → List ℕ → List ℤ → End → Resumption
+finish_at v values trail end = record { outcome = finish v values trail end; position = position_at end }
 
 -- the state that the first v bytes and words hold with the record
 abbrev pub start_of : ℕ → List ℕ → List ℤ → Position → State
-start_of v values trail p = stateIn (take v values) (take v trail) p.length
+start_of v values trail p = state_in (take v values) (take v trail) p.length
 
 -- 14 STATE
-abbrev pub declinesState : ℕ → List ℕ → List ℤ → Position → ℕ → Bool
-declinesState v values trail p budget =
-    noState v (take v values) (take v trail) p.length || tooMany (steps_of p) budget
+abbrev pub declines_state : ℕ → List ℕ → List ℤ → Position → ℕ → Bool
+declines_state v values trail p budget =
+    no_state v (take v values) (take v trail) p.length || too_many (steps_of p) budget
 
 -- the run of a call that takes up a state: by the steps done, the state and the budget
 abbrev pub Running : Type 0
@@ -48,19 +48,19 @@ Running = Steps → State → ℕ → End
 
 -- 12, then 13, then 14: the list, the lent slices, which need one byte and one word for each variable, and the state;
 -- then the run from the state
-unfoldable pub takenUp : Running → List ℤ → ℕ → List ℕ → List ℤ → Position → ℕ → Resumption
-takenUp running list v values trail p budget =
-    cond (isList v list)
+unfoldable pub taken_up : Running → List ℤ → ℕ → List ℕ → List ℤ → Position → ℕ → Resumption
+taken_up running list v values trail p budget =
+    cond (is_list v list)
     (cond (leb v (length values) && leb v (length trail))
-    (cond (declinesState v values trail p budget)
+    (cond (declines_state v values trail p budget)
     (decline 14 values trail p)
-    (finishAt v values trail (running (steps_of p) (start_of v values trail p) budget)))
+    (finish_at v values trail (running (steps_of p) (start_of v values trail p) budget)))
     (decline 13 values trail p))
     (decline 12 values trail p)
 
 -- "A resumed call takes the rules' next steps from that state": the run goes on counting from the counters handed in
-abbrev pub resumedRun : List ℤ → ℕ → Running
-resumedRun list v done state budget = run (clausesOf list) v budget done state
+abbrev pub resumed_run : List ℤ → ℕ → Running
+resumed_run list v done state budget = run (clauses_of list) v budget done state
 
 abbrev pub resumption : List ℤ → ℕ → List ℕ → List ℤ → Position → ℕ → Resumption
-resumption list v = takenUp (resumedRun list v) list v
+resumption list v = taken_up (resumed_run list v) list v

@@ -2,14 +2,14 @@
 -- and each counter.
 use Rattle.std.specs.Prelude.{◌≡◌, cond, List, [], ◌∷◌, ℕ, suc, ◌+◌, ◌≤◌, eqb, ℤ, nat_abs, length, take}
 use Rattle.std.proofs.Math.Option.{none, some}
-use Rattle.clause_list.specs.ClauseList.{clausesOf}
+use Rattle.clause_list.specs.ClauseList.{clauses_of}
 use Rattle.search_rules.specs.declared.Steps.{Steps}
 use Rattle.search_rules.specs.declared.Position.{Position}
-use Rattle.search_rules.specs.Rules.{Kind, values_of, trailOf}
+use Rattle.search_rules.specs.Rules.{Kind, values_of, trail_of}
 use Rattle.search_rules.specs.Run.{total}
-use Rattle.search_rules.specs.Held.{steps_of, position_of, stepLimit}
-use Rattle.search_rules.specs.Counting.{counter, kindsTaken, ofKind}
-use Rattle.search.specs.Answers.{spent, stepsIn, Outcome, outcome}
+use Rattle.search_rules.specs.Held.{steps_of, position_of, step_limit}
+use Rattle.search_rules.specs.Counting.{counter, kinds_taken, of_kind}
+use Rattle.search.specs.Answers.{spent, steps_in, Outcome, outcome}
 use Rattle.search.specs.Resumed.{start_of, Resumption, resumption}
 
 -- "A record of zeros"
@@ -17,33 +17,33 @@ abbrev pub start : Position
 start = record { length = 0; propagations = 0; decisions = 0; backtracks = 0 }
 
 -- the words of a trail ahead of its first 0
-unfoldable pub trailLength : List ℤ → ℕ
-trailLength [] = 0
-trailLength (l ∷ trail) = cond (eqb (nat_abs l) 0) 0 (suc (trailLength trail))
+unfoldable pub trail_length : List ℤ → ℕ
+trail_length [] = 0
+trail_length (l ∷ trail) = cond (eqb (nat_abs l) 0) 0 (suc (trail_length trail))
 
 -- the record of "its trail length and the steps done so far" that goes with what `search` answers and leaves: the words
 -- of its trail, and the counters of its answer
-abbrev pub recordOf : ℕ → Outcome → Position
-recordOf v o =
-    elim (stepsIn o.answer)
-    [ none ↦ start | some steps ↦ position_of (trailLength (take v o.trail)) steps ]
+abbrev pub record_of : ℕ → Outcome → Position
+record_of v o =
+    elim (steps_in o.answer)
+    [ none ↦ start | some steps ↦ position_of (trail_length (take v o.trail)) steps ]
 
-abbrev pub withRecord : ℕ → Outcome → Resumption
-withRecord v o = record { outcome = o; position = recordOf v o }
+abbrev pub with_record : ℕ → Outcome → Resumption
+with_record v o = record { outcome = o; position = record_of v o }
 
 -- "A record of zeros over open slices is a fresh start": it answers and leaves what `search` does, and the record that
 -- goes with that
 abbrev pub FreshStart : Type 0
 FreshStart = (list : List ℤ) (v : ℕ) (values : List ℕ) (trail : List ℤ) (budget : ℕ)
-    → take v values ≡ values_of v [] → take v trail ≡ trailOf v [] → budget ≤ stepLimit
-    → resumption list v values trail start budget ≡ withRecord v (outcome list v values trail budget)
+    → take v values ≡ values_of v [] → take v trail ≡ trail_of v [] → budget ≤ step_limit
+    → resumption list v values trail start budget ≡ with_record v (outcome list v values trail budget)
 
 -- so a search that was begun by `search`, whatever the slices held, is taken up by a resumed call with that record
 abbrev pub SearchResumed : Type 0
 SearchResumed = (list : List ℤ) (v : ℕ) (values : List ℕ) (trail : List ℤ) (m n : ℕ) (steps : Steps)
-    → (outcome list v values trail m).answer ≡ spent steps → m + n ≤ stepLimit
+    → (outcome list v values trail m).answer ≡ spent steps → m + n ≤ step_limit
     → let o = outcome list v values trail m in
-    resumption list v o.values o.trail (recordOf v o) n ≡ withRecord v (outcome list v values trail (m + n))
+    resumption list v o.values o.trail (record_of v o) n ≡ with_record v (outcome list v values trail (m + n))
 
 -- calls of one kind over one list and v, from slices and a record on: each but the last is spent, and the next takes up
 -- what it left; n steps are allowed in all, and the last call comes to r
@@ -62,7 +62,7 @@ pub data Chain (call : List ℕ → List ℤ → Position → ℕ → Resumption
 abbrev pub ComesToOne : (List ℕ → List ℤ → Position → ℕ → Resumption) → Type 0
 ComesToOne call = (values : List ℕ) (trail : List ℤ) (p : Position) (n : ℕ) (r : Resumption)
     → Chain call values trail p n r
-    → total (steps_of p) + n ≤ stepLimit → r ≡ call values trail p n
+    → total (steps_of p) + n ≤ step_limit → r ≡ call values trail p n
 
 -- resumed calls do: "the sameness in Change 1" is "meant for runs without such a clash" as a call for the next makes of
 -- a full assignment (document 02, Change 6), and in a chain of resumed calls there is none
@@ -73,13 +73,13 @@ SameAsOne = (list : List ℤ) (v : ℕ) → ComesToOne (resumption list v)
 -- call": of a call from the start, and of a resumed call, whose record has the answer's counters
 pub record EachCounter : Type 0 where
   pub searched : (list : List ℤ) (v : ℕ) (values : List ℕ) (trail : List ℤ) (budget : ℕ) (steps : Steps)
-      → stepsIn (outcome list v values trail budget).answer ≡ some steps
-      → (kind : Kind) → counter kind steps ≡ ofKind kind (kindsTaken (clausesOf list) v budget [])
+      → steps_in (outcome list v values trail budget).answer ≡ some steps
+      → (kind : Kind) → counter kind steps ≡ of_kind kind (kinds_taken (clauses_of list) v budget [])
   pub resumed : (list : List ℤ) (v : ℕ) (values : List ℕ) (trail : List ℤ) (p : Position) (budget : ℕ) (steps : Steps)
-      → stepsIn (resumption list v values trail p budget).outcome.answer ≡ some steps
+      → steps_in (resumption list v values trail p budget).outcome.answer ≡ some steps
       → (kind : Kind)
       → counter kind steps
-      ≡ counter kind (steps_of p) + ofKind kind (kindsTaken (clausesOf list) v budget (start_of v values trail p))
+      ≡ counter kind (steps_of p) + of_kind kind (kinds_taken (clauses_of list) v budget (start_of v values trail p))
   pub recorded : (list : List ℤ) (v : ℕ) (values : List ℕ) (trail : List ℤ) (p : Position) (budget : ℕ) (steps : Steps)
-      → stepsIn (resumption list v values trail p budget).outcome.answer ≡ some steps
+      → steps_in (resumption list v values trail p budget).outcome.answer ≡ some steps
       → steps_of (resumption list v values trail p budget).position ≡ steps

@@ -3,7 +3,7 @@
 ghost use Rattle.std.specs.Prelude.{◌≡◌};
 ghost use Rattle.search.specs.declared.answer.Search.TheVariants.{Refused};
 ghost use Rattle.search.specs.Answers.{answer_of, outcome};
-ghost use Rattle.search.specs.Resumed.{left, takenUp, resumption};
+ghost use Rattle.search.specs.Resumed.{left, taken_up, resumption};
 ghost use Rattle.search.specs.Following.{following};
 ghost use Rattle.search.specs.Inner.{run_of};
 
@@ -57,7 +57,7 @@ fn taken_up(
     budget: u64,
 ) -> Resumed
     ensures { left (answer_of result.answer) values.new trail.new result.position
-        ≡ takenUp (run_of call list.now v)
+        ≡ taken_up (run_of call list.now v)
         list.now v values.old trail.old position budget }
 {
     if !clause_list::is_list(list, v) {

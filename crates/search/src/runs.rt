@@ -1,12 +1,12 @@
 // The run of the rules over slices of one byte and one word for each variable: from the state that they hold, and from a fresh start.
 ghost use Rattle.std.specs.Prelude.{◌≡◌, ◌+◌, ◌≤◌, length};
-ghost use Rattle.literal.specs.Words.{lastVariable};
+ghost use Rattle.literal.specs.Words.{last_variable};
 ghost use Rattle.search_rules.specs.Rules.{State};
 ghost use Rattle.search_rules.specs.Run.{total};
-ghost use Rattle.search_rules.specs.Held.{steps_of, stepLimit, Stored};
+ghost use Rattle.search_rules.specs.Held.{steps_of, step_limit, Stored};
 ghost use Rattle.search_rules.specs.Inner.{Fine};
 ghost use Rattle.search_core.specs.Inner.{SomeStored, Ended};
-ghost use Rattle.search.specs.Answers.{answer_of, answerAt, valuesAt, trailAt, searchRun};
+ghost use Rattle.search.specs.Answers.{answer_of, answer_at, values_at, trail_at, search_run};
 ghost use Rattle.search.specs.Inner.{run_of, Finished};
 
 use super::answer::{Position, Resumed, Search, Steps};
@@ -30,9 +30,9 @@ fn run_as(
     budget: u64,
 ) -> Ran
     requires fine { Fine (length values.old) list.now }
-    requires values_len_bound { length values.old ≤ lastVariable }
+    requires values_len_bound { length values.old ≤ last_variable }
     requires some_stored { SomeStored (length values.old) values.old trail.old position.length }
-    requires budget_bound { total (steps_of position) + budget ≤ stepLimit }
+    requires budget_bound { total (steps_of position) + budget ≤ step_limit }
     ensures { (state : State) → Stored (length values.old) state values.old trail.old position.length
         → Ended (length values.old)
         (run_of call list.now (length values.old) (steps_of position) state budget)
@@ -54,9 +54,9 @@ pub(crate) fn go_on(
     budget: u64,
 ) -> Resumed
     requires fine { Fine (length values.old) list.now }
-    requires values_len_bound { length values.old ≤ lastVariable }
+    requires values_len_bound { length values.old ≤ last_variable }
     requires some_stored { SomeStored (length values.old) values.old trail.old position.length }
-    requires budget_bound { total (steps_of position) + budget ≤ stepLimit }
+    requires budget_bound { total (steps_of position) + budget ≤ step_limit }
     ensures { (state : State) → Stored (length values.old) state values.old trail.old position.length
         → Finished (length values.old)
         (run_of call list.now (length values.old) (steps_of position) state budget)
@@ -89,13 +89,13 @@ pub(crate) fn go_on(
 // The run from a fresh start.
 pub(crate) fn fresh(list: &[i32], values: &mut [u8], trail: &mut [i32], budget: u64) -> Search
     requires fine { Fine (length values.old) list.now }
-    requires values_len_bound { length values.old ≤ lastVariable }
+    requires values_len_bound { length values.old ≤ last_variable }
     requires trail_len { length trail.old ≡ length values.old }
-    ensures result_value { answer_of result ≡ answerAt (searchRun list.now (length values.old) budget) }
+    ensures result_value { answer_of result ≡ answer_at (search_run list.now (length values.old) budget) }
     ensures values_after { values.new
-        ≡ valuesAt (length values.old) (searchRun list.now (length values.old) budget) }
+        ≡ values_at (length values.old) (search_run list.now (length values.old) budget) }
     ensures trail_after { trail.new
-        ≡ trailAt (length values.old) (searchRun list.now (length values.old) budget) }
+        ≡ trail_at (length values.old) (search_run list.now (length values.old) budget) }
 {
     open_all(values);
     clear_all(trail);

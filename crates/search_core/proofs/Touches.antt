@@ -5,8 +5,8 @@ use Prim.Native.Nat.{ℕ, zero, suc, ◌<◌, ◌≤◌}
 use native.Mathlib.Omega.{arith}
 use lib.IntN.{ℤ}
 use lib.ListN.{length, get_or, set, length-set}
-use Rattle.clause_list.specs.ClauseList.{clausesOf}
-use Rattle.literal.specs.Words.{lastVariable}
+use Rattle.clause_list.specs.ClauseList.{clauses_of}
+use Rattle.literal.specs.Words.{last_variable}
 use Rattle.search_rules.specs.Inner.{Fine}
 use Rattle.search_index.specs.Index.{Watched}
 
@@ -17,12 +17,12 @@ restored (x ∷ values) zero b = refl
 restored (x ∷ values) (suc p) b = ap (λ vs. x ∷ vs) (restored values p b)
 
 pub touches : (list : List ℤ) (values values' : List ℕ) (p b was : ℕ) (chains weights : List ℕ) → values' ≡ set values p b → p < length values
-    → was ≡ get_or values p 0 → Fine (length values) list → length values ≤ lastVariable → Watched (clausesOf list) values chains weights
+    → was ≡ get_or values p 0 → Fine (length values) list → length values ≤ last_variable → Watched (clauses_of list) values chains weights
     → Fine (length values') list
-    × ((length values' ≤ lastVariable) × ((p < length values') × Watched (clausesOf list) (set values' p was) chains weights))
+    × ((length values' ≤ last_variable) × ((p < length values') × Watched (clauses_of list) (set values' p was) chains weights))
 touches list values values' p b was chains weights e h z f l w =
     let n : length values' ≡ length values = ap length e ∙ length-set values p b in
     let r : set values' p was ≡ values = ap (λ vs. set vs p was) e ∙ ap (set (set values p b) p) z ∙ restored values p b in (
       subst (λ m. Fine m list) (sym n) f,
-      (omega (arith, n, l), (omega (arith, n, h), subst (λ vs. Watched (clausesOf list) vs chains weights) (sym r) w)),
+      (omega (arith, n, l), (omega (arith, n, h), subst (λ vs. Watched (clauses_of list) vs chains weights) (sym r) w)),
     )

@@ -7,7 +7,7 @@ use lib.IntN.{ℤ}
 use Rattle.search_rules.specs.declared.Steps.{Steps}
 use Rattle.search_rules.specs.Held.{steps_of, Stored}
 use Rattle.search_rules.specs.Rules.{State}
-use Rattle.search_rules.specs.Run.{total, End, wasNone, wasFound, wasSpent, run}
+use Rattle.search_rules.specs.Run.{total, End, was_none, was_found, was_spent, run}
 use Rattle.search_rules.proofs.Theorems.{spent-state, again, resume}
 use Rattle.search_core.specs.declared.run.End.TheVariants.{None, Found, Spent}
 use Rattle.search_core.specs.declared.run.Ran.{Ran}
@@ -37,9 +37,9 @@ module _ (clauses : List (List ℤ)) (v few budget : ℕ) (within : few ≤ budg
   early : (x : End) → run clauses v few t state ≡ x → (r.end ≡ Spent → ⊥) → Ended v x r values trail
       → Ended v (run clauses v budget t state) r values trail
   unfolding again
-  early (wasNone t') e n d = subst (λ y. Ended v y r values trail) (sym (whole ∙ ap (again clauses v (budget - few)) e)) d
-  early (wasFound t' s) e n d = subst (λ y. Ended v y r values trail) (sym (whole ∙ ap (again clauses v (budget - few)) e)) d
-  early (wasSpent t' s) e n d = absurd (n d.end_is)
+  early (was_none t') e n d = subst (λ y. Ended v y r values trail) (sym (whole ∙ ap (again clauses v (budget - few)) e)) d
+  early (was_found t' s) e n d = subst (λ y. Ended v y r values trail) (sym (whole ∙ ap (again clauses v (budget - few)) e)) d
+  early (was_spent t' s) e n d = absurd (n d.end_is)
 
   -- where it ended, that is the end
   pub ended-early : (r.end ≡ Spent → ⊥) → Ended v (run clauses v few t state) r values trail → Ended v (run clauses v budget t state) r values trail
@@ -47,13 +47,13 @@ module _ (clauses : List (List ℤ)) (v few budget : ℕ) (within : few ≤ budg
 
   go_on : (x : End) → run clauses v few t state ≡ x → r.end ≡ Spent → Ended v x r values trail → Onward clauses v few budget t state r values trail
   unfolding again
-  go_on (wasNone t') e z d = absurd (apart_none (sym d.end_is ∙ z))
-  go_on (wasFound t' s) e z d = absurd (apart-found (sym d.end_is ∙ z))
-  go_on (wasSpent t' s) e z d = record {
+  go_on (was_none t') e z d = absurd (apart_none (sym d.end_is ∙ z))
+  go_on (was_found t' s) e z d = absurd (apart-found (sym d.end_is ∙ z))
+  go_on (was_spent t' s) e z d = record {
     to = s;
     stored = d.stored;
-    figure = ap total d.steps-are ∙ (spent-state clauses v few t t' state s e).1;
-    alike = ap (λ u. run clauses v (budget - few) u s) d.steps-are ∙ sym (whole ∙ ap (again clauses v (budget - few)) e);
+    figure = ap total d.steps_are ∙ (spent-state clauses v few t t' state s e).1;
+    alike = ap (λ u. run clauses v (budget - few) u s) d.steps_are ∙ sym (whole ∙ ap (again clauses v (budget - few)) e);
   }
 
   pub onward : r.end ≡ Spent → Ended v (run clauses v few t state) r values trail → Onward clauses v few budget t state r values trail

@@ -1,15 +1,15 @@
 // The run of the step rules within a budget, from any state, by value.
 ghost use Rattle.std.specs.Prelude.{◌≡◌, true, false, ◌+◌, ◌<◌, ◌≤◌, ◌^◌, eqb, length};
 ghost use Rattle.prelude.specs.Tests.{any};
-ghost use Rattle.clause_list.specs.ClauseList.{clausesOf};
-ghost use Rattle.literal.specs.Words.{lastVariable};
-ghost use Rattle.search_rules.specs.Rules.{State, values_of, endFound, next};
+ghost use Rattle.clause_list.specs.ClauseList.{clauses_of};
+ghost use Rattle.literal.specs.Words.{last_variable};
+ghost use Rattle.search_rules.specs.Rules.{State, values_of, end_found, next};
 ghost use Rattle.search_rules.specs.Run.{total, count, run};
-ghost use Rattle.search_rules.specs.Following.{followingRun};
+ghost use Rattle.search_rules.specs.Following.{following_run};
 ghost use Rattle.search_rules.specs.Held.{steps_of, position_of, WasOpen, Stored};
 ghost use Rattle.search_rules.specs.Inner.{Fine};
 ghost use Rattle.search_index.specs.Index.{limit, Watched};
-ghost use Rattle.search_core.specs.Inner.{SomeStored, kind_of, endAfter, Ended};
+ghost use Rattle.search_core.specs.Inner.{SomeStored, kind_of, end_after, Ended};
 
 use crate::steps::{Moved, StepKind, back, back_scanned, lowest_open, step};
 use search_index::blocks::blank_weights;
@@ -75,10 +75,10 @@ fn any_decision(values: &[u8]) -> bool
 // Whether the rules end here; Spent where they do not.
 fn ends(list: &[i32], values: &[u8]) -> End
     requires fine { Fine (length values.now) list.now }
-    requires values_len_bound { length values.now ≤ lastVariable }
+    requires values_len_bound { length values.now ≤ last_variable }
     ensures { (state : State) → WasOpen (length values.now) state
         → values.now ≡ values_of (length values.now) state
-        → result ≡ endAfter (next (clausesOf list.now) (length values.now) state) }
+        → result ≡ end_after (next (clauses_of list.now) (length values.now) state) }
 {
     let seen = scan(list, values);
     match seen {
@@ -111,13 +111,13 @@ fn go(
     weights: &mut [u16],
 ) -> Ran
     requires fine { Fine (length values.old) list.now }
-    requires values_len_bound { length values.old ≤ lastVariable }
+    requires values_len_bound { length values.old ≤ last_variable }
     requires some_stored { SomeStored (length values.old) values.old trail.old start.length }
     requires budget_bound { total (steps_of start) + budget < 2 ^ 64 }
-    requires watched { Watched (clausesOf list.now) values.old chains.now weights.old }
+    requires watched { Watched (clauses_of list.now) values.old chains.now weights.old }
     ensures { (state : State) → Stored (length values.old) state values.old trail.old start.length
         → Ended (length values.old)
-        (run (clausesOf list.now) (length values.old) budget (steps_of start) state)
+        (run (clauses_of list.now) (length values.old) budget (steps_of start) state)
         result values.new trail.new }
 {
     let mut position = start;
@@ -163,12 +163,12 @@ fn run_scanned(
     budget: u64,
 ) -> Ran
     requires fine { Fine (length values.old) list.now }
-    requires values_len_bound { length values.old ≤ lastVariable }
+    requires values_len_bound { length values.old ≤ last_variable }
     requires some_stored { SomeStored (length values.old) values.old trail.old start.length }
     requires budget_bound { total (steps_of start) + budget < 2 ^ 64 }
     ensures { (state : State) → Stored (length values.old) state values.old trail.old start.length
         → Ended (length values.old)
-        (run (clausesOf list.now) (length values.old) budget (steps_of start) state)
+        (run (clauses_of list.now) (length values.old) budget (steps_of start) state)
         result values.new trail.new }
 {
     let chains = [0u16; 0];
@@ -185,13 +185,13 @@ fn run_indexed(
     budget: u64,
 ) -> Ran
     requires fine { Fine (length values.old) list.now }
-    requires values_len_bound { length values.old ≤ lastVariable }
+    requires values_len_bound { length values.old ≤ last_variable }
     requires some_stored { SomeStored (length values.old) values.old trail.old start.length }
     requires budget_bound { total (steps_of start) + budget < 2 ^ 64 }
     requires values_len_bound_2 { (length values.old ≤ limit) × (length list.now ≤ limit) }
     ensures { (state : State) → Stored (length values.old) state values.old trail.old start.length
         → Ended (length values.old)
-        (run (clausesOf list.now) (length values.old) budget (steps_of start) state)
+        (run (clauses_of list.now) (length values.old) budget (steps_of start) state)
         result values.new trail.new }
 {
     let mut chains = blank_chains();
@@ -228,12 +228,12 @@ fn scanned_steps(words: usize, v: usize, budget: u64) -> u64
 // The run from the state that the slices and the position hold: the first steps by the scan, those after them over an index.
 pub fn run(list: &[i32], values: &mut [u8], trail: &mut [i32], start: Position, budget: u64) -> Ran
     requires fine { Fine (length values.old) list.now }
-    requires values_len_bound { length values.old ≤ lastVariable }
+    requires values_len_bound { length values.old ≤ last_variable }
     requires some_stored { SomeStored (length values.old) values.old trail.old start.length }
     requires budget_bound { total (steps_of start) + budget < 2 ^ 64 }
     ensures { (state : State) → Stored (length values.old) state values.old trail.old start.length
         → Ended (length values.old)
-        (run (clausesOf list.now) (length values.old) budget (steps_of start) state)
+        (run (clauses_of list.now) (length values.old) budget (steps_of start) state)
         result values.new trail.new }
 {
     let few = scanned_steps(list.len(), values.len(), budget);
@@ -262,13 +262,13 @@ fn turn_full(
     budget: u64,
 ) -> Ran
     requires fine { Fine (length values.old) list.now }
-    requires values_len_bound { length values.old ≤ lastVariable }
+    requires values_len_bound { length values.old ≤ last_variable }
     requires some_stored { SomeStored (length values.old) values.old trail.old start.length }
     requires budget_bound { total (steps_of start) + budget < 2 ^ 64 }
     ensures { (state : State) → Stored (length values.old) state values.old trail.old start.length
-        → next (clausesOf list.now) (length values.old) state ≡ endFound
+        → next (clauses_of list.now) (length values.old) state ≡ end_found
         → Ended (length values.old)
-        (followingRun (clausesOf list.now) (length values.old) budget (steps_of start) state)
+        (following_run (clauses_of list.now) (length values.old) budget (steps_of start) state)
         result values.new trail.new }
 {
     let used = start.length;
@@ -297,12 +297,12 @@ pub fn run_next(
     budget: u64,
 ) -> Ran
     requires fine { Fine (length values.old) list.now }
-    requires values_len_bound { length values.old ≤ lastVariable }
+    requires values_len_bound { length values.old ≤ last_variable }
     requires some_stored { SomeStored (length values.old) values.old trail.old start.length }
     requires budget_bound { total (steps_of start) + budget < 2 ^ 64 }
     ensures { (state : State) → Stored (length values.old) state values.old trail.old start.length
         → Ended (length values.old)
-        (followingRun (clausesOf list.now) (length values.old) budget (steps_of start) state)
+        (following_run (clauses_of list.now) (length values.old) budget (steps_of start) state)
         result values.new trail.new }
 {
     let end = ends(list, values);

@@ -2,9 +2,9 @@
 // where there are no weights there is no index, and the list is scanned.
 ghost use Rattle.std.specs.Prelude.{◌≡◌, ◌<◌, ◌≤◌, length, set, negsuc};
 ghost use Rattle.std.proofs.Math.Option.{get_or};
-ghost use Rattle.clause_list.specs.ClauseList.{clausesOf};
-ghost use Rattle.literal.specs.Words.{lastVariable};
-ghost use Rattle.search_rules.specs.Rules.{State, lowestOpen, propagated, byte_of, place_of, turn, next};
+ghost use Rattle.clause_list.specs.ClauseList.{clauses_of};
+ghost use Rattle.literal.specs.Words.{last_variable};
+ghost use Rattle.search_rules.specs.Rules.{State, lowest_open, propagated, byte_of, place_of, turn, next};
 ghost use Rattle.search_rules.specs.Held.{InRange, Stored};
 ghost use Rattle.search_rules.specs.Inner.{Fine};
 ghost use Rattle.search_index.specs.Index.{Watched};
@@ -30,7 +30,7 @@ pub enum Moved {
 
 // The place of the lowest open variable, or the number of variables.
 pub fn lowest_open(values: &[u8]) -> usize
-    ensures { result ≡ get_or (lowestOpen 0 values.now) (length values.now) }
+    ensures { result ≡ get_or (lowest_open 0 values.now) (length values.now) }
 {
     let mut i = 0;
     while i < values.len() {
@@ -52,12 +52,12 @@ pub fn back(
     weights: &mut [u16],
 ) -> usize
     requires fine { Fine (length values.old) list.now }
-    requires values_len_bound { length values.old ≤ lastVariable }
+    requires values_len_bound { length values.old ≤ last_variable }
     requires some_stored { SomeStored (length values.old) values.old trail.old used }
-    requires watched { Watched (clausesOf list.now) values.old chains.now weights.old }
+    requires watched { Watched (clauses_of list.now) values.old chains.now weights.old }
     ensures turned { (state : State) → Stored (length values.old) state values.old trail.old used
         → Turned (length values.old) (turn state) result values.new trail.new }
-    ensures watched_2 { Watched (clausesOf list.now) values.new chains.now weights.new }
+    ensures watched_2 { Watched (clauses_of list.now) values.new chains.now weights.new }
 {
     let mut n = used;
     while n > 0 {
@@ -82,7 +82,7 @@ pub fn back(
 // The same without an index.
 pub fn back_scanned(list: &[i32], values: &mut [u8], trail: &mut [i32], used: usize) -> usize
     requires fine { Fine (length values.old) list.now }
-    requires values_len_bound { length values.old ≤ lastVariable }
+    requires values_len_bound { length values.old ≤ last_variable }
     requires some_stored { SomeStored (length values.old) values.old trail.old used }
     ensures { (state : State) → Stored (length values.old) state values.old trail.old used
         → Turned (length values.old) (turn state) result values.new trail.new }
@@ -94,7 +94,7 @@ pub fn back_scanned(list: &[i32], values: &mut [u8], trail: &mut [i32], used: us
 
 // A literal is set true, and goes on top of the trail.
 fn propagate(values: &mut [u8], trail: &mut [i32], used: usize, l: i32)
-    requires values_len_bound { length values.old ≤ lastVariable }
+    requires values_len_bound { length values.old ≤ last_variable }
     requires in_range { InRange (length values.old) l }
     requires used_in_bounds { used < length trail.old }
     ensures values_after { values.new ≡ set values.old (place_of l) (byte_of (propagated l)) }
@@ -111,7 +111,7 @@ fn propagate(values: &mut [u8], trail: &mut [i32], used: usize, l: i32)
 
 // The variable at a place is made false by decision, and goes on top of the trail.
 fn decide(values: &mut [u8], trail: &mut [i32], used: usize, i: usize)
-    requires i_in_bounds { (i < length values.old) × (i < lastVariable) }
+    requires i_in_bounds { (i < length values.old) × (i < last_variable) }
     requires used_in_bounds { used < length trail.old }
     ensures values_after { values.new ≡ set values.old i 3 }
     ensures trail_after { trail.new ≡ set trail.old used (negsuc i) }
@@ -131,14 +131,14 @@ pub fn step(
     weights: &mut [u16],
 ) -> Moved
     requires fine { Fine (length values.old) list.now }
-    requires values_len_bound { length values.old ≤ lastVariable }
+    requires values_len_bound { length values.old ≤ last_variable }
     requires some_stored { SomeStored (length values.old) values.old trail.old used }
-    requires watched { Watched (clausesOf list.now) values.old chains.now weights.old }
+    requires watched { Watched (clauses_of list.now) values.old chains.now weights.old }
     ensures stepped { (state : State) → Stored (length values.old) state values.old trail.old used
         → Stepped (length values.old) state
-        (next (clausesOf list.now) (length values.old) state)
+        (next (clauses_of list.now) (length values.old) state)
         result values.new trail.new }
-    ensures watched_2 { Watched (clausesOf list.now) values.new chains.now weights.new }
+    ensures watched_2 { Watched (clauses_of list.now) values.new chains.now weights.new }
 {
     let seen = look(list, values, chains, weights);
     match seen {

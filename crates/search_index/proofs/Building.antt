@@ -9,8 +9,8 @@ use lib.IntN.{ℤ}
 use lib.ListN.{length, get_or, set}
 use lib.Seq.{get_or-set_same, get_or-set_other}
 use Rattle.clause_list.specs.ClauseList.{words_of}
-use Rattle.search_index.specs.Index.{limit, clauseAt, head_of, Spot, Linked, Stands, Tallied, Put, Watched, watched}
-use Rattle.search_index.specs.Index.{headAt}
+use Rattle.search_index.specs.Index.{limit, clause_at, head_of, Spot, Linked, Stands, Tallied, Put, Watched, watched}
+use Rattle.search_index.specs.Index.{head_at}
 use Rattle.search_index.proofs.Words.{head-zero, head-high, head-all, clauses-few}
 use Rattle.search_index.proofs.Chaining.{chained-none}
 use Rattle.search_index.proofs.Entering.{linked-set}
@@ -21,8 +21,8 @@ pub record Built (clauses : List (List ℤ)) (values chains weights : List ℕ) 
   pub linked : Linked clauses chains at
   pub place : at ≡ head_of clauses c
   pub upto : c ≤ length clauses
-  pub heads : (d : ℕ) → d < c → headAt chains d ≡ head_of clauses d
-  pub right : (d : ℕ) → d < c → Stands values (clauseAt clauses d) (get_or weights d 0)
+  pub heads : (d : ℕ) → d < c → head_at chains d ≡ head_of clauses d
+  pub right : (d : ℕ) → d < c → Stands values (clause_at clauses d) (get_or weights d 0)
   pub tallied : Tallied weights c
   pub clean : (d : ℕ) → c ≤ d → d < limit → get_or weights d 0 ≡ 0
 
@@ -53,18 +53,18 @@ module _ (clauses : List (List ℤ)) (values : List ℕ) where
           let b : at ≤ limit = omega (arith, h.place, head-high clauses c more, short) in
           rw noted (linked-set clauses low chains at b h.linked (49152 + c) at (omega arith))
 
-      noted-heads : (d : ℕ) → d < c + 1 → headAt chains₁ d ≡ head_of clauses d
+      noted-heads : (d : ℕ) → d < c + 1 → head_at chains₁ d ≡ head_of clauses d
       noted-heads d b = rw noted (⊎_elim here before (eq-or-lt_of_le (omega (arith, b))))
         where
-          here : d ≡ c → headAt (set chains (49152 + c) at) d ≡ head_of clauses d
+          here : d ≡ c → head_at (set chains (49152 + c) at) d ≡ head_of clauses d
           here e = rw e (get_or-set_same chains (49152 + c) at 0 (omega (arith, few, h.linked.long)) ∙ h.place)
 
-          before : d < c → headAt (set chains (49152 + c) at) d ≡ head_of clauses d
+          before : d < c → head_at (set chains (49152 + c) at) d ≡ head_of clauses d
           before l = get_or-set_other chains (49152 + c) (49152 + d) at 0 (λ e. absurd (omega (arith, l, e))) ∙ h.heads d l
 
       -- it is entered and weighed
-      pub built-next : (chains₂ : List ℕ) → Linked clauses chains₂ (head_of clauses (suc c)) → ((k : ℕ) → headAt chains₂ k ≡ headAt chains₁ k)
-          → (w : ℕ) → Stands values (clauseAt clauses c) w → (weights' : List ℕ) → Put weights c w weights'
+      pub built-next : (chains₂ : List ℕ) → Linked clauses chains₂ (head_of clauses (suc c)) → ((k : ℕ) → head_at chains₂ k ≡ head_at chains₁ k)
+          → (w : ℕ) → Stands values (clause_at clauses c) w → (weights' : List ℕ) → Put weights c w weights'
           → (at' : ℕ) → at' ≡ head_of clauses (suc c) → Built clauses values chains₂ weights' (c + 1) at'
       built-next chains₂ linked heads w stands weights' put at' e = record {
         linked = rw e linked;
@@ -79,20 +79,20 @@ module _ (clauses : List (List ℤ)) (values : List ℕ) where
           next : c + 1 ≡ suc c
           next = omega arith
 
-          now : (d : ℕ) → d ≡ c → Stands values (clauseAt clauses d) (get_or weights' d 0)
+          now : (d : ℕ) → d ≡ c → Stands values (clause_at clauses d) (get_or weights' d 0)
           now d z = rw (z, put.here) stands
 
-          before : (d : ℕ) → d < c → Stands values (clauseAt clauses d) (get_or weights' d 0)
+          before : (d : ℕ) → d < c → Stands values (clause_at clauses d) (get_or weights' d 0)
           before d l = rw (put.others d (omega (arith, l, few)) (λ z. absurd (omega (arith, z, l)))) (h.right d l)
 
     pub built-end : length (words_of clauses) ≤ at → length values ≤ limit → (chains' : List ℕ) → chains' ≡ set chains 65536 c
         → Watched clauses values chains' weights
     built-end b few chains' e = rw e (watched (record {
-      chains-are = record {
+      chains_are = record {
         short = short;
         linked = rw (← bound) (linked-set clauses low chains at (omega (arith, bound, short)) h.linked 65536 c (omega arith));
         size = get_or-set_same chains 65536 c 0 (omega (arith, h.linked.long)) ∙ whole;
-        heads = λ d l. get_or-set_other chains 65536 (49152 + d) c 0 (λ z. absurd (omega (arith, z, l, few-clauses)))
+        heads = λ d l. get_or-set_other chains 65536 (49152 + d) c 0 (λ z. absurd (omega (arith, z, l, few_clauses)))
             ∙ h.heads d (omega (arith, whole, l));
       };
       few = few;
@@ -106,5 +106,5 @@ module _ (clauses : List (List ℤ)) (values : List ℕ) where
         bound : at ≡ length (words_of clauses)
         bound = h.place ∙ ap (head_of clauses) whole ∙ head-all clauses
 
-        few-clauses : length clauses ≤ limit
-        few-clauses = omega (arith, clauses-few clauses, short)
+        few_clauses : length clauses ≤ limit
+        few_clauses = omega (arith, clauses-few clauses, short)

@@ -12,10 +12,10 @@ use Rattle.search_index.proofs.Spots.{same_or_not, same-clause, same_place}
 -- none before the first word
 pub chained-none : (clauses : List (List ℤ)) (first link owner : ℕ → ℕ) → ((p : ℕ) → first p ≡ 0) → Chained clauses first link owner 0
 chained-none clauses first link owner none = record {
-  owner-is = λ p i s l. absurd (omega arith);
+  owner_is = λ p i s l. absurd (omega arith);
   last = λ p i s l. absurd (omega arith);
-  first-spot = λ p b h. absurd (omega (arith, none p));
-  link-spot = λ p i s l. absurd (omega arith);
+  first_spot = λ p b h. absurd (omega (arith, none p));
+  link_spot = λ p i s l. absurd (omega arith);
   linked = λ p i s l. absurd (omega arith);
   gaps = λ p i j s l. absurd (omega arith);
 }
@@ -24,10 +24,10 @@ module _ (clauses : List (List ℤ)) (first link owner : ℕ → ℕ) (i : ℕ) 
   -- a word that is no literal
   pub chained-skip : ((p : ℕ) → Spot clauses p i → ⊥) → Chained clauses first link owner (suc i)
   chained-skip none = record {
-    owner-is = λ p j s l. chains.owner-is p j s (before p j s l);
+    owner_is = λ p j s l. chains.owner_is p j s (before p j s l);
     last = λ p j s l. chains.last p j s (before p j s l);
-    first-spot = λ p b h. let f = chains.first-spot p b h in (f.0, omega (arith, f.1));
-    link-spot = λ p j s l. chains.link-spot p j s (before p j s l);
+    first_spot = λ p b h. let f = chains.first_spot p b h in (f.0, omega (arith, f.1));
+    link_spot = λ p j s l. chains.link_spot p j s (before p j s l);
     linked = λ p j s l. chains.linked p j s (before p j s l);
     gaps = λ p j h s l. chains.gaps p j h s (before p j s l);
   }
@@ -40,10 +40,10 @@ module _ (clauses : List (List ℤ)) (first link owner : ℕ → ℕ) (i : ℕ) 
     -- functions that are the same where they are asked
     pub chained_same : ((q : ℕ) → q < limit → first' q ≡ first q) → Chained clauses first' link' owner' i
     chained_same first-same = record {
-      owner-is = λ p j s l. owner-same j l ∙ chains.owner-is p j s l;
+      owner_is = λ p j s l. owner-same j l ∙ chains.owner_is p j s l;
       last = λ p j s l. omega (arith, first-same p (low p j s), chains.last p j s l);
-      first-spot = λ p b h. rw (first-same p b) (chains.first-spot p b (omega (arith, h, first-same p b)));
-      link-spot = λ p j s l h. rw (link-same j l) (chains.link-spot p j s l (omega (arith, h, link-same j l)));
+      first_spot = λ p b h. rw (first-same p b) (chains.first_spot p b (omega (arith, h, first-same p b)));
+      link_spot = λ p j s l h. rw (link-same j l) (chains.link_spot p j s l (omega (arith, h, link-same j l)));
       linked = λ p j s l. omega (arith, link-same j l, chains.linked p j s l);
       gaps = λ p j h s l u b. omega (arith, link-same j l, chains.gaps p j h s l u b);
     }
@@ -62,10 +62,10 @@ module _ (clauses : List (List ℤ)) (first link owner : ℕ → ℕ) (i : ℕ) 
         where
           by : (n : ℕ) → first p ≡ n → n < i
           by zero e = omega (arith, s.word)
-          by (suc n) e = let f = chains.first-spot p here (omega (arith, e)) in omega (arith, f.1, e)
+          by (suc n) e = let f = chains.first_spot p here (omega (arith, e)) in omega (arith, f.1, e)
 
       owner-more : (q j : ℕ) (t : Spot clauses q j) → j < suc i → owner' j ≡ t.c
-      owner-more q j t l = ⊎_elim equal (λ h. owner-same j h ∙ chains.owner-is q j t h) (at_most j l)
+      owner-more q j t l = ⊎_elim equal (λ h. owner-same j h ∙ chains.owner_is q j t h) (at_most j l)
         where
           equal : j ≡ i → owner' j ≡ t.c
           equal e = ap owner' e ∙ owner-new ∙ same-clause clauses p q i j s t (sym e)
@@ -90,7 +90,7 @@ module _ (clauses : List (List ℤ)) (first link owner : ℕ → ℕ) (i : ℕ) 
           other : (q ≡ p → ⊥) → Spot clauses q (first' q) × (first' q < suc i)
           other n =
               let e = first-same q b n in
-              rw e (let f = chains.first-spot q b (omega (arith, e, h)) in (f.0, omega (arith, f.1)))
+              rw e (let f = chains.first_spot q b (omega (arith, e, h)) in (f.0, omega (arith, f.1)))
 
       link-more : (q j : ℕ) → Spot clauses q j → j < suc i → 1 ≤ link' j → Spot clauses q (link' j)
       link-more q j t l h = ⊎_elim equal earlier (at_most j l)
@@ -98,10 +98,10 @@ module _ (clauses : List (List ℤ)) (first link owner : ℕ → ℕ) (i : ℕ) 
           equal : j ≡ i → Spot clauses q (link' j)
           equal e =
               rw (e, link-new, ← same_place clauses p q i j s t (sym e))
-              (chains.first-spot p here (omega (arith, h, ap link' e ∙ link-new))).0
+              (chains.first_spot p here (omega (arith, h, ap link' e ∙ link-new))).0
 
           earlier : j < i → Spot clauses q (link' j)
-          earlier b = rw (link-same j b) (chains.link-spot q j t b (omega (arith, h, link-same j b)))
+          earlier b = rw (link-same j b) (chains.link_spot q j t b (omega (arith, h, link-same j b)))
 
       linked-more : (q j : ℕ) → Spot clauses q j → j < suc i → link' j < j
       linked-more q j t l =
@@ -118,10 +118,10 @@ module _ (clauses : List (List ℤ)) (first link owner : ℕ → ℕ) (i : ℕ) 
 
       pub chained_more : Chained clauses first' link' owner' (suc i)
       chained_more = record {
-        owner-is = owner-more;
+        owner_is = owner-more;
         last = last_more;
-        first-spot = first_more;
-        link-spot = link-more;
+        first_spot = first_more;
+        link_spot = link-more;
         linked = linked-more;
         gaps = gaps-more;
       }

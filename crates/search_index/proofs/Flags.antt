@@ -6,7 +6,7 @@ use Prim.Native.Nat.{ℕ, ◌+◌, ◌*◌, ◌/◌, ◌<◌, ◌≤◌}
 use native.Mathlib.Omega.{arith}
 use lib.ListN.{length, get_or, set, length-set}
 use lib.Seq.{get_or-set_same, get_or-set_other}
-use Rattle.search_index.specs.Index.{limit, told, flagAt, falsesAt, lowAt, Up, Tallied, Stopped, Same}
+use Rattle.search_index.specs.Index.{limit, told, flag_at, falses_at, low_at, Up, Tallied, Stopped, Same}
 use Rattle.search_index.proofs.Spots.{same_or_not, below_or}
 use Rattle.search_index.proofs.Tallies.{falses-same}
 
@@ -17,17 +17,17 @@ pub record Searched (weights₀ : List ℕ) (m : ℕ) (weights : List ℕ) (b at
   pub tallied : Tallied weights m
   pub passed : (c : ℕ) → c < at → c < m → told (get_or weights c 0) ≡ 2 → ⊥
 
-pub search-start : (weights : List ℕ) (m b at : ℕ) → Tallied weights m → b ≡ lowAt weights → at ≡ 16 * b → Searched weights m weights b at
+pub search-start : (weights : List ℕ) (m b at : ℕ) → Tallied weights m → b ≡ low_at weights → at ≡ 16 * b → Searched weights m weights b at
 search-start weights m b at t e f = record {
   first = f;
-  same = record { long = refl; weights-are = λ c l. refl; falses-are = refl };
+  same = record { long = refl; weights_are = λ c l. refl; falses_are = refl };
   tallied = t;
   passed = λ c l k o. absurd (omega (arith, l, f, e, (t.flagged c k o).1));
 }
 
 module _ (weights₀ : List ℕ) (m : ℕ) (weights : List ℕ) (b at : ℕ) (few : m ≤ limit) (s : Searched weights₀ m weights b at) where
   told-then : (c : ℕ) → c < m → told (get_or weights₀ c 0) ≡ 2 → told (get_or weights c 0) ≡ 2
-  told-then c l e = ap told (s.same.weights-are c (omega (arith, l, few))) ∙ e
+  told-then c l e = ap told (s.same.weights_are c (omega (arith, l, few))) ∙ e
 
   pub search-end : m ≤ at → Stopped weights₀ 0 m m × (Same weights₀ weights × Tallied weights m)
   search-end l = (
@@ -44,14 +44,14 @@ module _ (weights₀ : List ℕ) (m : ℕ) (weights : List ℕ) (b at : ℕ) (fe
     long-enough = omega (arith, s.tallied.long, s.first, inside, few)
 
     -- the flag is down
-    pub search-down : (flagAt weights b ≡ 1 → ⊥) → Searched weights₀ m weights (b + 1) (at + 16)
+    pub search-down : (flag_at weights b ≡ 1 → ⊥) → Searched weights₀ m weights (b + 1) (at + 16)
     search-down n = record {
       first = omega (arith, s.first);
       same = s.same;
       tallied = s.tallied;
       passed = λ c l k e. ⊎_elim (λ u. s.passed c u k e)
           (λ u. let d : c / 16 ≡ b = omega (arith, u, l, s.first) in
-          n (sym (ap (flagAt weights) d) ∙ (s.tallied.flagged c k e).0)) (below_or c at);
+          n (sym (ap (flag_at weights) d) ∙ (s.tallied.flagged c k e).0)) (below_or c at);
     }
 
     -- the flag is up: the clauses of the block are looked at
@@ -61,7 +61,7 @@ module _ (weights₀ : List ℕ) (m : ℕ) (weights : List ℕ) (b at : ℕ) (fe
         record {
           passed = λ c _ k e. let t = told-then c (omega (arith, k, l, most)) e in
               ⊎_elim (λ u. s.passed c u (omega (arith, u, inside)) t) (λ u. stop.passed c u k t) (below_or c at);
-          found = λ k. sym (ap told (s.same.weights-are r (omega (arith, k, few)))) ∙ stop.found l;
+          found = λ k. sym (ap told (s.same.weights_are r (omega (arith, k, few)))) ∙ stop.found l;
           upto = omega (arith, l, most);
         },
         (s.same, s.tallied),
@@ -74,13 +74,13 @@ module _ (weights₀ : List ℕ) (m : ℕ) (weights : List ℕ) (b at : ℕ) (fe
       low-at : (c : ℕ) → c < limit → get_or lowered c 0 ≡ get_or weights c 0
       low-at c l = get_or-set_other weights (16384 + b) c 0 0 (λ q. absurd (omega (arith, q, l)))
 
-      low-falses : falsesAt lowered ≡ falsesAt weights
+      low-falses : falses_at lowered ≡ falses_at weights
       low-falses = get_or-set_other weights (16384 + b) 17408 0 0 (λ q. absurd (omega (arith, q, s.first, inside, few)))
 
       none_here : end ≤ r → (c : ℕ) → at ≤ c → c < at + 16 → c < m → told (get_or weights c 0) ≡ 2 → ⊥
       none_here l c a k n e = stop.passed c a (⊎_elim (λ q. omega (arith, q, k, l)) (λ q. omega (arith, q, n, l)) is) e
 
-      low-low : lowAt lowered ≡ lowAt weights
+      low-low : low_at lowered ≡ low_at weights
       low-low = get_or-set_other weights (16384 + b) 17409 0 0 (λ q. absurd (omega (arith, q, s.first, inside, few)))
 
       none-flagged : end ≤ r → (c : ℕ) → c < m → told (get_or lowered c 0) ≡ 2 → Up lowered (c / 16)
@@ -96,8 +96,8 @@ module _ (weights₀ : List ℕ) (m : ℕ) (weights : List ℕ) (b at : ℕ) (fe
         first = omega (arith, s.first);
         same = record {
           long = length-set weights (16384 + b) 0 ∙ s.same.long;
-          weights-are = λ c k. low-at c k ∙ s.same.weights-are c k;
-          falses-are = low-falses ∙ s.same.falses-are;
+          weights_are = λ c k. low-at c k ∙ s.same.weights_are c k;
+          falses_are = low-falses ∙ s.same.falses_are;
         };
         tallied = record {
           long = length-set weights (16384 + b) 0 ∙ s.tallied.long;
@@ -116,8 +116,8 @@ pub begins-there : (weights₀ weights : List ℕ) (m r b : ℕ) → m ≤ limit
 begins-there weights₀ weights m r b few stop before same tallied = (
   record {
     long = length-set weights 17409 b ∙ same.long;
-    weights-are = λ c l. other c (λ q. absurd (omega (arith, q, l))) ∙ same.weights-are c l;
-    falses-are = other 17408 (λ q. absurd (omega (arith, q))) ∙ same.falses-are;
+    weights_are = λ c l. other c (λ q. absurd (omega (arith, q, l))) ∙ same.weights_are c l;
+    falses_are = other 17408 (λ q. absurd (omega (arith, q))) ∙ same.falses_are;
   },
   record {
     long = length-set weights 17409 b ∙ tallied.long;
@@ -135,9 +135,9 @@ begins-there weights₀ weights m r b few stop before same tallied = (
     at c k = other c (λ q. absurd (omega (arith, q, k, few)))
 
     -- a unit clause is not before the one where it stopped
-    low : (c : ℕ) → c < m → told (get_or weights c 0) ≡ 2 → lowAt (set weights 17409 b) ≤ c / 16
+    low : (c : ℕ) → c < m → told (get_or weights c 0) ≡ 2 → low_at (set weights 17409 b) ≤ c / 16
     low c k t =
         let is = get_or-set_same weights 17409 b 0 (omega (arith, tallied.long)) in
-        ⊎_elim (λ u. absurd (stop.passed c (omega arith) u (sym (ap told (same.weights-are c (omega (arith, k, few)))) ∙ t)))
+        ⊎_elim (λ u. absurd (stop.passed c (omega arith) u (sym (ap told (same.weights_are c (omega (arith, k, few)))) ∙ t)))
         (λ u. omega (arith, is, u, before))
         (below_or c r)

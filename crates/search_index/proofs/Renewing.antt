@@ -6,14 +6,14 @@ use Prim.Native.Nat.{ℕ, suc, ◌+◌, ◌-◌, ◌<◌, ◌≤◌}
 use native.Mathlib.Omega.{arith}
 use lib.IntN.{ℤ, pos}
 use lib.ListN.{length, get_or, set}
-use Rattle.clause_list.specs.ClauseList.{clausesOf, words_of}
-use Rattle.literal.specs.Words.{isPositive}
+use Rattle.clause_list.specs.ClauseList.{clauses_of, words_of}
+use Rattle.literal.specs.Words.{is_positive}
 use Rattle.search_rules.specs.Rules.{place_of}
 use Rattle.search_rules.specs.Held.{InRange}
 use Rattle.search_rules.specs.Inner.{Fine}
 use Rattle.search_rules.proofs.Ranges.{ranged}
 use Rattle.search_rules.proofs.Found.{place-below}
-use Rattle.search_index.specs.Index.{limit, clauseAt, head_of, ownerAt, headAt, Chains, Apart, literalWeight, byteSays, weightOf}
+use Rattle.search_index.specs.Index.{limit, clause_at, head_of, owner_at, head_at, Chains, Apart, literal_weight, byte_says, weight_of}
 use Rattle.search_index.specs.Index.{mixed}
 use Rattle.search_index.specs.Index.{Stands, weighed, Stood, was-weighed, was-looked, Due}
 use Rattle.search_index.proofs.Touching.{word_in}
@@ -22,12 +22,12 @@ use Rattle.search_index.proofs.Weighing.{weight-change, weight-low, weight-high,
 use Rattle.search_index.proofs.Words.{words_are, literal-at, clause-ranged, literal-ranged, head-high}
 
 -- what stood for a clause below all statuses was its weight
-was-weight : (values : List ℕ) (clause : List ℤ) (w : ℕ) → w < mixed → Stood values clause w → Apart clause × (w ≡ weightOf values clause)
+was-weight : (values : List ℕ) (clause : List ℤ) (w : ℕ) → w < mixed → Stood values clause w → Apart clause × (w ≡ weight_of values clause)
 was-weight values clause w h (was-weighed a e) = (a, e)
 was-weight values clause w h (was-looked b) = absurd (omega (arith, h, b))
 
 module _ (list : List ℤ) (values : List ℕ) (fine : Fine (length values) list) (gains : List ℕ) (i w : ℕ)
-    (d : Due (clausesOf list) values gains i w) where
+    (d : Due (clauses_of list) values gains i w) where
   abbrev p : ℕ
   p = d.p
 
@@ -35,10 +35,10 @@ module _ (list : List ℤ) (values : List ℕ) (fine : Fine (length values) list
   was = d.was
 
   abbrev clauses : List (List ℤ)
-  clauses = clausesOf list
+  clauses = clauses_of list
 
   abbrev clause : List ℤ
-  clause = clauseAt clauses d.spot.c
+  clause = clause_at clauses d.spot.c
 
   abbrev word : ℤ
   word = get_or list i (pos 0)
@@ -68,37 +68,37 @@ module _ (list : List ℤ) (values : List ℕ) (fine : Fine (length values) list
 
   -- the clause is weighed
   module _ (plain : w < mixed) (short : length list ≤ limit) where
-    stood : Apart clause × (w ≡ weightOf (set values p was) clause)
+    stood : Apart clause × (w ≡ weight_of (set values p was) clause)
     stood = was-weight _ clause w plain d.stood
 
     -- the word's weight was a, and is b
     a : ℕ
-    a = literalWeight (byteSays was word)
+    a = literal_weight (byte_says was word)
 
     b : ℕ
-    b = literalWeight (byteSays (get_or values p 0) word)
+    b = literal_weight (byte_says (get_or values p 0) word)
 
-    a-is : a ≡ literalWeight (byteSays was (get_or clause d.spot.k (pos 0)))
+    a-is : a ≡ literal_weight (byte_says was (get_or clause d.spot.k (pos 0)))
     unfolding a
-    a-is = ap (λ l. literalWeight (byteSays was l)) word-is
+    a-is = ap (λ l. literal_weight (byte_says was l)) word-is
 
-    b-is : b ≡ literalWeight (byteSays (get_or values p 0) (get_or clause d.spot.k (pos 0)))
+    b-is : b ≡ literal_weight (byte_says (get_or values p 0) (get_or clause d.spot.k (pos 0)))
     unfolding b
-    b-is = ap (λ l. literalWeight (byteSays (get_or values p 0) l)) word-is
+    b-is = ap (λ l. literal_weight (byte_says (get_or values p 0) l)) word-is
 
     taken : suc a ≤ w
     taken = omega (arith, a-is, stood.1, weight-low values p was d.spot.k clause place-low d.spot.inside d.spot.names)
 
-    changed : weightOf values clause + a ≡ w + b
+    changed : weight_of values clause + a ≡ w + b
     changed =
         omega (arith, a-is, b-is, stood.1, weight-change values p was d.spot.k clause place-low stood.0 d.spot.inside d.spot.names)
 
-    high : weightOf values clause < 32768
+    high : weight_of values clause < 32768
     high = omega (arith, weight-high values clause, head-high clauses d.spot.c d.spot.within, ap length words, short)
 
     -- the literal as the machine has it, its sign, and what its weight changes by
-    module _ (z : ℤ) (e : z ≡ word) (n : ℕ) (sign : n ≡ cond (isPositive z) 1 0) where
-      gained : (t : Bool) → isPositive z ≡ t → get_or gains n 0 + a ≡ 2 + b
+    module _ (z : ℤ) (e : z ≡ word) (n : ℕ) (sign : n ≡ cond (is_positive z) 1 0) where
+      gained : (t : Bool) → is_positive z ≡ t → get_or gains n 0 + a ≡ 2 + b
       unfolding a b
       gained true t =
           let m : n ≡ 1 = sign ∙ ap (λ t. cond t 1 0) t in
@@ -120,14 +120,14 @@ module _ (list : List ℤ) (values : List ℕ) (fine : Fine (length values) list
           )
 
       gain : get_or gains n 0 + a ≡ 2 + b
-      gain = gained (isPositive z) refl
+      gain = gained (is_positive z) refl
 
       low : (t : Bool) → n ≡ cond t 1 0 → n < 2
       low true q = omega (arith, q)
       low false q = omega (arith, q)
 
       pub sign_low : n < 2
-      sign_low = low (isPositive z) sign
+      sign_low = low (is_positive z) sign
 
       pub gain-fits : w + get_or gains n 0 < 65536
       gain-fits = omega (arith, gain, changed, high, taken)
@@ -139,12 +139,12 @@ module _ (list : List ℤ) (values : List ℕ) (fine : Fine (length values) list
       renewed-stands = weighed stood.0 (omega (arith, gain, changed, taken))
 
   -- the clause's head, as the code finds it
-  pub head-found : (chains : List ℕ) → Chains clauses chains → (o h : ℕ) → o ≡ ownerAt chains i → h ≡ headAt chains o
+  pub head-found : (chains : List ℕ) → Chains clauses chains → (o h : ℕ) → o ≡ owner_at chains i → h ≡ head_at chains o
       → (h ≡ head_of clauses d.spot.c)
   head-found chains x o h e z =
-      z ∙ ap (headAt chains) (e ∙ x.linked.chained.owner-is p i d.spot (word_in clauses p i d.spot))
+      z ∙ ap (head_at chains) (e ∙ x.linked.chained.owner_is p i d.spot (word_in clauses p i d.spot))
       ∙ x.heads d.spot.c d.spot.within
 
-  pub owner-within : (chains : List ℕ) → Chains clauses chains → (o : ℕ) → o ≡ ownerAt chains i → o < length clauses
+  pub owner-within : (chains : List ℕ) → Chains clauses chains → (o : ℕ) → o ≡ owner_at chains i → o < length clauses
   owner-within chains x o e =
-      omega (arith, e, x.linked.chained.owner-is p i d.spot (word_in clauses p i d.spot), d.spot.within)
+      omega (arith, e, x.linked.chained.owner_is p i d.spot (word_in clauses p i d.spot), d.spot.within)

@@ -8,7 +8,7 @@ use native.Mathlib.Nat.{eq-or-lt_of_le}
 use lib.IntN.{ℤ, pos}
 use lib.ListN.{length, get_or}
 use Rattle.search_rules.specs.Rules.{place_of}
-use Rattle.search_index.specs.Index.{clauseAt, head_of, Spot}
+use Rattle.search_index.specs.Index.{clause_at, head_of, Spot}
 
 pub same_or_not : (i j : ℕ) → (i ≡ j) ⊎ (i ≡ j → ⊥)
 same_or_not zero zero = inl refl
@@ -24,7 +24,7 @@ below_or (suc a) (suc b) = ⊎_elim (λ l. inl (omega (arith, l))) (λ l. inr (o
 
 -- a clause ends before the next begins
 head-next : (clauses : List (List ℤ)) (c d : ℕ) → c < d → d < length clauses
-    → head_of clauses c + suc (length (clauseAt clauses c)) ≤ head_of clauses d
+    → head_of clauses c + suc (length (clause_at clauses c)) ≤ head_of clauses d
 unfolding head_of
 head-next [] c d h l = absurd (omega arith)
 head-next (clause ∷ clauses) c zero h l = absurd (omega arith)
@@ -58,8 +58,8 @@ same-offset clauses p q i j s t z =
 pub same_place : (clauses : List (List ℤ)) (p q i j : ℕ) (s : Spot clauses p i) (t : Spot clauses q j) → i ≡ j → p ≡ q
 same_place clauses p q i j s t z =
     sym s.names
-    ∙ ap (λ (c : ℕ). place_of (get_or (clauseAt clauses c) s.k (pos 0))) (same-clause clauses p q i j s t z)
-    ∙ ap (λ (k : ℕ). place_of (get_or (clauseAt clauses t.c) k (pos 0))) (same-offset clauses p q i j s t z)
+    ∙ ap (λ (c : ℕ). place_of (get_or (clause_at clauses c) s.k (pos 0))) (same-clause clauses p q i j s t z)
+    ∙ ap (λ (k : ℕ). place_of (get_or (clause_at clauses t.c) k (pos 0))) (same-offset clauses p q i j s t z)
     ∙ t.names
 
 head-mono : (clauses : List (List ℤ)) (c d : ℕ) → c ≤ d → d < length clauses → head_of clauses c ≤ head_of clauses d

@@ -8,7 +8,7 @@ use native.Mathlib.Omega.{arith}
 use native.Mathlib.Nat.{eq-or-lt_of_le}
 use lib.Dec.{eqb}
 use lib.ListN.{length, get_or}
-use Rattle.search_index.specs.Index.{limit, told, weightWords, falsesAt, Up, one, falsesBelow, Tallied, Put}
+use Rattle.search_index.specs.Index.{limit, told, weight_words, falses_at, Up, one, falses_below, Tallied, Put}
 use Rattle.search_index.proofs.Spots.{same_or_not}
 use Rattle.search_index.proofs.WeightCode.{bit-one, bit-zero}
 
@@ -36,38 +36,38 @@ one_none : one 0 ≡ 0
 unfolding one told
 one_none = refl
 
-falses-high : (n : ℕ) (f : ℕ → ℕ) → falsesBelow n f ≤ n
-unfolding falsesBelow
+falses-high : (n : ℕ) (f : ℕ → ℕ) → falses_below n f ≤ n
+unfolding falses_below
 falses-high zero f = omega arith
 falses-high (suc n) f = omega (arith, one-low (f n), falses-high n f)
 
-pub falses-same : (n : ℕ) (f g : ℕ → ℕ) → ((c : ℕ) → c < n → g c ≡ f c) → falsesBelow n g ≡ falsesBelow n f
-unfolding falsesBelow
+pub falses-same : (n : ℕ) (f g : ℕ → ℕ) → ((c : ℕ) → c < n → g c ≡ f c) → falses_below n g ≡ falses_below n f
+unfolding falses_below
 falses-same zero f g h = refl
 falses-same (suc n) f g h = omega (arith, ap one (h n (omega arith)), falses-same n f g (λ c l. h c (omega (arith, l))))
 
 -- the number of false clauses when something else stands for one of them
 falses-change : (n c : ℕ) (f g : ℕ → ℕ) → c < n → ((d : ℕ) → d < n → (d ≡ c → ⊥) → g d ≡ f d)
-    → falsesBelow n g + one (f c) ≡ falsesBelow n f + one (g c)
-unfolding falsesBelow
+    → falses_below n g + one (f c) ≡ falses_below n f + one (g c)
+unfolding falses_below
 falses-change zero c f g l h = absurd (omega arith)
 falses-change (suc n) c f g l h =
     ⊎_elim (here n c f g h) (λ (b : c < n). below n c f g b h (falses-change n c f g b (λ d k. h d (omega (arith, k)))))
     (eq-or-lt_of_le (omega (arith, l)))
   where
     here : (n c : ℕ) (f g : ℕ → ℕ) → ((d : ℕ) → d < suc n → (d ≡ c → ⊥) → g d ≡ f d) → c ≡ n
-        → falsesBelow (suc n) g + one (f c) ≡ falsesBelow (suc n) f + one (g c)
+        → falses_below (suc n) g + one (f c) ≡ falses_below (suc n) f + one (g c)
     here n c f g h e =
         rw e (omega (arith, falses-same n f g (λ d k. h d (omega (arith, k)) (λ q. absurd (omega (arith, q, e, k))))))
 
     below : (n c : ℕ) (f g : ℕ → ℕ) → c < n → ((d : ℕ) → d < suc n → (d ≡ c → ⊥) → g d ≡ f d)
-        → falsesBelow n g + one (f c) ≡ falsesBelow n f + one (g c)
-        → falsesBelow (suc n) g + one (f c) ≡ falsesBelow (suc n) f + one (g c)
+        → falses_below n g + one (f c) ≡ falses_below n f + one (g c)
+        → falses_below (suc n) g + one (f c) ≡ falses_below (suc n) f + one (g c)
     below n c f g b h more = omega (arith, more, ap one (h n (omega arith) (λ q. absurd (omega (arith, q, b)))))
 
 -- a clause's share in the number
-falses-one : (n c : ℕ) (f : ℕ → ℕ) → c < n → one (f c) ≤ falsesBelow n f
-unfolding falsesBelow
+falses-one : (n c : ℕ) (f : ℕ → ℕ) → c < n → one (f c) ≤ falses_below n f
+unfolding falses_below
 falses-one zero c f l = absurd (omega arith)
 falses-one (suc n) c f l =
     ⊎_elim (λ (e : c ≡ n). omega (arith, ap (λ (d : ℕ). one (f d)) e)) (λ (b : c < n). omega (arith, falses-one n c f b))
@@ -79,8 +79,8 @@ pub record FalseBelow (n : ℕ) (f : ℕ → ℕ) : Type 0 where
   pub within : c < n
   pub is : told (f c) ≡ 1
 
-pub falses-where : (n : ℕ) (f : ℕ → ℕ) → 1 ≤ falsesBelow n f → FalseBelow n f
-unfolding falsesBelow
+pub falses-where : (n : ℕ) (f : ℕ → ℕ) → 1 ≤ falses_below n f → FalseBelow n f
+unfolding falses_below
 falses-where zero f h = absurd (omega arith)
 falses-where (suc n) f h = ⊎_elim
     (λ e. record { c = n; within = omega arith; is = e })
@@ -88,11 +88,11 @@ falses-where (suc n) f h = ⊎_elim
     (same_or_not (told (f n)) 1)
 
 -- where the number is 0 there is none
-pub falses-none : (n c : ℕ) (f : ℕ → ℕ) → falsesBelow n f ≤ 0 → c < n → told (f c) ≡ 1 → ⊥
+pub falses-none : (n c : ℕ) (f : ℕ → ℕ) → falses_below n f ≤ 0 → c < n → told (f c) ≡ 1 → ⊥
 falses-none n c f h l e = absurd (omega (arith, h, falses-one n c f l, one-false (f c) e))
 
-pub tally-none : (weights : List ℕ) → length weights ≡ weightWords → ((k : ℕ) → get_or weights k 0 ≡ 0) → Tallied weights 0
-tally-none weights l h = record { long = l; flagged = λ c b. absurd (omega (arith, b)); counted = unfold falsesBelow in h 17408 }
+pub tally-none : (weights : List ℕ) → length weights ≡ weight_words → ((k : ℕ) → get_or weights k 0 ≡ 0) → Tallied weights 0
+tally-none weights l h = record { long = l; flagged = λ c b. absurd (omega (arith, b)); counted = unfold falses_below in h 17408 }
 
 module _ (weights weights' : List ℕ) (n c w : ℕ) (tallied : Tallied weights n) (put : Put weights c w weights') where
   flag-here : (d : ℕ) → d ≡ c → (told (get_or weights c 0) ≡ 2 → ⊥) → told (get_or weights' d 0) ≡ 2 → Up weights' (d / 16)
@@ -121,8 +121,8 @@ tally-put weights weights' n c w tallied l m put = record {
 }
 
 more-counted : (weights weights' : List ℕ) (n w : ℕ) → Tallied weights n → n < limit → get_or weights n 0 ≡ 0 → Put weights n w weights'
-    → falsesAt weights' ≡ falsesBelow (suc n) (λ c. get_or weights' c 0)
-unfolding falsesBelow
+    → falses_at weights' ≡ falses_below (suc n) (λ c. get_or weights' c 0)
+unfolding falses_below
 more-counted weights weights' n w tallied m z put =
     let same = falses-same n (λ d. get_or weights d 0) (λ d. get_or weights' d 0)
     (λ d b. put.others d (omega (arith, b, m)) (λ e. absurd (omega (arith, e, b)))) in
@@ -139,14 +139,14 @@ tally-more weights weights' n w tallied m z put = record {
 }
 
 pub put-asks : (weights : List ℕ) (n c : ℕ) → Tallied weights n → c < n → n ≤ limit
-    → (one (get_or weights c 0) ≤ falsesAt weights) × (falsesAt weights ≤ limit)
+    → (one (get_or weights c 0) ≤ falses_at weights) × (falses_at weights ≤ limit)
 put-asks weights n c tallied l m = (
   omega (arith, tallied.counted, falses-one n c (λ d. get_or weights d 0) l),
   omega (arith, tallied.counted, falses-high n (λ d. get_or weights d 0), m),
 )
 
 pub put-more-asks : (weights : List ℕ) (n : ℕ) → Tallied weights n → n < limit → get_or weights n 0 ≡ 0
-    → (one (get_or weights n 0) ≤ falsesAt weights) × (falsesAt weights ≤ limit)
+    → (one (get_or weights n 0) ≤ falses_at weights) × (falses_at weights ≤ limit)
 put-more-asks weights n tallied m z = (
   omega (arith, ap one z, one_none),
   omega (arith, tallied.counted, falses-high n (λ d. get_or weights d 0), m),

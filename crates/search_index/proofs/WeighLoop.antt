@@ -6,15 +6,15 @@ use native.Mathlib.Omega.{arith}
 use lib.IntN.{ℤ, pos, nat_abs}
 use lib.ListN.{length, get_or, drop, drop_of_length-le}
 use lib.Seq.{drop-cons}
-use Rattle.literal.specs.Words.{count_of, lastVariable}
-use Rattle.clause_list.specs.ClauseList.{clausesOf, words_of}
+use Rattle.literal.specs.Words.{count_of, last_variable}
+use Rattle.clause_list.specs.ClauseList.{clauses_of, words_of}
 use Rattle.search_rules.specs.Held.{InRange}
 use Rattle.search_rules.specs.Inner.{Fine}
 use Rattle.search_rules.specs.Rules.{literal, place_of}
 use Rattle.search_rules.proofs.Found.{place-below}
 use Rattle.search_rules.proofs.Ranges.{ranged}
 use Rattle.search_scan.proofs.Words.{place-of}
-use Rattle.search_index.specs.Index.{limit, clauseAt, head_of, IsHead, literalWeight, byteSays, weightOf}
+use Rattle.search_index.specs.Index.{limit, clause_at, head_of, IsHead, literal_weight, byte_says, weight_of}
 use Rattle.search_index.proofs.Words.{words_are, literal-at, clause-ranged, literal-ranged}
 use Rattle.search_index.proofs.Parts.{high}
 use Rattle.search_index.proofs.Weighing.{literal-byte, weight-high, weight-some}
@@ -24,12 +24,12 @@ pub is-count : (z : ℤ) (n : ℕ) → z ≡ pos n → z ≡ pos (count_of z)
 is-count z n e = rw e refl
 
 weight-from : (values : List ℕ) (clause : List ℤ) (k : ℕ) → k < length clause
-    → weightOf values (drop k clause) ≡ literalWeight (literal values (get_or clause k (pos 0))) + weightOf values (drop (suc k) clause)
-unfolding weightOf
+    → weight_of values (drop k clause) ≡ literal_weight (literal values (get_or clause k (pos 0))) + weight_of values (drop (suc k) clause)
+unfolding weight_of
 weight-from values clause k l = rw (drop-cons clause k (pos 0) l) refl
 
-weight-none : (values : List ℕ) (clause : List ℤ) (k : ℕ) → length clause ≤ k → weightOf values (drop k clause) ≡ 1
-unfolding weightOf
+weight-none : (values : List ℕ) (clause : List ℤ) (k : ℕ) → length clause ≤ k → weight_of values (drop k clause) ≡ 1
+unfolding weight_of
 weight-none values clause k l = rw (drop_of_length-le clause {i = k} l) refl
 
 -- at word i of the clause at a head w is weighed, and one more than the rest weighs
@@ -37,18 +37,18 @@ pub record Weighed (values : List ℕ) (clause : List ℤ) (head end w i : ℕ) 
   pub ends : end ≡ suc (head + length clause)
   pub from : suc head ≤ i
   pub upto : i ≤ end
-  pub so_far : w + weightOf values (drop (i - suc head) clause) ≡ suc (weightOf values clause)
+  pub so_far : w + weight_of values (drop (i - suc head) clause) ≡ suc (weight_of values clause)
 
-module _ (values : List ℕ) (list : List ℤ) (fine : Fine (length values) list) (head : ℕ) (h : IsHead (clausesOf list) head) where
+module _ (values : List ℕ) (list : List ℤ) (fine : Fine (length values) list) (head : ℕ) (h : IsHead (clauses_of list) head) where
   abbrev clause : List ℤ
-  clause = clauseAt (clausesOf list) h.c
+  clause = clause_at (clauses_of list) h.c
 
   pub weigh-start : (n : ℕ) → n ≡ length clause → Weighed values clause head (head + 1 + n) 1 (head + 1)
   weigh-start n e =
       let z : (head + 1) - suc head ≡ 0 = omega arith in
       record { ends = omega (arith, e); from = omega arith; upto = omega arith; so_far = rw z (omega arith) }
 
-  pub weigh-end : (end w i : ℕ) → Weighed values clause head end w i → end ≤ i → w ≡ weightOf values clause
+  pub weigh-end : (end w i : ℕ) → Weighed values clause head end w i → end ≤ i → w ≡ weight_of values clause
   weigh-end end w i g l =
       omega (arith, g.so_far, weight-none values clause (i - suc head) (omega (arith, g.ends, l)))
 
@@ -59,20 +59,20 @@ module _ (values : List ℕ) (list : List ℤ) (fine : Fine (length values) list
 
     pub word_at : get_or list i (pos 0) ≡ get_or clause (i - suc head) (pos 0)
     word_at =
-        let e : i ≡ suc (head_of (clausesOf list) h.c + (i - suc head)) = omega (arith, h.at, g.from) in
+        let e : i ≡ suc (head_of (clauses_of list) h.c + (i - suc head)) = omega (arith, h.at, g.from) in
         ap (λ (ws : List ℤ). get_or ws i (pos 0)) (words_are (length values) list fine)
-        ∙ ap (λ (j : ℕ). get_or (words_of (clausesOf list)) j (pos 0)) e ∙ literal-at (clausesOf list) h.c (i - suc head) h.within inside
+        ∙ ap (λ (j : ℕ). get_or (words_of (clauses_of list)) j (pos 0)) e ∙ literal-at (clauses_of list) h.c (i - suc head) h.within inside
 
     pub word-within : i < length list
     word-within = omega (arith, l, g.ends, high (length values) list fine head h)
 
     word-ranged : InRange (length values) (get_or list i (pos 0))
     word-ranged = rw word_at (literal-ranged (length values) clause (i - suc head)
-        (clause-ranged (length values) (clausesOf list) h.c (ranged (length values) list fine) h.within) inside)
+        (clause-ranged (length values) (clauses_of list) h.c (ranged (length values) list fine) h.within) inside)
 
     -- z is the literal as the machine has it, p its place
     module _ (z : ℤ) (e : z ≡ get_or list i (pos 0)) where
-      pub asks-place : length values ≤ lastVariable → (1 ≤ nat_abs z) × (nat_abs z ≤ lastVariable)
+      pub asks-place : length values ≤ last_variable → (1 ≤ nat_abs z) × (nat_abs z ≤ last_variable)
       asks-place b = rw e (word-ranged.0, (let u = word-ranged.1 in omega (arith, u, b)))
 
       pub asks-weight : 1 ≤ nat_abs z
@@ -85,13 +85,13 @@ module _ (values : List ℕ) (list : List ℤ) (fine : Fine (length values) list
         pub place-within : p < length values
         place-within = rw (← place_is) (place-below (length values) (get_or list i (pos 0)) word-ranged)
 
-        module _ (x : ℕ) (x-is : x ≡ literalWeight (byteSays (get_or values p 0) z)) where
-          literal-weighs : x ≡ literalWeight (literal values (get_or clause (i - suc head) (pos 0)))
-          literal-weighs = x-is ∙ ap (λ (y : ℤ). literalWeight (byteSays (get_or values p 0) y)) e
-              ∙ sym (ap literalWeight (literal-byte values p (get_or list i (pos 0)) place-within place_is))
-              ∙ ap (λ (y : ℤ). literalWeight (literal values y)) word_at
+        module _ (x : ℕ) (x-is : x ≡ literal_weight (byte_says (get_or values p 0) z)) where
+          literal-weighs : x ≡ literal_weight (literal values (get_or clause (i - suc head) (pos 0)))
+          literal-weighs = x-is ∙ ap (λ (y : ℤ). literal_weight (byte_says (get_or values p 0) y)) e
+              ∙ sym (ap literal_weight (literal-byte values p (get_or list i (pos 0)) place-within place_is))
+              ∙ ap (λ (y : ℤ). literal_weight (literal values y)) word_at
 
-          step : (w + x) + weightOf values (drop (suc (i - suc head)) clause) ≡ suc (weightOf values clause)
+          step : (w + x) + weight_of values (drop (suc (i - suc head)) clause) ≡ suc (weight_of values clause)
           step = omega (arith, literal-weighs, weight-from values clause (i - suc head) inside, g.so_far)
 
           pub weight-fits : length list ≤ limit → w + x < 65536

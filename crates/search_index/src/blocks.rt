@@ -1,8 +1,8 @@
 // What stands for each clause, in one array; behind that a flag for each block of 16 clauses, which is up where one of them is a unit clause, the
 // number of false clauses, and a block that no unit clause is before.
 ghost use Rattle.std.specs.Prelude.{◌≡◌, cond, ◌⊎◌, ℕ, ◌+◌, ◌<◌, ◌≤◌, eqb, length, get_or};
-ghost use Rattle.search_index.specs.Index.{limit, blocks, weightWords, Raised};
-ghost use Rattle.search_index.specs.Index.{falsesAt, one, Tallied, Noted, Put};
+ghost use Rattle.search_index.specs.Index.{limit, blocks, weight_words, Raised};
+ghost use Rattle.search_index.specs.Index.{falses_at, one, Tallied, Noted, Put};
 ghost use Rattle.search_index.specs.Index.{Stopped, Same};
 
 use crate::chains::{LIMIT, wide};
@@ -18,7 +18,7 @@ const LOW: usize = FALSES + 1;
 
 // Weights of no clause.
 pub fn blank_weights() -> [u16; LOW + 1]
-    ensures { (length result ≡ weightWords) × ((k : ℕ) → get_or result k 0 ≡ 0) }
+    ensures { (length result ≡ weight_words) × ((k : ℕ) → get_or result k 0 ≡ 0) }
 {
     [0u16; LOW + 1]
 }
@@ -39,7 +39,7 @@ fn recount(falses: u16, old: u16, new: u16) -> u16
 
 // The flag of a block goes up, and the search for a unit clause begins no later than there.
 fn raise(weights: &mut [u16], b: usize)
-    requires { (length weights.old ≡ weightWords) × (b < blocks) }
+    requires { (length weights.old ≡ weight_words) × (b < blocks) }
     ensures { Raised weights.old b weights.new }
 {
     weights[FLAGS + b] = 1;
@@ -50,8 +50,8 @@ fn raise(weights: &mut [u16], b: usize)
 
 // The block of clause c and the number of false clauses follow its status.
 fn note_status(weights: &mut [u16], c: usize, old: u16, new: u16)
-    requires weights_len { (length weights.old ≡ weightWords) × (c < limit) }
-    requires weights_bound { (falsesAt weights.old ≤ limit) × (old ≡ 1 → 1 ≤ falsesAt weights.old) × (old ≡ new → ⊥) }
+    requires weights_len { (length weights.old ≡ weight_words) × (c < limit) }
+    requires weights_bound { (falses_at weights.old ≤ limit) × (old ≡ 1 → 1 ≤ falses_at weights.old) × (old ≡ new → ⊥) }
     ensures { Noted weights.old c old new weights.new }
 {
     if new == 2 {
@@ -63,8 +63,8 @@ fn note_status(weights: &mut [u16], c: usize, old: u16, new: u16)
 
 // Something else stands for clause c.
 pub fn put(weights: &mut [u16], c: usize, w: u16)
-    requires weights_len { (length weights.old ≡ weightWords) × (c < limit) }
-    requires c_bound { (one (get_or weights.old c 0) ≤ falsesAt weights.old) × (falsesAt weights.old ≤ limit) }
+    requires weights_len { (length weights.old ≡ weight_words) × (c < limit) }
+    requires c_bound { (one (get_or weights.old c 0) ≤ falses_at weights.old) × (falses_at weights.old ≤ limit) }
     ensures { Put weights.old c w weights.new }
 {
     let old = status(weights[c]);
@@ -77,7 +77,7 @@ pub fn put(weights: &mut [u16], c: usize, w: u16)
 
 // The first unit clause from one on and below another, or the latter.
 fn unit_within(weights: &[u16], from: usize, end: usize) -> usize
-    requires { (length weights.now ≡ weightWords) × (from ≤ end) × (end ≤ limit) }
+    requires { (length weights.now ≡ weight_words) × (from ≤ end) × (end ≤ limit) }
     ensures { Stopped weights.now from end result }
 {
     let mut c = from;
@@ -135,8 +135,8 @@ pub fn first_unit(weights: &mut [u16], m: usize) -> usize
 
 // The number of false clauses.
 pub fn falses(weights: &[u16]) -> usize
-    requires { length weights.now ≡ weightWords }
-    ensures { result ≡ falsesAt weights.now }
+    requires { length weights.now ≡ weight_words }
+    ensures { result ≡ falses_at weights.now }
 {
     wide(weights[FALSES])
 }

@@ -1,11 +1,11 @@
 // The index at work: built from a list and its values, kept when a value changes, looked at. Where there are no weights there is no index: then the
 // list is scanned, and nothing is kept.
 ghost use Rattle.std.specs.Prelude.{◌≡◌, ℕ, ◌<◌, ◌≤◌, length, get_or, set};
-ghost use Rattle.clause_list.specs.ClauseList.{clausesOf};
-ghost use Rattle.literal.specs.Words.{lastVariable};
+ghost use Rattle.clause_list.specs.ClauseList.{clauses_of};
+ghost use Rattle.literal.specs.Words.{last_variable};
 ghost use Rattle.search_rules.specs.Inner.{Fine};
-ghost use Rattle.search_scan.specs.Seen.{seenAs, seen};
-ghost use Rattle.search_index.specs.Index.{limit, chainWords, weightWords, clauseAt, Chains, Stands, Watched, Due};
+ghost use Rattle.search_scan.specs.Seen.{seen_as, seen};
+ghost use Rattle.search_index.specs.Index.{limit, chain_words, weight_words, clause_at, Chains, Stands, Watched, Due};
 
 use crate::blocks::{falses, first_unit, put};
 use crate::chains::{count, enter, first, head, link, note_count, note_head, owner};
@@ -16,9 +16,9 @@ use search_scan::{Seen, scan};
 pub fn build(list: &[i32], values: &[u8], chains: &mut [u16], weights: &mut [u16])
     requires fine { Fine (length values.now) list.now }
     requires values_len_bound { (length values.now ≤ limit) × (length list.now ≤ limit) }
-    requires chains_len { (length chains.old ≡ chainWords) × ((k : ℕ) → get_or chains.old k 0 ≡ 0) }
-    requires weights_len { (length weights.old ≡ weightWords) × ((k : ℕ) → get_or weights.old k 0 ≡ 0) }
-    ensures { Watched (clausesOf list.now) values.now chains.new weights.new }
+    requires chains_len { (length chains.old ≡ chain_words) × ((k : ℕ) → get_or chains.old k 0 ≡ 0) }
+    requires weights_len { (length weights.old ≡ weight_words) × ((k : ℕ) → get_or weights.old k 0 ≡ 0) }
+    ensures { Watched (clauses_of list.now) values.now chains.new weights.new }
 {
     let mut at: usize = 0;
     let mut c: usize = 0;
@@ -41,11 +41,11 @@ pub fn build(list: &[i32], values: &[u8], chains: &mut [u16], weights: &mut [u16
 // apart: which one comes next is not to be foreseen.)
 fn renewed(list: &[i32], values: &[u8], chains: &[u16], gains: &[u16; 2], i: usize, w: u16) -> u16
     requires fine { Fine (length values.now) list.now }
-    requires values_len_bound { length values.now ≤ lastVariable }
-    requires chains { Chains (clausesOf list.now) chains.now }
-    requires due { Due (clausesOf list.now) values.now gains.now i w }
-    ensures { (d : Due (clausesOf list.now) values.now gains.now i w)
-        → Stands values.now (clauseAt (clausesOf list.now) d.spot.c) result }
+    requires values_len_bound { length values.now ≤ last_variable }
+    requires chains { Chains (clauses_of list.now) chains.now }
+    requires due { Due (clauses_of list.now) values.now gains.now i w }
+    ensures { (d : Due (clauses_of list.now) values.now gains.now i w)
+        → Stands values.now (clause_at (clauses_of list.now) d.spot.c) result }
 {
     if w >= MIXED {
         let c = owner(chains, i);
@@ -59,10 +59,10 @@ fn renewed(list: &[i32], values: &[u8], chains: &[u16], gains: &[u16; 2], i: usi
 // The clauses that name a variable whose byte was another are put right.
 pub fn touch(list: &[i32], values: &[u8], chains: &[u16], weights: &mut [u16], p: usize, was: u8)
     requires fine { Fine (length values.now) list.now }
-    requires values_len_bound { length values.now ≤ lastVariable }
+    requires values_len_bound { length values.now ≤ last_variable }
     requires p_in_bounds { p < length values.now }
-    requires watched { Watched (clausesOf list.now) (set values.now p was) chains.now weights.old }
-    ensures { Watched (clausesOf list.now) values.now chains.now weights.new }
+    requires watched { Watched (clauses_of list.now) (set values.now p was) chains.now weights.old }
+    ensures { Watched (clauses_of list.now) values.now chains.now weights.new }
 {
     if weights.len() == 0 {
         return;
@@ -80,10 +80,10 @@ pub fn touch(list: &[i32], values: &[u8], chains: &[u16], weights: &mut [u16], p
 // What a look over the clauses shows.
 pub fn look(list: &[i32], values: &[u8], chains: &[u16], weights: &mut [u16]) -> Seen
     requires fine { Fine (length values.now) list.now }
-    requires values_len_bound { length values.now ≤ lastVariable }
-    requires watched { Watched (clausesOf list.now) values.now chains.now weights.old }
-    ensures result_value { seenAs result ≡ seen values.now (clausesOf list.now) }
-    ensures watched_2 { Watched (clausesOf list.now) values.now chains.now weights.new }
+    requires values_len_bound { length values.now ≤ last_variable }
+    requires watched { Watched (clauses_of list.now) values.now chains.now weights.old }
+    ensures result_value { seen_as result ≡ seen values.now (clauses_of list.now) }
+    ensures watched_2 { Watched (clauses_of list.now) values.now chains.now weights.new }
 {
     if weights.len() == 0 {
         return scan(list, values);

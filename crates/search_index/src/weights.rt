@@ -1,12 +1,12 @@
 // What stands for a clause: its weight or, where it names a variable twice, its status. One more than the weights of its literals is the weight of a
 // clause; a false literal weighs 0, an open one 1, a true one 2.
 ghost use Rattle.std.specs.Prelude.{◌≡◌, cond, [], ◌∷◌, ◌+◌, ◌<◌, ◌≤◌, nat_abs, length};
-ghost use Rattle.clause_list.specs.ClauseList.{clausesOf};
-ghost use Rattle.literal.specs.Words.{isPositive, lastVariable};
+ghost use Rattle.clause_list.specs.ClauseList.{clauses_of};
+ghost use Rattle.literal.specs.Words.{is_positive, last_variable};
 ghost use Rattle.search_rules.specs.Inner.{Fine};
-ghost use Rattle.search_scan.specs.Seen.{seenAs, seen};
-ghost use Rattle.search_index.specs.Index.{limit, clauseAt, IsHead, literalWeight, byteWeight};
-ghost use Rattle.search_index.specs.Index.{Gains, byteSays, weightOf, statusOf, mixed, told, one};
+ghost use Rattle.search_scan.specs.Seen.{seen_as, seen};
+ghost use Rattle.search_index.specs.Index.{limit, clause_at, IsHead, literal_weight, byte_weight};
+ghost use Rattle.search_index.specs.Index.{Gains, byte_says, weight_of, status_of, mixed, told, one};
 
 use search_scan::{Seen, scan};
 
@@ -15,7 +15,7 @@ pub const MIXED: u16 = 32768;
 
 // The weight of the literal that says that its variable, which has this byte, is true: false 0, open 1, true 2.
 fn byte_weight(x: u8) -> u16
-    ensures { result ≡ byteWeight x }
+    ensures { result ≡ byte_weight x }
 {
     if x == 1 {
         return 2;
@@ -28,7 +28,7 @@ fn byte_weight(x: u8) -> u16
 
 // 1 for a literal that says that its variable is true, else 0.
 pub fn sign(l: i32) -> usize
-    ensures { result ≡ cond (isPositive l) 1 0 }
+    ensures { result ≡ cond (is_positive l) 1 0 }
 {
     if literal::is_positive(l) { 1 } else { 0 }
 }
@@ -48,7 +48,7 @@ pub fn gains(was: u8, is: u8) -> [u16; 2]
 // The weight of a literal whose variable has this byte.
 fn literal_weight(x: u8, l: i32) -> u16
     requires { 1 ≤ nat_abs l }
-    ensures { result ≡ literalWeight (byteSays x l) }
+    ensures { result ≡ literal_weight (byte_says x l) }
 {
     let w = byte_weight(x);
     if literal::is_positive(l) { w } else { 2 - w }
@@ -57,11 +57,11 @@ fn literal_weight(x: u8, l: i32) -> u16
 // The weight of the clause at a head.
 pub fn weigh(list: &[i32], values: &[u8], head: usize) -> u16
     requires fine { Fine (length values.now) list.now }
-    requires values_len_bound { length values.now ≤ lastVariable }
+    requires values_len_bound { length values.now ≤ last_variable }
     requires list_len_bound { length list.now ≤ limit }
-    requires head { IsHead (clausesOf list.now) head }
-    ensures { (h : IsHead (clausesOf list.now) head)
-        → result ≡ weightOf values.now (clauseAt (clausesOf list.now) h.c) }
+    requires head { IsHead (clauses_of list.now) head }
+    ensures { (h : IsHead (clauses_of list.now) head)
+        → result ≡ weight_of values.now (clause_at (clauses_of list.now) h.c) }
 {
     let end = head + 1 + literal::known_count(list[head]);
     let mut w: u16 = 1;
@@ -78,10 +78,10 @@ pub fn weigh(list: &[i32], values: &[u8], head: usize) -> u16
 // What the values say of the clause at a head.
 pub fn sight(list: &[i32], values: &[u8], head: usize) -> Seen
     requires fine { Fine (length values.now) list.now }
-    requires values_len_bound { length values.now ≤ lastVariable }
-    requires head { IsHead (clausesOf list.now) head }
-    ensures { (h : IsHead (clausesOf list.now) head)
-        → seenAs result ≡ seen values.now (clauseAt (clausesOf list.now) h.c ∷ []) }
+    requires values_len_bound { length values.now ≤ last_variable }
+    requires head { IsHead (clauses_of list.now) head }
+    ensures { (h : IsHead (clauses_of list.now) head)
+        → seen_as result ≡ seen values.now (clause_at (clauses_of list.now) h.c ∷ []) }
 {
     let end = head + 1 + literal::known_count(list[head]);
     scan(&list[head..end], values)
@@ -90,10 +90,10 @@ pub fn sight(list: &[i32], values: &[u8], head: usize) -> Seen
 // What stands for the clause at a head where it names a variable twice.
 pub fn look_up(list: &[i32], values: &[u8], head: usize) -> u16
     requires fine { Fine (length values.now) list.now }
-    requires values_len_bound { length values.now ≤ lastVariable }
-    requires head { IsHead (clausesOf list.now) head }
-    ensures { (h : IsHead (clausesOf list.now) head)
-        → result ≡ mixed + statusOf values.now (clauseAt (clausesOf list.now) h.c) }
+    requires values_len_bound { length values.now ≤ last_variable }
+    requires head { IsHead (clauses_of list.now) head }
+    ensures { (h : IsHead (clauses_of list.now) head)
+        → result ≡ mixed + status_of values.now (clause_at (clauses_of list.now) h.c) }
 {
     let seen = sight(list, values, head);
     match seen {

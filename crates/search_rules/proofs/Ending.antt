@@ -9,9 +9,9 @@ use native.Mathlib.Omega.{arith}
 use lib.IntN.{ℤ, pos}
 use lib.ListN.{length}
 use Rattle.search_rules.specs.Held.{WasOpen}
-use Rattle.search_rules.specs.Rules.{Entry, propagated, decided, State, word_of, Kind, backtrack, Next, endNone, endFound, step, turn, next}
+use Rattle.search_rules.specs.Rules.{Entry, propagated, decided, State, word_of, Kind, backtrack, Next, end_none, end_found, step, turn, next}
 use Rattle.search_rules.specs.Run.{after, EndedWithin}
-use Rattle.search_rules.specs.Following.{firstStep, FollowingEnded, at_once, later}
+use Rattle.search_rules.specs.Following.{first_step, FollowingEnded, at_once, later}
 use Rattle.search_rules.proofs.Ranges.{Ranged}
 use Rattle.search_rules.proofs.StepView.{Step, ends-none, ends_found, backtracks, propagates, decides, view}
 use Rattle.search_rules.proofs.Found.{place-below}
@@ -115,7 +115,7 @@ module _ (clauses : List (List ℤ)) (v : ℕ) (ranged : Ranged v clauses) where
   more : (state : State) → WasOpen v state → (kind : Kind) (s : State) → next clauses v state ≡ step kind s → weight v state < weight v s
   more state o kind s e = step-more state o kind s (next clauses v state) (view clauses v state) e
 
-  here : (n : ℕ) (state : State) → (next clauses v state ≡ endNone) ⊎ (next clauses v state ≡ endFound) → EndedWithin clauses v n state
+  here : (n : ℕ) (state : State) → (next clauses v state ≡ end_none) ⊎ (next clauses v state ≡ end_found) → EndedWithin clauses v n state
   unfolding after
   here n state e = record { steps = 0; within = omega arith; state = state; reached = refl; ends = e }
 
@@ -133,8 +133,8 @@ module _ (clauses : List (List ℤ)) (v : ℕ) (ranged : Ranged v clauses) where
 
   ends_at : (n : ℕ) (state : State) → WasOpen v state → (x : Next) → next clauses v state ≡ x
       → ((kind : Kind) (s : State) → x ≡ step kind s → EndedWithin clauses v n state) → EndedWithin clauses v n state
-  ends_at n state o endNone e on = here n state (inl e)
-  ends_at n state o endFound e on = here n state (inr e)
+  ends_at n state o end_none e on = here n state (inl e)
+  ends_at n state o end_found e on = here n state (inr e)
   ends_at n state o (step kind s) e on = on kind s refl
 
   ends-in : (n : ℕ) (state : State) → WasOpen v state → top v [] ≤ weight v state + n → EndedWithin clauses v n state
@@ -150,10 +150,10 @@ module _ (clauses : List (List ℤ)) (v : ℕ) (ranged : Ranged v clauses) where
 
   -- and a call for the next
   pub following-ends : (state : State) → WasOpen v state → (n : ℕ) × FollowingEnded clauses v n state
-  following-ends state o = by (firstStep clauses v state) refl
+  following-ends state o = by (first_step clauses v state) refl
     where
-      by : (x : Next) → firstStep clauses v state ≡ x → (n : ℕ) × FollowingEnded clauses v n state
-      by endNone e = (0, at_once e)
-      by endFound e = absurd (first-not-found clauses v state e)
+      by : (x : Next) → first_step clauses v state ≡ x → (n : ℕ) × FollowingEnded clauses v n state
+      by end_none e = (0, at_once e)
+      by end_found e = absurd (first-not-found clauses v state e)
       by (step kind s) e =
           let w = ends s (first-open v clauses ranged state o kind s e) in (suc w.0, later e w.1)

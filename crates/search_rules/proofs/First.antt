@@ -21,7 +21,7 @@ use Rattle.clause_list.specs.ClauseList.{Satisfying}
 use Rattle.search_rules.specs.Held.{WasOpen}
 use Rattle.search_rules.specs.Rules.{Truth, falsified, satisfied, unassigned, truth_of, negated}
 use Rattle.search_rules.specs.Rules.{Entry, propagated, decided, State, word_of, byte_of, place_of}
-use Rattle.search_rules.specs.Rules.{values_of, Kind, endFound, step, next, settle}
+use Rattle.search_rules.specs.Rules.{values_of, Kind, end_found, step, next, settle}
 use Rattle.search_rules.specs.Run.{after}
 use Rattle.search_rules.proofs.Assignments.{Assignment, assignment, holds, Has, Agrees, Follows, values_agree, model_of}
 use Rattle.search_rules.proofs.Ranges.{Ranged}
@@ -43,10 +43,10 @@ module _ (clauses : List (List ℤ)) (v : ℕ) where
   unfolding LowestDecided
   lowest-kept =
       record {
-        on-opening = λ l state h. h;
-        on-turning = λ i state h. h.1;
-        on-propagation = λ l state u h. h;
-        on-decision = λ i state low h. (low.below, h);
+        on_opening = λ l state h. h;
+        on_turning = λ i state h. h.1;
+        on_propagation = λ l state u h. h;
+        on_decision = λ i state low h. (low.below, h);
       }
 
 -- what values say at a place where an assignment with this bit is not what they say
@@ -60,7 +60,7 @@ pub record Parts (bit : Bool) (a : Assignment) (values : List ℕ) : Type 0 wher
   pub has : a place ≡ bit
   pub said : truth_of (get_or values place 2) ≡ opposite bit
   pub set_below : (j : ℕ) → j < place → get_or values j 2 ≡ 2 → ⊥
-  pub agrees-below : (j : ℕ) → j < place → Agrees (truth_of (get_or values j 2)) (a j)
+  pub agrees_below : (j : ℕ) → j < place → Agrees (truth_of (get_or values j 2)) (a j)
 
 -- a byte that says something is set
 said-set : (bit : Bool) (b : ℕ) → truth_of b ≡ opposite bit → b ≡ 2 → ⊥
@@ -85,7 +85,7 @@ module _ (a : Assignment) (v : ℕ) where
         has = l.has;
         said = rw (same l.place (said-set bit _ l.said)) l.said;
         set_below = λ j h. rw (same j (l.set_below j h)) (l.set_below j h);
-        agrees-below = λ j h. rw (same j (l.set_below j h)) (l.agrees-below j h);
+        agrees_below = λ j h. rw (same j (l.set_below j h)) (l.agrees_below j h);
       }
 
   -- at an entry whose byte says the opposite
@@ -104,7 +104,7 @@ module _ (a : Assignment) (v : ℕ) where
         has = h;
         said = rw b t;
         set_below = λ j l. rw (same j l) (low j l);
-        agrees-below = λ j l. rw (same j l) (values_agree a v state g j);
+        agrees_below = λ j l. rw (same j l) (values_agree a v state g j);
       }
 
   -- an assignment of which all that follows holds has every literal of the trail, or leaves it at a decision
@@ -177,7 +177,7 @@ module _ (clauses : List (List ℤ)) (v : ℕ) (state : State) (full : Full (val
       before_at l.place left a
       (get_or-map settle values l.place 2 ∙ settle-false (get_or values l.place 2) (byte_at v state l.place) (ap negated l.said))
       (eqb-true (get_or a l.place 2) 1 l.has)
-      (λ j h. same_at j (l.set_below j h) (l.agrees-below j h))
+      (λ j h. same_at j (l.set_below j h) (l.agrees_below j h))
 
   -- and one that it left comes before
   pub left-before : Parts false (assignment a) values → Before a left
@@ -185,7 +185,7 @@ module _ (clauses : List (List ℤ)) (v : ℕ) (state : State) (full : Full (val
       before_at l.place a left
       (same_bit l.place l.has (set-inside values l.place (said-set false _ l.said)))
       (get_or-map settle values l.place 2 ∙ settle-true (get_or values l.place 2) l.said)
-      (λ j h. sym (same_at j (l.set_below j h) (l.agrees-below j h)))
+      (λ j h. sym (same_at j (l.set_below j h) (l.agrees_below j h)))
 
   not-before : WasOpen v state → LowestDecided v state → Follows (assignment a) state → Before a left → ⊥
   not-before o low f b =
@@ -194,7 +194,7 @@ module _ (clauses : List (List ℤ)) (v : ℕ) (state : State) (full : Full (val
 
 -- where the steps from a fresh start end with "found"
 module _ (clauses : List (List ℤ)) (v : ℕ) (ranged : Ranged v clauses) (n : ℕ) (state : State)
-    (reached : after clauses v n [] ≡ some state) (ends : next clauses v state ≡ endFound) where
+    (reached : after clauses v n [] ≡ some state) (ends : next clauses v state ≡ end_found) where
   kept : (P : State → Type 0) → ((s : State) (kind : Kind) (s' : State) → P s → next clauses v s ≡ step kind s' → P s') → P [] → P state
   kept P keep p = after-keeps clauses v P keep n [] state p reached
 

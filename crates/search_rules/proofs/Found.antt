@@ -10,11 +10,11 @@ use lib.IntN.{ℤ, pos, negsuc}
 use lib.ListN.{length, get_or, set, replicate, length-map, get_or-map}
 use borrow.Author.Tests.{leb-true, le-leb, eq-eqb}
 use Rattle.prelude.specs.Tests.{all, any}
-use Rattle.clause_list.specs.ClauseList.{isTrue, Satisfying}
+use Rattle.clause_list.specs.ClauseList.{is_true, Satisfying}
 use Rattle.search_rules.specs.Held.{InRange}
 use Rattle.search_rules.specs.Inner.{AllIn}
-use Rattle.search_rules.specs.Rules.{Truth, falsified, satisfied, unassigned, truth_of, negated, literal, isFalsified, conflict, Entry}
-use Rattle.search_rules.specs.Rules.{propagated, decided, State, byte_of, place_of, word_of, values_of, Next, endFound}
+use Rattle.search_rules.specs.Rules.{Truth, falsified, satisfied, unassigned, truth_of, negated, literal, is_falsified, conflict, Entry}
+use Rattle.search_rules.specs.Rules.{propagated, decided, State, byte_of, place_of, word_of, values_of, Next, end_found}
 use Rattle.search_rules.specs.Rules.{next}
 use Rattle.search_rules.specs.Rules.{settle}
 use Rattle.prelude.proofs.Laws.{and_left, and_right, or_right}
@@ -102,28 +102,28 @@ place-below v (pos n) h = omega (arith, sub-one n)
 place-below v (negsuc n) h = h.1
 
 module _ (v : ℕ) (values : List ℕ) (size : length values ≡ v) (small : Bytes values) (full : Full values) where
-  is_true : (l : ℤ) → literal values l ≡ satisfied → isTrue (map settle values) l ≡ true
+  is_true_lem : (l : ℤ) → literal values l ≡ satisfied → is_true (map settle values) l ≡ true
   unfolding literal
-  is_true (pos n) e = eq-eqb _ 1 (get_or-map settle values (pred n) 2 ∙ settle-true (get_or values (pred n) 2) e)
-  is_true (negsuc n) e = eq-eqb _ 0 (get_or-map settle values n 2 ∙ settle-false (get_or values n 2) (small_at values n small) e)
+  is_true_lem (pos n) e = eq-eqb _ 1 (get_or-map settle values (pred n) 2 ∙ settle-true (get_or values (pred n) 2) e)
+  is_true_lem (negsuc n) e = eq-eqb _ 0 (get_or-map settle values n 2 ∙ settle-false (get_or values n 2) (small_at values n small) e)
 
   clause-step : (l : ℤ) (clause : List ℤ) → InRange v l → (t : Truth) → literal values l ≡ t
-      → isFalsified t && all (λ l. isFalsified (literal values l)) clause ≡ false
-      → (all (λ l. isFalsified (literal values l)) clause ≡ false → any (isTrue (map settle values)) clause ≡ true)
-      → isTrue (map settle values) l || any (isTrue (map settle values)) clause ≡ true
-  unfolding isFalsified
-  clause-step l clause r falsified d e p = or_right (isTrue (map settle values) l) _ (p e)
-  clause-step l clause r satisfied d e p = rw (is_true l d) refl
+      → is_falsified t && all (λ l. is_falsified (literal values l)) clause ≡ false
+      → (all (λ l. is_falsified (literal values l)) clause ≡ false → any (is_true (map settle values)) clause ≡ true)
+      → is_true (map settle values) l || any (is_true (map settle values)) clause ≡ true
+  unfolding is_falsified
+  clause-step l clause r falsified d e p = or_right (is_true (map settle values) l) _ (p e)
+  clause-step l clause r satisfied d e p = rw (is_true_lem l d) refl
   clause-step l clause r unassigned d e p = absurd (full (place_of l) (rw size (place-below v l r)) (literal-open values l d))
 
-  clause-holds : (clause : List ℤ) → AllIn v clause → all (λ l. isFalsified (literal values l)) clause ≡ false
-      → any (isTrue (map settle values)) clause ≡ true
+  clause-holds : (clause : List ℤ) → AllIn v clause → all (λ l. is_falsified (literal values l)) clause ≡ false
+      → any (is_true (map settle values)) clause ≡ true
   unfolding all any AllIn
   clause-holds [] h e = cc
   clause-holds (l ∷ clause) h e = clause-step l clause h.0 (literal values l) refl e (clause-holds clause h.1)
 
   clauses-hold : (clauses : List (List ℤ)) → Ranged v clauses → conflict values clauses ≡ false
-      → all (any (isTrue (map settle values))) clauses ≡ true
+      → all (any (is_true (map settle values))) clauses ≡ true
   unfolding all Ranged conflict any
   clauses-hold [] h e = refl
   clauses-hold (clause ∷ clauses) h e =
@@ -135,17 +135,17 @@ module _ (clauses : List (List ℤ)) (v : ℕ) where
   abbrev Ended : State → Type 0
   Ended state = (conflict (values_of v state) clauses ≡ false) × Full (values_of v state)
 
-  found-step : (state : State) (x : Next) → Step clauses v state x → x ≡ endFound → Ended state
+  found-step : (state : State) (x : Next) → Step clauses v state x → x ≡ end_found → Ended state
   found-step state x (ends-none d c t) e = absurd (let z : ◌≡◌ {A = ℕ} 0 1 = cc in omega arith)
   found-step state x (ends_found d c u f) e = (c, f)
   found-step state x (backtracks d c t) e = absurd (let z : ◌≡◌ {A = ℕ} 0 1 = cc in omega arith)
   found-step state x (propagates d c u) e = absurd (let z : ◌≡◌ {A = ℕ} 0 1 = cc in omega arith)
   found-step state x (decides d c u l) e = absurd (let z : ◌≡◌ {A = ℕ} 0 1 = cc in omega arith)
 
-  pub found-ended : (state : State) → next clauses v state ≡ endFound → Ended state
+  pub found-ended : (state : State) → next clauses v state ≡ end_found → Ended state
   found-ended state e = found-step state (next clauses v state) (view clauses v state) e
 
-  pub found-satisfying : Ranged v clauses → (state : State) → next clauses v state ≡ endFound
+  pub found-satisfying : Ranged v clauses → (state : State) → next clauses v state ≡ end_found
       → Satisfying v clauses (map settle (values_of v state))
   found-satisfying ranged state e =
       let p = found-ended state e in

@@ -11,9 +11,9 @@ use lib.ListN.{length, get_or, length-set, length-replicate}
 use Rattle.prelude.specs.Tests.{all, any}
 use Rattle.search_rules.specs.Held.{InRange}
 use Rattle.search_rules.specs.Inner.{AllIn}
-use Rattle.search_rules.specs.Rules.{Truth, falsified, satisfied, unassigned, truth_of, negated, literal, openOf, only, unit_of}
-use Rattle.search_rules.specs.Rules.{firstUnit, isSatisfied, propagated, decided, State, word_of, place_of, values_of}
-use Rattle.search_rules.specs.Rules.{Kind, Next, endNone, endFound, step, turn, next}
+use Rattle.search_rules.specs.Rules.{Truth, falsified, satisfied, unassigned, truth_of, negated, literal, open_of, only, unit_of}
+use Rattle.search_rules.specs.Rules.{first_unit, is_satisfied, propagated, decided, State, word_of, place_of, values_of}
+use Rattle.search_rules.specs.Rules.{Kind, Next, end_none, end_found, step, turn, next}
 use Rattle.search_rules.proofs.Booleans.{not-false-true}
 use Rattle.search_rules.proofs.Assignments.{Assignment, holds, Model, Has, Follows, values_agree, conflict-not, first-unit-holds}
 use Rattle.search_rules.proofs.Ranges.{Ranged}
@@ -26,8 +26,8 @@ length-values v (e ∷ state) = simp length-set (length-values v state)
 
 -- what follows stays so
 unfoldable pub Keeps : Assignment → Next → Type 0
-Keeps a endNone = ⊥
-Keeps a endFound = Unit {0}
+Keeps a end_none = ⊥
+Keeps a end_found = Unit {0}
 Keeps a (step kind s) = Follows a s
 
 pub turn-keeps : (a : Assignment) (state : State) → Follows a state → (Has a state → ⊥) → Keeps a (turn state)
@@ -52,7 +52,7 @@ module _ (clauses : List (List ℤ)) (v : ℕ) (a : Assignment) (model : Model a
   unfolding Keeps
   follows-keeps state kind s f e = rw e at (step_keeps state (next clauses v state) (view clauses v state) f)
 
-  pub follows-not-none : (state : State) → Follows a state → next clauses v state ≡ endNone → ⊥
+  pub follows-not-none : (state : State) → Follows a state → next clauses v state ≡ end_none → ⊥
   unfolding Keeps
   follows-not-none state f e = rw e at (step_keeps state (next clauses v state) (view clauses v state) f)
 
@@ -82,9 +82,9 @@ OpenIn v values l = InRange v l × (get_or values (place_of l) 2 ≡ 2)
 module _ (v : ℕ) (values : List ℕ) where
   -- the first of a clause's open literals
   open_step : (k l : ℤ) (clause ls : List ℤ) → InRange v l → (t : Truth) → literal values l ≡ t
-      → elim t as (λ _. List ℤ) [ falsified ↦ openOf values clause | satisfied ↦ openOf values clause | unassigned ↦ l ∷ openOf values clause ]
+      → elim t as (λ _. List ℤ) [ falsified ↦ open_of values clause | satisfied ↦ open_of values clause | unassigned ↦ l ∷ open_of values clause ]
       ≡ k ∷ ls
-      → (openOf values clause ≡ k ∷ ls → OpenIn v values k) → OpenIn v values k
+      → (open_of values clause ≡ k ∷ ls → OpenIn v values k) → OpenIn v values k
   open_step k l clause ls r falsified d e p = p e
   open_step k l clause ls r satisfied d e p = p e
   open_step k l clause ls r unassigned d e p = let q : l ≡ k = cc in rw q at (here r d)
@@ -92,12 +92,12 @@ module _ (v : ℕ) (values : List ℕ) where
       here : InRange v l → literal values l ≡ unassigned → OpenIn v values l
       here r d = (r, literal-open values l d)
 
-  open_in : (k : ℤ) (clause ls : List ℤ) → AllIn v clause → openOf values clause ≡ k ∷ ls → OpenIn v values k
-  unfolding openOf AllIn
+  open_in : (k : ℤ) (clause ls : List ℤ) → AllIn v clause → open_of values clause ≡ k ∷ ls → OpenIn v values k
+  unfolding open_of AllIn
   open_in k [] ls h e = absurd (let z : ◌≡◌ {A = ℕ} 0 1 = cc in omega arith)
   open_in k (l ∷ clause) ls h e = open_step k l clause ls h.0 (literal values l) refl e (open_in k clause ls h.1)
 
-  only-first : (k : ℤ) (clause ls : List ℤ) → AllIn v clause → openOf values clause ≡ ls → only ls ≡ some k → OpenIn v values k
+  only-first : (k : ℤ) (clause ls : List ℤ) → AllIn v clause → open_of values clause ≡ ls → only ls ≡ some k → OpenIn v values k
   unfolding only
   only-first k clause [] h d e = absurd (let z : ◌≡◌ {A = ℕ} 0 1 = cc in omega arith)
   only-first k clause (l ∷ ls) h d e = by (all _ ls) e
@@ -108,19 +108,19 @@ module _ (v : ℕ) (values : List ℕ) where
 
   unit-open : (k : ℤ) (clause : List ℤ) → AllIn v clause → unit_of values clause ≡ some k → OpenIn v values k
   unfolding unit_of
-  unit-open k clause h e = by (any (λ l. isSatisfied (literal values l)) clause) e
+  unit-open k clause h e = by (any (λ l. is_satisfied (literal values l)) clause) e
     where
-      by : (b : Bool) → cond b none (only (openOf values clause)) ≡ some k → OpenIn v values k
+      by : (b : Bool) → cond b none (only (open_of values clause)) ≡ some k → OpenIn v values k
       by true e = absurd (let z : ◌≡◌ {A = ℕ} 0 1 = cc in omega arith)
-      by false e = only-first k clause (openOf values clause) h refl e
+      by false e = only-first k clause (open_of values clause) h refl e
 
   -- a unit clause's literal is one of the v variables', and open
-  pub first-unit-open : (k : ℤ) (clauses : List (List ℤ)) → Ranged v clauses → firstUnit values clauses ≡ some k → OpenIn v values k
-  unfolding Ranged firstUnit
+  pub first-unit-open : (k : ℤ) (clauses : List (List ℤ)) → Ranged v clauses → first_unit values clauses ≡ some k → OpenIn v values k
+  unfolding Ranged first_unit
   first-unit-open k [] h e = absurd (let z : ◌≡◌ {A = ℕ} 0 1 = cc in omega arith)
   first-unit-open k (clause ∷ clauses) h e = by (unit_of values clause) refl (first-unit-open k clauses h.1) e
     where
-      by : (u : Option ℤ) → unit_of values clause ≡ u → (firstUnit values clauses ≡ some k → OpenIn v values k)
-          → elim u as (λ _. Option ℤ) [ none ↦ firstUnit values clauses | some l ↦ some l ] ≡ some k → OpenIn v values k
+      by : (u : Option ℤ) → unit_of values clause ≡ u → (first_unit values clauses ≡ some k → OpenIn v values k)
+          → elim u as (λ _. Option ℤ) [ none ↦ first_unit values clauses | some l ↦ some l ] ≡ some k → OpenIn v values k
       by none d p e = p e
       by (some l) d p e = unit-open k clause h.0 (d ∙ e)

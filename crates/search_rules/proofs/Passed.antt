@@ -18,8 +18,8 @@ use Rattle.prelude.proofs.Order.{before-irreflexive}
 use Rattle.clause_list.specs.ClauseList.{Satisfying}
 use Rattle.search_rules.specs.Held.{WasOpen}
 use Rattle.search_rules.specs.Rules.{truth_of, Entry, propagated, decided, State, word_of, byte_of, place_of, values_of, settle}
-use Rattle.search_rules.specs.Rules.{Kind, backtrack, Next, endNone, endFound, step, turn, next}
-use Rattle.search_rules.specs.Following.{firstStep}
+use Rattle.search_rules.specs.Rules.{Kind, backtrack, Next, end_none, end_found, step, turn, next}
+use Rattle.search_rules.specs.Following.{first_step}
 use Rattle.search_rules.proofs.Assignments.{Assignment, assignment, holds, Has, Follows, model_of}
 use Rattle.search_rules.proofs.Ranges.{Ranged}
 use Rattle.search_rules.proofs.StepView.{Kept, Step, ends-none, ends_found, backtracks, propagates, decides, view, turn-leads}
@@ -34,12 +34,12 @@ use Rattle.search_rules.proofs.Following.{first-cases, first-none}
 -- the states that a search comes through, also after a full assignment was turned: each variable was open when it was set, and each decision
 -- was that of the lowest open one
 pub record Sound (v : ℕ) (state : State) : Type 0 where
-  pub was-open : WasOpen v state
+  pub was_open : WasOpen v state
   pub lowest : LowestDecided v state
 
 pub sound-fresh : (v : ℕ) → Sound v []
 unfolding WasOpen LowestDecided
-sound-fresh v = record { was-open = tt; lowest = tt }
+sound-fresh v = record { was_open = tt; lowest = tt }
 
 module _ (clauses : List (List ℤ)) (v : ℕ) (ranged : Ranged v clauses) where
   sound-kept : Kept clauses v (Sound v)
@@ -47,16 +47,16 @@ module _ (clauses : List (List ℤ)) (v : ℕ) (ranged : Ranged v clauses) where
       let o = open_kept v clauses ranged in
       let l = lowest-kept clauses v in
       record {
-        on-opening = λ x s h. record { was-open = o.on-opening x s h.was-open; lowest = l.on-opening x s h.lowest };
-        on-turning = λ i s h. record { was-open = o.on-turning i s h.was-open; lowest = l.on-turning i s h.lowest };
-        on-propagation = λ x s u h. record { was-open = o.on-propagation x s u h.was-open; lowest = l.on-propagation x s u h.lowest };
-        on-decision = λ i s d h. record { was-open = o.on-decision i s d h.was-open; lowest = l.on-decision i s d h.lowest };
+        on_opening = λ x s h. record { was_open = o.on_opening x s h.was_open; lowest = l.on_opening x s h.lowest };
+        on_turning = λ i s h. record { was_open = o.on_turning i s h.was_open; lowest = l.on_turning i s h.lowest };
+        on_propagation = λ x s u h. record { was_open = o.on_propagation x s u h.was_open; lowest = l.on_propagation x s u h.lowest };
+        on_decision = λ i s d h. record { was_open = o.on_decision i s d h.was_open; lowest = l.on_decision i s d h.lowest };
       }
 
   pub sound-keeps : (state : State) (kind : Kind) (s : State) → Sound v state → next clauses v state ≡ step kind s → Sound v s
   sound-keeps = steps-keep clauses v (Sound v) sound-kept
 
-  pub sound-first : (state : State) (kind : Kind) (s : State) → Sound v state → firstStep clauses v state ≡ step kind s → Sound v s
+  pub sound-first : (state : State) (kind : Kind) (s : State) → Sound v state → first_step clauses v state ≡ step kind s → Sound v s
   sound-first state kind s h e =
       ⊎_elim (λ d. sound-keeps state kind s h d) (λ d. rw d.1 at (turn-leads clauses v (Sound v) sound-kept state h))
       (first-cases clauses v state kind s e)
@@ -137,21 +137,21 @@ settled-has v state o = has-if v _ state o (λ j n. ap (λ b. eqb b 1) (get_or-m
 -- an assignment at a state: it was found there or is behind, or it waits
 module _ (clauses : List (List ℤ)) (v : ℕ) (a : List ℕ) where
   abbrev pub Past : State → Type 0
-  Past state = Behind v (assignment a) state ⊎ (Has (assignment a) state × (next clauses v state ≡ endFound))
+  Past state = Behind v (assignment a) state ⊎ (Has (assignment a) state × (next clauses v state ≡ end_found))
 
   abbrev pub Waiting : State → Type 0
-  Waiting state = Follows (assignment a) state × (Has (assignment a) state → next clauses v state ≡ endFound → ⊥)
+  Waiting state = Follows (assignment a) state × (Has (assignment a) state → next clauses v state ≡ end_found → ⊥)
 
   -- a step, also that of a clash, leaves behind what is past
   pub past-on : (state : State) (kind : Kind) (s : State) → Sound v state → Past state
-      → firstStep clauses v state ≡ step kind s
+      → first_step clauses v state ≡ step kind s
       → Behind v (assignment a) s
   past-on state kind s h p e = by p (first-cases clauses v state kind s e)
     where
-      not-both : next clauses v state ≡ endFound → next clauses v state ≡ step kind s → ⊥
+      not-both : next clauses v state ≡ end_found → next clauses v state ≡ step kind s → ⊥
       not-both d e = let z : ◌≡◌ {A = ℕ} 0 1 = cc in omega arith
 
-      by : Past state → (next clauses v state ≡ step kind s) ⊎ ((next clauses v state ≡ endFound) × (turn state ≡ step kind s))
+      by : Past state → (next clauses v state ≡ step kind s) ⊎ ((next clauses v state ≡ end_found) × (turn state ≡ step kind s))
           → Behind v (assignment a) s
       by (inl b) (inl d) = behind-step v (assignment a) clauses state kind s b h.lowest (next clauses v state) (view clauses v state) d
       by (inl b) (inr d) = behind-turn v (assignment a) kind s b h.lowest d.1
@@ -169,13 +169,13 @@ module _ (clauses : List (List ℤ)) (v : ℕ) (a : List ℕ) where
 
   module _ (sat : Satisfying v clauses a) where
     -- what is found after it comes later
-    pub past-before : (s : State) → Sound v s → Behind v (assignment a) s → next clauses v s ≡ endFound
+    pub past-before : (s : State) → Sound v s → Behind v (assignment a) s → next clauses v s ≡ end_found
         → Before a (map settle (values_of v s))
     past-before s h b e = left-before clauses v s (found-ended clauses v s e).1 a sat
-        (behind-parts v (assignment a) h.was-open b)
+        (behind-parts v (assignment a) h.was_open b)
 
     -- a step is followed by one that waits
-    pub follows_on : (state : State) (kind : Kind) (s : State) → Waiting state → firstStep clauses v state ≡ step kind s
+    pub follows_on : (state : State) (kind : Kind) (s : State) → Waiting state → first_step clauses v state ≡ step kind s
         → Follows (assignment a) s
     unfolding Keeps
     follows_on state kind s w e =
@@ -184,7 +184,7 @@ module _ (clauses : List (List ℤ)) (v : ℕ) (a : List ℕ) where
         (first-cases clauses v state kind s e)
 
     -- it is found, or comes later and waits on
-    pub found-or-waits : (s : State) → Sound v s → Follows (assignment a) s → next clauses v s ≡ endFound
+    pub found-or-waits : (s : State) → Sound v s → Follows (assignment a) s → next clauses v s ≡ end_found
         → (map settle (values_of v s) ≡ a) ⊎ (Before (map settle (values_of v s)) a × Waiting s)
     found-or-waits s h f e =
         let full = (found-ended clauses v s e).1 in
@@ -192,10 +192,10 @@ module _ (clauses : List (List ℤ)) (v : ℕ) (a : List ℕ) where
         (λ l.
         let b = leaves_after clauses v s full a sat l in
         inr (b, (f, λ g d. before-irreflexive a (rw (has_same clauses v s full a sat g) at b))))
-        (has-or-leaves (assignment a) v s h.was-open h.lowest f)
+        (has-or-leaves (assignment a) v s h.was_open h.lowest f)
 
     -- and there is no "none" where it waits
-    pub waits-not-none : (state : State) → Waiting state → firstStep clauses v state ≡ endNone → ⊥
+    pub waits-not-none : (state : State) → Waiting state → first_step clauses v state ≡ end_none → ⊥
     unfolding Keeps
     waits-not-none state w e =
         ⊎_elim (λ d. follows-not-none clauses v (assignment a) (model_of a clauses sat.holds) state w.0 d)

@@ -11,9 +11,9 @@ use Rattle.prelude.specs.Order.{Before, Each, Some, Pairs, Lists}
 use Rattle.prelude.proofs.Order.{each_map, each_more, some_more, pairs-more, ascending-different}
 use Rattle.clause_list.specs.ClauseList.{Satisfying}
 use Rattle.search_rules.specs.declared.Steps.{Steps}
-use Rattle.search_rules.specs.Rules.{State, values_of, settle, Kind, Next, endNone, endFound, step, next}
-use Rattle.search_rules.specs.Run.{End, wasNone, wasFound, wasSpent}
-use Rattle.search_rules.specs.Following.{firstStep, followingRun}
+use Rattle.search_rules.specs.Rules.{State, values_of, settle, Kind, Next, end_none, end_found, step, next}
+use Rattle.search_rules.specs.Run.{End, was_none, was_found, was_spent}
+use Rattle.search_rules.specs.Following.{first_step, following_run}
 use Rattle.search_rules.specs.Reached.{Settles, Reached, all-open, on, gives}
 use Rattle.search_rules.proofs.Ranges.{Ranged}
 use Rattle.search_rules.proofs.Found.{found-satisfying}
@@ -52,7 +52,7 @@ module _ (clauses : List (List ℤ)) (v : ℕ) (ranged : Ranged v clauses) (some
 
   module _ (cases : List (List ℕ)) (state : State) (kind : Kind) (s : State) (sound : Sound v state)
       (given : Given cases state)
-      (e : firstStep clauses v state ≡ step kind s) where
+      (e : first_step clauses v state ≡ step kind s) where
     after : Sound v s
     after = sound-first clauses v ranged state kind s sound e
 
@@ -61,7 +61,7 @@ module _ (clauses : List (List ℤ)) (v : ℕ) (ranged : Ranged v clauses) (some
         each_map (λ case. Past clauses v case state) (λ case. Past clauses v case s)
         (λ case p. inl (past-on clauses v case state kind s sound p e)) cases given.past
 
-    given-on : (next clauses v s ≡ endFound → ⊥) → Given cases s
+    given-on : (next clauses v s ≡ end_found → ⊥) → Given cases s
     given-on n = record {
       each = given.each;
       past = behind;
@@ -70,7 +70,7 @@ module _ (clauses : List (List ℤ)) (v : ℕ) (ranged : Ranged v clauses) (some
           (λ w. inr (w.0, (follows_on clauses v a sat state kind s w.1 e, λ g f. n f))) (given.others a sat);
     }
 
-    module _ (f : next clauses v s ≡ endFound) where
+    module _ (f : next clauses v s ≡ end_found) where
       abbrev here : List ℕ
       here = map settle (values_of v s)
 
@@ -89,7 +89,7 @@ module _ (clauses : List (List ℤ)) (v : ℕ) (ranged : Ranged v clauses) (some
       given-more : Given (cases ++ here ∷ []) s
       given-more = record {
         each = each_more (Satisfying v clauses) cases here given.each satisfies;
-        past = each_more (λ case. Past clauses v case s) cases here behind (inr (settled-has v s after.was-open, f));
+        past = each_more (λ case. Past clauses v case s) cases here behind (inr (settled-has v s after.was_open, f));
         ascending = pairs-more Before cases here given.ascending (before_here cases given.each given.past);
         others = λ a sat. ⊎_elim (λ x. inl (some_more (λ case. case ≡ a) cases here (inl x)))
             (λ w. ⊎_elim (λ d. inl (some_more (λ case. case ≡ a) cases here (inr d)))
@@ -115,12 +115,12 @@ module _ (clauses : List (List ℤ)) (v : ℕ) (ranged : Ranged v clauses) (some
         each = g.each;
         ascending = g.ascending;
         different = ascending-different cases g.ascending;
-        others-later = λ a sat. ⊎_elim inl (λ w. inr w.0) (g.others a sat);
+        others_later = λ a sat. ⊎_elim inl (λ w. inr w.0) (g.others a sat);
       }
 
   -- and is all, where no step is left
   pub reached-all : {cases : List (List ℕ)} {state : State} → Reached clauses v Settles cases state
-      → firstStep clauses v state ≡ endNone
+      → first_step clauses v state ≡ end_none
       → (a : List ℕ) → Satisfying v clauses a → Some (λ case. case ≡ a) cases
   reached-all {cases} {state} r e a sat =
       ⊎_elim (λ x. x) (λ w. absurd (waits-not-none clauses v a sat state w.1 e)) ((reached-given r).others a sat)
@@ -129,16 +129,16 @@ module _ (clauses : List (List ℤ)) (v : ℕ) (ranged : Ranged v clauses) (some
 module _ (clauses : List (List ℤ)) (v : ℕ) (Gives : List ℕ → List ℕ → Type 0) (cases : List (List ℕ)) where
   -- reached with one case more where the rules end with "found", and with these elsewhere
   record Leads (s : State) : Type 0 where
-    elsewhere : (next clauses v s ≡ endFound → ⊥) → Reached clauses v Gives cases s
-    found-there : next clauses v s ≡ endFound → (case : List ℕ) → Gives (values_of v s) case
+    elsewhere : (next clauses v s ≡ end_found → ⊥) → Reached clauses v Gives cases s
+    found_there : next clauses v s ≡ end_found → (case : List ℕ) → Gives (values_of v s) case
         → Reached clauses v Gives (cases ++ case ∷ []) s
 
   leads-first : (state : State) → Reached clauses v Gives cases state → (kind : Kind) (s : State)
-      → firstStep clauses v state ≡ step kind s → Leads s
-  leads-first state r kind s e = record { elsewhere = λ n. on r e n; found-there = λ f case g. gives r e f g }
+      → first_step clauses v state ≡ step kind s → Leads s
+  leads-first state r kind s e = record { elsewhere = λ n. on r e n; found_there = λ f case g. gives r e f g }
 
   not_found : (state : State) (kind : Kind) (s : State) → next clauses v state ≡ step kind s
-      → next clauses v state ≡ endFound → ⊥
+      → next clauses v state ≡ end_found → ⊥
   not_found state kind s d e = let z : ◌≡◌ {A = ℕ} 0 1 = cc in omega arith
 
   leads_keeps : (state : State) (kind : Kind) (s : State) → Leads state → next clauses v state ≡ step kind s → Leads s
@@ -147,34 +147,34 @@ module _ (clauses : List (List ℤ)) (v : ℕ) (Gives : List ℕ → List ℕ �
       leads-first state (l.elsewhere n) kind s (first-other clauses v state n ∙ e)
 
   module _ (n : ℕ) (t t' : Steps) (state : State) (r : Reached clauses v Gives cases state) where
-    ends : (end : End) → followingRun clauses v n t state ≡ end → FollowEnds clauses v Leads state end
+    ends : (end : End) → following_run clauses v n t state ≡ end → FollowEnds clauses v Leads state end
     ends end e = follow-ends clauses v Leads leads_keeps n t state end (leads-first state r) e
 
-    pub found-reached : (s : State) → followingRun clauses v n t state ≡ wasFound t' s → (case : List ℕ)
+    pub found-reached : (s : State) → following_run clauses v n t state ≡ was_found t' s → (case : List ℕ)
         → Gives (values_of v s) case
         → Reached clauses v Gives (cases ++ case ∷ []) s
     unfolding FollowEnds
-    found-reached s e case g = let h = ends (wasFound t' s) e in h.0.found-there h.1 case g
+    found-reached s e case g = let h = ends (was_found t' s) e in h.0.found_there h.1 case g
 
-    pub spent-reached : (s : State) → followingRun clauses v n t state ≡ wasSpent t' s → Reached clauses v Gives cases s
+    pub spent-reached : (s : State) → following_run clauses v n t state ≡ was_spent t' s → Reached clauses v Gives cases s
     unfolding FollowEnds
-    spent-reached s e = ⊎_elim (λ d. rw d r) (λ d. d.0.elsewhere d.1) (ends (wasSpent t' s) e)
+    spent-reached s e = ⊎_elim (λ d. rw d r) (λ d. d.0.elsewhere d.1) (ends (was_spent t' s) e)
 
     -- "none" is where no step is left
-    pub none-reached : followingRun clauses v n t state ≡ wasNone t'
-        → (s : State) × Reached clauses v Gives cases s × (firstStep clauses v s ≡ endNone)
+    pub none-reached : following_run clauses v n t state ≡ was_none t'
+        → (s : State) × Reached clauses v Gives cases s × (first_step clauses v s ≡ end_none)
     unfolding FollowEnds
     none-reached e =
         ⊎_elim (λ d. (state, r, d))
         (λ d. let f = no_end d.0 d.2 in (d.0, d.1.elsewhere f, first-other clauses v d.0 f ∙ d.2))
-        (ends (wasNone t') e)
+        (ends (was_none t') e)
       where
-        no_end : (s : State) → next clauses v s ≡ endNone → next clauses v s ≡ endFound → ⊥
+        no_end : (s : State) → next clauses v s ≡ end_none → next clauses v s ≡ end_found → ⊥
         no_end s d f = let z : ◌≡◌ {A = ℕ} 0 1 = cc in omega arith
 
 -- the same states are reached with what a map makes of the cases, where each "found" gives what is mapped
 pub reached-of-map : (clauses : List (List ℤ)) (v : ℕ) (Gives : List ℕ → List ℕ → Type 0) (f : List ℕ → List ℕ)
-    → ((s : State) → next clauses v s ≡ endFound → (case : List ℕ) → Gives (values_of v s) case
+    → ((s : State) → next clauses v s ≡ end_found → (case : List ℕ) → Gives (values_of v s) case
     → f (map settle (values_of v s)) ≡ case)
     → {cases : List (List ℕ)} {state : State} → Reached clauses v Gives cases state
     → (given : List (List ℕ)) × Reached clauses v Settles given state × (map f given ≡ cases)

@@ -7,27 +7,27 @@ use lib.IntN.{ℤ}
 use lib.ListN.{length}
 use Rattle.prelude.proofs.Laws.{clash}
 use Rattle.search_rules.specs.Rules.{State}
-use Rattle.search_rules.specs.Held.{noState, stateIn, Stored, StateHeld}
+use Rattle.search_rules.specs.Held.{no_state, state_in, Stored, StateHeld}
 use Rattle.search_rules.proofs.Trails.{length-trail}
 use Rattle.search_rules.proofs.Conditions.{consistent, passes}
 use Rattle.search_rules.proofs.Decoding.{read_held}
 use Rattle.search_rules.proofs.Storing.{consistent-own, read-own}
 
-pub holds-state : (v : ℕ) (values : List ℕ) (trail : List ℤ) (n : ℕ) → noState v values trail n ≡ false → length values ≡ v → length trail ≡ v
-    → Stored v (stateIn values trail n) values trail n
+pub holds-state : (v : ℕ) (values : List ℕ) (trail : List ℤ) (n : ℕ) → no_state v values trail n ≡ false → length values ≡ v → length trail ≡ v
+    → Stored v (state_in values trail n) values trail n
 holds-state v values trail n e p q = read_held v values trail n (consistent v values trail n q e) p q
 
 module _ (v : ℕ) (state : State) (values : List ℕ) (trail : List ℤ) (n : ℕ) (s : Stored v state values trail n) where
-  pub read-stored : stateIn values trail n ≡ state
-  read-stored = rw (s.values-are, s.trail_is, s.used-is) (read-own v state s.was-open)
+  pub read-stored : state_in values trail n ≡ state
+  read-stored = rw (s.values_are, s.trail_is, s.used_is) (read-own v state s.was_open)
 
-  pub stored-passes : noState v values trail n ≡ false
+  pub stored-passes : no_state v values trail n ≡ false
   stored-passes =
-      rw (s.values-are, s.trail_is, s.used-is) (passes v _ _ _ (length-trail v state) (consistent-own v state s.was-open))
+      rw (s.values_are, s.trail_is, s.used_is) (passes v _ _ _ (length-trail v state) (consistent-own v state s.was_open))
 
 pub state-held : StateHeld
 state-held v values trail n p q = record {
-  declines = λ e state s. clash (noState v values trail n) e (stored-passes v state values trail n s);
+  declines = λ e state s. clash (no_state v values trail n) e (stored-passes v state values trail n s);
   holds = λ e. holds-state v values trail n e p q;
   only = λ state s. sym (read-stored v state values trail n s);
 }

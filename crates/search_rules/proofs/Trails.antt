@@ -9,7 +9,7 @@ use lib.IntN.{pos, negsuc, nat_abs}
 use lib.ListN.{length, get_or, set, replicate, length-set, length-replicate}
 use lib.Seq.{get_or-set_same, get_or-set_other}
 use Rattle.search_rules.specs.Held.{InRange, WasOpen}
-use Rattle.search_rules.specs.Rules.{Entry, propagated, decided, State, word_of, byte_of, place_of, values_of, trailOf}
+use Rattle.search_rules.specs.Rules.{Entry, propagated, decided, State, word_of, byte_of, place_of, values_of, trail_of}
 use Rattle.search_rules.proofs.Invariant.{length-values}
 use Rattle.search_rules.proofs.StepView.{Full}
 use Rattle.search_rules.proofs.Found.{place-below}
@@ -86,8 +86,8 @@ full-length v state o f = omega (arith, counted v state o, none_open (values_of 
 pub room : (v : ℕ) (state : State) (i : ℕ) → WasOpen v state → i < v → get_or (values_of v state) i 2 ≡ 2 → length state < v
 room v state i h l e = omega (arith, counted v state h, some-open (values_of v state) i (rw (length-values v state) l) e)
 
-pub length-trail : (v : ℕ) (state : State) → length (trailOf v state) ≡ v
-unfolding trailOf
+pub length-trail : (v : ℕ) (state : State) → length (trail_of v state) ≡ v
+unfolding trail_of
 length-trail v [] = length-replicate v (pos 0)
 length-trail v (e ∷ state) = simp length-set (length-trail v state)
 
@@ -97,11 +97,11 @@ zeros-past zero i = refl
 zeros-past (suc v) zero = refl
 zeros-past (suc v) (suc i) = zeros-past v i
 
-pub past : (v : ℕ) (state : State) (i : ℕ) → length state ≤ i → get_or (trailOf v state) i (pos 0) ≡ pos 0
-unfolding trailOf
+pub past : (v : ℕ) (state : State) (i : ℕ) → length state ≤ i → get_or (trail_of v state) i (pos 0) ≡ pos 0
+unfolding trail_of
 past v [] i h = zeros-past v i
 past v (e ∷ state) i h =
-    get_or-set_other (trailOf v state) (length state) i (word_of e) (pos 0) (λ d. omega arith)
+    get_or-set_other (trail_of v state) (length state) i (word_of e) (pos 0) (λ d. omega arith)
     ∙ past v state i (omega arith)
 
 pub below_suc : {i n : ℕ} → i < suc n → (i ≡ n) ⊎ (i < n)
@@ -109,15 +109,15 @@ below_suc h = eq-or-lt_of_le (le_of_suc-le-suc h)
 
 -- and those on it are literals
 pub on-trail : (v : ℕ) (state : State) (i : ℕ) → WasOpen v state → i < length state
-    → 1 ≤ nat_abs (get_or (trailOf v state) i (pos 0))
-unfolding trailOf WasOpen
+    → 1 ≤ nat_abs (get_or (trail_of v state) i (pos 0))
+unfolding trail_of WasOpen
 on-trail v [] i o l = absurd (omega arith)
 on-trail v (e ∷ state) i o l =
     let inside : length state < v = room v state (place_of (word_of e)) o.2 (place-below v (word_of e) o.0) o.1 in
     ⊎_elim
     (λ (d : i ≡ length state).
-    rw (d, get_or-set_same (trailOf v state) (length state) (word_of e) (pos 0) (omega (arith, length-trail v state)))
+    rw (d, get_or-set_same (trail_of v state) (length state) (word_of e) (pos 0) (omega (arith, length-trail v state)))
     o.0.0)
-    (λ d. rw (get_or-set_other (trailOf v state) (length state) i (word_of e) (pos 0) (λ q. omega arith))
+    (λ d. rw (get_or-set_other (trail_of v state) (length state) i (word_of e) (pos 0) (λ q. omega arith))
     (on-trail v state i o.2 d))
     (below_suc l)

@@ -2,7 +2,7 @@
 -- start) plus the steps of its kind that the rules' run takes in the call."
 use Rattle.std.specs.Prelude.{Bool, true, false, cond, List, [], ◌∷◌, ℕ, zero, suc, ℤ}
 use Rattle.search_rules.specs.declared.Steps.{Steps}
-use Rattle.search_rules.specs.Rules.{State, Kind, propagation, decision, backtrack, endNone, endFound, step, next}
+use Rattle.search_rules.specs.Rules.{State, Kind, propagation, decision, backtrack, end_none, end_found, step, next}
 
 -- the counter of a kind
 unfoldable pub counter : Kind → Steps → ℕ
@@ -11,24 +11,24 @@ counter decision t = t.decisions
 counter backtrack t = t.backtracks
 
 -- "the steps .. that the rules' run takes": their kinds, from a state within n steps
-unfoldable pub kindsTaken : List (List ℤ) → ℕ → ℕ → State → List Kind
-kindsTaken clauses v zero state = []
-kindsTaken clauses v (suc n) state =
+unfoldable pub kinds_taken : List (List ℤ) → ℕ → ℕ → State → List Kind
+kinds_taken clauses v zero state = []
+kinds_taken clauses v (suc n) state =
     elim (next clauses v state)
-    [ endNone ↦ [] | endFound ↦ [] | step kind state' ↦ kind ∷ kindsTaken clauses v n state' ]
+    [ end_none ↦ [] | end_found ↦ [] | step kind state' ↦ kind ∷ kinds_taken clauses v n state' ]
 
-unfoldable pub sameKind : Kind → Kind → Bool
-sameKind propagation propagation = true
-sameKind propagation decision = false
-sameKind propagation backtrack = false
-sameKind decision propagation = false
-sameKind decision decision = true
-sameKind decision backtrack = false
-sameKind backtrack propagation = false
-sameKind backtrack decision = false
-sameKind backtrack backtrack = true
+unfoldable pub same_kind : Kind → Kind → Bool
+same_kind propagation propagation = true
+same_kind propagation decision = false
+same_kind propagation backtrack = false
+same_kind decision propagation = false
+same_kind decision decision = true
+same_kind decision backtrack = false
+same_kind backtrack propagation = false
+same_kind backtrack decision = false
+same_kind backtrack backtrack = true
 
 -- "of its kind": how many of them are
-unfoldable pub ofKind : Kind → List Kind → ℕ
-ofKind kind [] = 0
-ofKind kind (k ∷ kinds) = cond (sameKind kind k) (suc (ofKind kind kinds)) (ofKind kind kinds)
+unfoldable pub of_kind : Kind → List Kind → ℕ
+of_kind kind [] = 0
+of_kind kind (k ∷ kinds) = cond (same_kind kind k) (suc (of_kind kind kinds)) (of_kind kind kinds)

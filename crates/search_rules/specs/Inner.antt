@@ -2,7 +2,7 @@
 -- No public contract reaches this file: nothing here needs belief.
 use Rattle.std.specs.Prelude.{◌≡◌, List, [], ◌∷◌, ℕ, zero, suc, ◌≤◌, ℤ, pos, nat_abs, length, take, drop}
 use Rattle.search_rules.specs.declared.Steps.{Steps}
-use Rattle.search_rules.specs.Run.{End, wasNone, wasFound, wasSpent}
+use Rattle.search_rules.specs.Run.{End, was_none, was_found, was_spent}
 use Rattle.search_rules.specs.Held.{InRange}
 
 unfoldable pub AllIn : ℕ → List ℤ → Type 0
@@ -20,7 +20,7 @@ unfoldable pub Fine : ℕ → List ℤ → Type 0
 Fine v ws = FineIn v (length ws) ws
 
 -- the steps done when a run ends
-abbrev pub stepsAt : End → Steps
-stepsAt (wasNone t) = t
-stepsAt (wasFound t state) = t
-stepsAt (wasSpent t state) = t
+abbrev pub steps_at : End → Steps
+steps_at (was_none t) = t
+steps_at (was_found t state) = t
+steps_at (was_spent t state) = t

@@ -1,8 +1,8 @@
 -- The states that a search comes to from all open, by the step rules and by clashes, whichever call takes the steps
 -- (document 02, Change 6: "Where the run goes back to a fresh start over the sheet's list").
 use Rattle.std.specs.Prelude.{◌≡◌, List, [], ◌∷◌, ◌++◌, map, ℕ, ℤ}
-use Rattle.search_rules.specs.Rules.{State, values_of, Kind, endFound, step, next, settle}
-use Rattle.search_rules.specs.Following.{firstStep}
+use Rattle.search_rules.specs.Rules.{State, values_of, Kind, end_found, step, next, settle}
+use Rattle.search_rules.specs.Following.{first_step}
 
 -- the assignment that the values of set variables give: "read-back takes 3 as 0"
 abbrev pub Settles : List ℕ → List ℕ → Type 0
@@ -16,10 +16,10 @@ pub data Reached (clauses : List (List ℤ)) (v : ℕ) (Gives : List ℕ → Lis
   all-open : Reached clauses v Gives [] []
   -- a step of the rules, or the turn of a full assignment that is treated as a clash, to a state that is not "found"
   on : {cases : List (List ℕ)} {state state' : State} {kind : Kind} → Reached clauses v Gives cases state
-      → firstStep clauses v state ≡ step kind state' → (next clauses v state' ≡ endFound → ⊥)
+      → first_step clauses v state ≡ step kind state' → (next clauses v state' ≡ end_found → ⊥)
       → Reached clauses v Gives cases state'
   -- the same to a state that is
   gives : {cases : List (List ℕ)} {state state' : State} {kind : Kind} {case : List ℕ}
       → Reached clauses v Gives cases state
-      → firstStep clauses v state ≡ step kind state' → next clauses v state' ≡ endFound → Gives (values_of v state') case
+      → first_step clauses v state ≡ step kind state' → next clauses v state' ≡ end_found → Gives (values_of v state') case
       → Reached clauses v Gives (cases ++ case ∷ []) state'

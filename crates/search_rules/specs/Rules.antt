@@ -24,53 +24,53 @@ unfoldable pub literal : List ℕ → ℤ → Truth
 literal values (pos n) = truth_of (get_or values (pred n) 2)
 literal values (negsuc n) = negated (truth_of (get_or values n 2))
 
-unfoldable pub isFalsified : Truth → Bool
-isFalsified falsified = true
-isFalsified satisfied = false
-isFalsified unassigned = false
+unfoldable pub is_falsified : Truth → Bool
+is_falsified falsified = true
+is_falsified satisfied = false
+is_falsified unassigned = false
 
-unfoldable pub isSatisfied : Truth → Bool
-isSatisfied falsified = false
-isSatisfied satisfied = true
-isSatisfied unassigned = false
+unfoldable pub is_satisfied : Truth → Bool
+is_satisfied falsified = false
+is_satisfied satisfied = true
+is_satisfied unassigned = false
 
 -- "some clause has only false literals"
 unfoldable pub conflict : List ℕ → List (List ℤ) → Bool
-conflict values clauses = any (all (λ l. isFalsified (literal values l))) clauses
+conflict values clauses = any (all (λ l. is_falsified (literal values l))) clauses
 
 -- the open literals of a clause
-unfoldable pub openOf : List ℕ → List ℤ → List ℤ
-openOf values [] = []
-openOf values (l ∷ clause) =
+unfoldable pub open_of : List ℕ → List ℤ → List ℤ
+open_of values [] = []
+open_of values (l ∷ clause) =
     elim (literal values l)
-    [ falsified ↦ openOf values clause | satisfied ↦ openOf values clause | unassigned ↦ l ∷ openOf values clause ]
+    [ falsified ↦ open_of values clause | satisfied ↦ open_of values clause | unassigned ↦ l ∷ open_of values clause ]
 
-unfoldable pub sameLiteral : ℤ → ℤ → Bool
-sameLiteral (pos m) (pos n) = eqb m n
-sameLiteral (pos m) (negsuc n) = false
-sameLiteral (negsuc m) (pos n) = false
-sameLiteral (negsuc m) (negsuc n) = eqb m n
+unfoldable pub same_literal : ℤ → ℤ → Bool
+same_literal (pos m) (pos n) = eqb m n
+same_literal (pos m) (negsuc n) = false
+same_literal (negsuc m) (pos n) = false
+same_literal (negsuc m) (negsuc n) = eqb m n
 
 -- the literal that "are all the same"
 unfoldable pub only : List ℤ → Option ℤ
 only [] = none
-only (l ∷ ls) = cond (all (sameLiteral l) ls) (some l) none
+only (l ∷ ls) = cond (all (same_literal l) ls) (some l) none
 
 -- "no true literal whose open literals are all the same"
 unfoldable pub unit_of : List ℕ → List ℤ → Option ℤ
-unit_of values clause = cond (any (λ l. isSatisfied (literal values l)) clause) none (only (openOf values clause))
+unit_of values clause = cond (any (λ l. is_satisfied (literal values l)) clause) none (only (open_of values clause))
 
 -- "the first clause with no true literal whose open literals are all the same"
-unfoldable pub firstUnit : List ℕ → List (List ℤ) → Option ℤ
-firstUnit values [] = none
-firstUnit values (clause ∷ clauses) = elim (unit_of values clause) [ none ↦ firstUnit values clauses | some l ↦ some l ]
+unfoldable pub first_unit : List ℕ → List (List ℤ) → Option ℤ
+first_unit values [] = none
+first_unit values (clause ∷ clauses) = elim (unit_of values clause) [ none ↦ first_unit values clauses | some l ↦ some l ]
 
 -- "the lowest open variable": its place, where the first value is that of place k
-unfoldable pub lowestOpen : ℕ → List ℕ → Option ℕ
-lowestOpen k [] = none
-lowestOpen k (b ∷ values) =
+unfoldable pub lowest_open : ℕ → List ℕ → Option ℕ
+lowest_open k [] = none
+lowest_open k (b ∷ values) =
     elim (truth_of b)
-    [ falsified ↦ lowestOpen (suc k) values | satisfied ↦ lowestOpen (suc k) values | unassigned ↦ some k ]
+    [ falsified ↦ lowest_open (suc k) values | satisfied ↦ lowest_open (suc k) values | unassigned ↦ some k ]
 
 -- "A trail of words holds the literals in the order set": a state is the stack of these, latest first.
 -- Each was set by a propagation or a backtrack, or is the variable at place i, which a decision made false.
@@ -101,27 +101,27 @@ values_of v [] = replicate v 2
 values_of v (e ∷ state) = set (values_of v state) (place_of (word_of e)) (byte_of e)
 
 -- "A trail of words holds the literals in the order set, then 0s."
-unfoldable pub trailOf : ℕ → State → List ℤ
-trailOf v [] = replicate v (pos 0)
-trailOf v (e ∷ state) = set (trailOf v state) (length state) (word_of e)
+unfoldable pub trail_of : ℕ → State → List ℤ
+trail_of v [] = replicate v (pos 0)
+trail_of v (e ∷ state) = set (trail_of v state) (length state) (word_of e)
 
 pub data Kind : Type 0 where
   propagation decision backtrack : Kind
 
 -- an end of the rules, or a step
 pub data Next : Type 0 where
-  endNone endFound : Next
+  end_none end_found : Next
   step : Kind → State → Next
 
 -- "open all back to the latest 3, which becomes 1 (turn); without a 3 the end is "none""
 unfoldable pub turn : State → Next
-turn [] = endNone
+turn [] = end_none
 turn (propagated l ∷ state) = turn state
 turn (decided i ∷ state) = step backtrack (propagated (pos (suc i)) ∷ state)
 
 -- "the lowest open variable becomes 3 (choice)"; "With all set and no such clause the end is "found""
 unfoldable pub decide : State → Option ℕ → Next
-decide state none = endFound
+decide state none = end_found
 decide state (some i) = step decision (decided i ∷ state)
 
 -- "if some clause has only false literals: ..; else the first clause .. sets that literal true (force); else .."
@@ -131,8 +131,8 @@ next clauses v state =
     elim (conflict values clauses) [
       | true ↦ turn state
       | false ↦
-          elim (firstUnit values clauses)
-          [ some l ↦ step propagation (propagated l ∷ state) | none ↦ decide state (lowestOpen 0 values) ]
+          elim (first_unit values clauses)
+          [ some l ↦ step propagation (propagated l ∷ state) | none ↦ decide state (lowest_open 0 values) ]
     ]
 
 -- "So "found" keeps its 3s in the lent values, and read-back takes 3 as 0" (document 02, Change 6): the bit that the byte of a set variable gives

@@ -2,7 +2,7 @@
 use Rattle.std.specs.Prelude.{◌≡◌, ◌⊎◌, List, ℕ, zero, suc, ◌+◌, ◌≤◌, ℤ}
 use Rattle.std.proofs.Math.Option.{Option, none, some}
 use Rattle.search_rules.specs.declared.Steps.{Steps}
-use Rattle.search_rules.specs.Rules.{State, Kind, propagation, decision, backtrack, endNone, endFound, step, next}
+use Rattle.search_rules.specs.Rules.{State, Kind, propagation, decision, backtrack, end_none, end_found, step, next}
 
 -- "Force, choice and turn count one step each": each in a counter of its kind, of the three that a caller is shown (src/lib.rt)
 abbrev pub tally : ℕ → ℕ → ℕ → Steps
@@ -22,23 +22,23 @@ count backtrack t = record { propagations = t.propagations; decisions = t.decisi
 
 -- how a run ends: the steps done, and the state where there is one
 pub data End : Type 0 where
-  wasNone : Steps → End
-  wasFound wasSpent : Steps → State → End
+  was_none : Steps → End
+  was_found was_spent : Steps → State → End
 
 -- "ends count nothing. If the budget's steps (a 64-bit number, 0 allowed) are done and no end is reached, the answer is "spent" and the state stays."
 -- The run from a state, with a budget of n steps, where t counts those done before.
 unfoldable pub run : List (List ℤ) → ℕ → ℕ → Steps → State → End
 run clauses v zero t state =
-    elim (next clauses v state) [ endNone ↦ wasNone t | endFound ↦ wasFound t state | step kind state' ↦ wasSpent t state ]
+    elim (next clauses v state) [ end_none ↦ was_none t | end_found ↦ was_found t state | step kind state' ↦ was_spent t state ]
 run clauses v (suc n) t state =
     elim (next clauses v state)
-    [ endNone ↦ wasNone t | endFound ↦ wasFound t state | step kind state' ↦ run clauses v n (count kind t) state' ]
+    [ end_none ↦ was_none t | end_found ↦ was_found t state | step kind state' ↦ run clauses v n (count kind t) state' ]
 
 -- the state after n steps, where no end comes before
 unfoldable pub after : List (List ℤ) → ℕ → ℕ → State → Option State
 after clauses v zero state = some state
 after clauses v (suc n) state =
-    elim (next clauses v state) [ endNone ↦ none | endFound ↦ none | step kind state' ↦ after clauses v n state' ]
+    elim (next clauses v state) [ end_none ↦ none | end_found ↦ none | step kind state' ↦ after clauses v n state' ]
 
 -- "The step rules have ended within n steps when an end is reached after at most n steps from the state the call starts in."
 pub record EndedWithin (clauses : List (List ℤ)) (v n : ℕ) (start : State) : Type 0 where
@@ -46,4 +46,4 @@ pub record EndedWithin (clauses : List (List ℤ)) (v n : ℕ) (start : State) :
   pub within : steps ≤ n
   pub state : State
   pub reached : after clauses v steps start ≡ some state
-  pub ends : (next clauses v state ≡ endNone) ⊎ (next clauses v state ≡ endFound)
+  pub ends : (next clauses v state ≡ end_none) ⊎ (next clauses v state ≡ end_found)

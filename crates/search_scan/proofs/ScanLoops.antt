@@ -15,14 +15,14 @@ use mir.Val.{SFits, to_z, of_z}
 use mir.Facts.{to_z-of_z}
 use Rattle.literal.specs.Words.{count_of}
 use Rattle.literal.proofs.Signs.{same_word}
-use Rattle.clause_list.specs.ClauseList.{cut, clausesOf}
+use Rattle.clause_list.specs.ClauseList.{cut, clauses_of}
 use Rattle.search_rules.specs.Held.{InRange}
 use Rattle.search_rules.specs.Inner.{AllIn, FineIn, Fine}
-use Rattle.search_scan.specs.Seen.{truthCode, Sight, conflicting, unit, neither, seen}
-use Rattle.search_rules.specs.Rules.{Truth, falsified, satisfied, unassigned, literal, sameLiteral}
+use Rattle.search_scan.specs.Seen.{truth_code, Sight, conflicting, unit, neither, seen}
+use Rattle.search_rules.specs.Rules.{Truth, falsified, satisfied, unassigned, literal, same_literal}
 use Rattle.search_rules.proofs.Booleans.{bool_false}
 use Rattle.search_rules.proofs.Assignments.{same_true, same_refl}
-use Rattle.search_scan.proofs.Scans.{Clause, allFalse, sole, several, is_held, meet, look, keep, pass, pass-seen}
+use Rattle.search_scan.proofs.Scans.{Clause, all_false, sole, several, is_held, meet, look, keep, pass, pass-seen}
 
 pub look-false : (vs : List ℕ) (s : Clause) (l : ℤ) (ls : List ℤ) → literal vs l ≡ falsified → look vs s (l ∷ ls) ≡ look vs s ls
 unfolding look
@@ -44,31 +44,31 @@ truths falsified = inl refl
 truths satisfied = inr (inl refl)
 truths unassigned = inr (inr refl)
 
-pub meet-not-false : (s : Clause) (l : ℤ) → meet s l ≡ allFalse → ⊥
+pub meet-not-false : (s : Clause) (l : ℤ) → meet s l ≡ all_false → ⊥
 unfolding meet
-meet-not-false allFalse l e = let z : ◌≡◌ {A = ℕ} 0 1 = cc in omega arith
-meet-not-false (sole k) l e = by (sameLiteral k l) e
+meet-not-false all_false l e = let z : ◌≡◌ {A = ℕ} 0 1 = cc in omega arith
+meet-not-false (sole k) l e = by (same_literal k l) e
   where
-    by : (b : Bool) → cond b (sole k) several ≡ allFalse → ⊥
+    by : (b : Bool) → cond b (sole k) several ≡ all_false → ⊥
     by true e = let z : ◌≡◌ {A = ℕ} 0 1 = cc in omega arith
     by false e = let z : ◌≡◌ {A = ℕ} 0 1 = cc in omega arith
 meet-not-false several l e = let z : ◌≡◌ {A = ℕ} 0 1 = cc in omega arith
 meet-not-false is_held l e = let z : ◌≡◌ {A = ℕ} 0 1 = cc in omega arith
 
-pub pass-conflict : (vs : List ℕ) (s : Sight) (c : List ℤ) (cs : List (List ℤ)) → look vs allFalse c ≡ allFalse → pass vs s (c ∷ cs) ≡ conflicting
+pub pass-conflict : (vs : List ℕ) (s : Sight) (c : List ℤ) (cs : List (List ℤ)) → look vs all_false c ≡ all_false → pass vs s (c ∷ cs) ≡ conflicting
 unfolding pass
 pass-conflict vs s c cs d = rw (d, pass)
 
-pub pass-unit : (vs : List ℕ) (s : Sight) (c : List ℤ) (cs : List (List ℤ)) (k : ℤ) → look vs allFalse c ≡ sole k → pass vs s (c ∷ cs)
+pub pass-unit : (vs : List ℕ) (s : Sight) (c : List ℤ) (cs : List (List ℤ)) (k : ℤ) → look vs all_false c ≡ sole k → pass vs s (c ∷ cs)
     ≡ pass vs (keep s k) cs
 unfolding pass
 pass-unit vs s c cs k d = rw (d, pass)
 
-pub pass-several : (vs : List ℕ) (s : Sight) (c : List ℤ) (cs : List (List ℤ)) → look vs allFalse c ≡ several → pass vs s (c ∷ cs) ≡ pass vs s cs
+pub pass-several : (vs : List ℕ) (s : Sight) (c : List ℤ) (cs : List (List ℤ)) → look vs all_false c ≡ several → pass vs s (c ∷ cs) ≡ pass vs s cs
 unfolding pass
 pass-several vs s c cs d = rw (d, pass)
 
-pub pass-held : (vs : List ℕ) (s : Sight) (c : List ℤ) (cs : List (List ℤ)) → look vs allFalse c ≡ is_held → pass vs s (c ∷ cs) ≡ pass vs s cs
+pub pass-held : (vs : List ℕ) (s : Sight) (c : List ℤ) (cs : List (List ℤ)) → look vs all_false c ≡ is_held → pass vs s (c ∷ cs) ≡ pass vs s cs
 unfolding pass
 pass-held vs s c cs d = rw (d, pass)
 
@@ -80,7 +80,7 @@ pub record Bits (k : ℤ) (o : ℕ) : Type 0 where
 
 -- what the local `open` says
 abbrev pub Found : Clause → ℕ → Type 0
-Found allFalse o = o ≡ 0
+Found all_false o = o ≡ 0
 Found (sole k) o = Bits k o
 Found several o = ⊥
 Found is_held o = ⊥
@@ -98,7 +98,7 @@ pub record Outer (ws : List ℤ) (vs : List ℕ) (at u : ℕ) : Type 0 where
   pub fine : FineIn (length vs) fuel (drop at ws)
   pub so : Sight
   pub kept : Kept so u
-  pub same : pass vs so (cut fuel (drop at ws)) ≡ seen vs (clausesOf ws)
+  pub same : pass vs so (cut fuel (drop at ws)) ≡ seen vs (clauses_of ws)
 
 -- the inner loop at `i` of the clause from `i₀` to `at`
 pub record Inner (ws : List ℤ) (vs : List ℕ) (i₀ at i o u : ℕ) : Type 0 where
@@ -107,7 +107,7 @@ pub record Inner (ws : List ℤ) (vs : List ℕ) (i₀ at i o u : ℕ) : Type 0 
   pub once : (u ≡ 0 → ⊥) → o ≡ 0
   pub so : Clause
   pub seen : Found so o
-  pub same : look vs so (slice i at ws) ≡ look vs allFalse (slice i₀ at ws)
+  pub same : look vs so (slice i at ws) ≡ look vs all_false (slice i₀ at ws)
 
 end-cut : (vs : List ℕ) (f : ℕ) (s : Sight) → s ≡ pass vs s (cut f [])
 unfolding pass cut
@@ -123,7 +123,7 @@ pub record Head (ws : List ℤ) (vs : List ℕ) (at u n : ℕ) : Type 0 where
   pub fine : FineIn (length vs) fuel (drop (at + 1 + n) ws)
   pub so : Sight
   pub kept : Kept so u
-  pub same : pass vs so (slice (at + 1) (at + 1 + n) ws ∷ cut fuel (drop (at + 1 + n) ws)) ≡ seen vs (clausesOf ws)
+  pub same : pass vs so (slice (at + 1) (at + 1 + n) ws ∷ cut fuel (drop (at + 1 + n) ws)) ≡ seen vs (clauses_of ws)
 
 drop-take : (f n : ℕ) (l : List ℤ) → drop f (take (f + n) l) ≡ take n (drop f l)
 drop-take zero n l = rw (zero-add n)
@@ -132,11 +132,11 @@ drop-take (suc f) n (x ∷ l) = rw (suc-add f n) (drop-take f n l)
 
 pub start : (ws : List ℤ) (vs : List ℕ) → Fine (length vs) ws → Outer ws vs 0 0
 unfolding Fine
-start ws vs h = record { within = omega arith; fuel = length ws; fine = h; so = neither; kept = refl; same = pass-seen vs (clausesOf ws) }
+start ws vs h = record { within = omega arith; fuel = length ws; fine = h; so = neither; kept = refl; same = pass-seen vs (clauses_of ws) }
 
 module _ (ws : List ℤ) (vs : List ℕ) (at u : ℕ) where
   by-fuel : (w : ℤ) (rest : List ℤ) → at < length ws → w ≡ get_or ws at (pos 0) → rest ≡ drop (at + 1) ws → (s : Sight) → Kept s u
-      → (f : ℕ) → FineIn (length vs) f (w ∷ rest) → pass vs s (cut f (w ∷ rest)) ≡ seen vs (clausesOf ws)
+      → (f : ℕ) → FineIn (length vs) f (w ∷ rest) → pass vs s (cut f (w ∷ rest)) ≡ seen vs (clauses_of ws)
       → Head ws vs at u (nat_abs w)
   unfolding FineIn cut
   by-fuel w rest b e d s k zero h g = let z : ◌≡◌ {A = ℕ} 0 1 = cc in absurd (omega arith)
@@ -161,8 +161,8 @@ module _ (ws : List ℤ) (vs : List ℕ) (at u : ℕ) where
       let e : drop at ws ≡ get_or ws at (pos 0) ∷ drop (at + 1) ws = rw (add-one, drop-cons ws at (pos 0)) in
       by-fuel _ _ b refl refl o.so o.kept o.fuel (rw e at o.fine) (rw e at o.same)
 
-eqZ-ne : (k l : ℤ) → (k ≡ l → ⊥) → sameLiteral k l ≡ false
-eqZ-ne k l h = bool_false (sameLiteral k l) (λ e. h (same_true k l e))
+eq_z-ne : (k l : ℤ) → (k ≡ l → ⊥) → same_literal k l ≡ false
+eq_z-ne k l h = bool_false (same_literal k l) (λ e. h (same_true k l e))
 
 -- the bits of a literal are not 0
 bits-some : (l : ℤ) → 1 ≤ nat_abs l → SFits w32 l → of_z w32 l ≡ 0 → ⊥
@@ -176,21 +176,21 @@ module _ (v : ℕ) (l : ℤ) (b : ℕ) (r : InRange v l) (f : SFits w32 l) (d : 
 
   pub meets-first : (s : Clause) (o : ℕ) → Found s o → o ≡ 0 → Found (meet s l) b
   unfolding meet
-  meets-first allFalse o h e = of-l
+  meets-first all_false o h e = of-l
   meets-first (sole k) o h e = absurd (h.some e)
   meets-first several o h e = absurd h
   meets-first is_held o h e = absurd h
 
   pub meets-other : (s : Clause) (o : ℕ) → Found s o → (o ≡ 0 → ⊥) → (o ≡ b → ⊥) → meet s l ≡ several
   unfolding meet
-  meets-other allFalse o h p q = absurd (p h)
-  meets-other (sole k) o h p q = rw (eqZ-ne k l (λ e. q (h.bits ∙ ap (of_z w32) e ∙ sym d)))
+  meets-other all_false o h p q = absurd (p h)
+  meets-other (sole k) o h p q = rw (eq_z-ne k l (λ e. q (h.bits ∙ ap (of_z w32) e ∙ sym d)))
   meets-other several o h p q = refl
   meets-other is_held o h p q = absurd h
 
   pub meets-same : (s : Clause) (o : ℕ) → Found s o → (o ≡ 0 → ⊥) → o ≡ b → Found (meet s l) o
   unfolding meet
-  meets-same allFalse o h p q = absurd (p h)
+  meets-same all_false o h p q = absurd (p h)
   meets-same (sole k) o h p q = rw (same_refl k l (same_word k l h.fits f (sym h.bits ∙ q ∙ d))) h
   meets-same several o h p q = absurd h
   meets-same is_held o h p q = absurd h
@@ -210,14 +210,14 @@ unfolding look
 stays-several vs [] = inl refl
 stays-several vs (l ∷ ls) = several-step vs l ls (stays-several vs ls) (truths (literal vs l))
 
-open_step : (vs : List ℕ) (s : Clause) (l : ℤ) (ls : List ℤ) → (s ≡ allFalse → ⊥) → (look vs s ls ≡ allFalse → ⊥)
-    → (look vs (meet s l) ls ≡ allFalse → ⊥) → Truths (literal vs l) → look vs s (l ∷ ls) ≡ allFalse → ⊥
+open_step : (vs : List ℕ) (s : Clause) (l : ℤ) (ls : List ℤ) → (s ≡ all_false → ⊥) → (look vs s ls ≡ all_false → ⊥)
+    → (look vs (meet s l) ls ≡ all_false → ⊥) → Truths (literal vs l) → look vs s (l ∷ ls) ≡ all_false → ⊥
 open_step vs s l ls n p q (inl d) e = p (sym (look-false vs s l ls d) ∙ e)
-open_step vs s l ls n p q (inr (inl d)) e = let w : is_held ≡ allFalse = sym (look-true vs s l ls d) ∙ e in let z : ◌≡◌ {A = ℕ} 0 1 = cc in omega arith
+open_step vs s l ls n p q (inr (inl d)) e = let w : is_held ≡ all_false = sym (look-true vs s l ls d) ∙ e in let z : ◌≡◌ {A = ℕ} 0 1 = cc in omega arith
 open_step vs s l ls n p q (inr (inr d)) e = q (sym (look-open vs s l ls d) ∙ e)
 
 -- where something is open, it is no conflict
-stays_open : (vs : List ℕ) (s : Clause) (ls : List ℤ) → (s ≡ allFalse → ⊥) → look vs s ls ≡ allFalse → ⊥
+stays_open : (vs : List ℕ) (s : Clause) (ls : List ℤ) → (s ≡ all_false → ⊥) → look vs s ls ≡ all_false → ⊥
 unfolding look
 stays_open vs s [] n e = n e
 stays_open vs s (l ∷ ls) n e = open_step vs s l ls n (stays_open vs s ls n) (stays_open vs (meet s l) ls (meet-not-false s l))
@@ -235,11 +235,11 @@ module _ (ws : List ℤ) (vs : List ℕ) (i₀ at i : ℕ) (b : at ≤ length ws
     pub literal-in : InRange (length vs) (get_or ws i (pos 0))
     literal-in = (head_in _ _ (rw cons at n.fine)).0
 
-    pub is_true : literal vs (get_or ws i (pos 0)) ≡ satisfied → look vs allFalse (slice i₀ at ws) ≡ is_held
-    is_true e = sym n.same ∙ rw cons (look-true vs n.so _ _ e)
+    pub is_true_lem : literal vs (get_or ws i (pos 0)) ≡ satisfied → look vs all_false (slice i₀ at ws) ≡ is_held
+    is_true_lem e = sym n.same ∙ rw cons (look-true vs n.so _ _ e)
 
     rest : literal vs (get_or ws i (pos 0)) ≡ unassigned → look vs (meet n.so (get_or ws i (pos 0))) (slice (i + 1) at ws)
-        ≡ look vs allFalse (slice i₀ at ws)
+        ≡ look vs all_false (slice i₀ at ws)
     rest e = sym (look-open vs n.so _ _ e) ∙ (rw cons at n.same)
 
     pub is_false : literal vs (get_or ws i (pos 0)) ≡ falsified → Inner ws vs i₀ at (i + 1) o u
@@ -264,18 +264,18 @@ module _ (ws : List ℤ) (vs : List ℕ) (i₀ at i : ℕ) (b : at ≤ length ws
     }
 
     pub is-several : literal vs (get_or ws i (pos 0)) ≡ unassigned → meet n.so (get_or ws i (pos 0)) ≡ several
-        → Skips (look vs allFalse (slice i₀ at ws))
+        → Skips (look vs all_false (slice i₀ at ws))
     is-several e d = rw (← rest e, d) (stays-several vs (slice (i + 1) at ws))
 
-    pub not-conflict : literal vs (get_or ws i (pos 0)) ≡ unassigned → look vs allFalse (slice i₀ at ws) ≡ allFalse → ⊥
+    pub not-conflict : literal vs (get_or ws i (pos 0)) ≡ unassigned → look vs all_false (slice i₀ at ws) ≡ all_false → ⊥
     not-conflict e = rw (← rest e) (stays_open vs _ (slice (i + 1) at ws) (meet-not-false n.so (get_or ws i (pos 0))))
 
 pub enter : (ws : List ℤ) (vs : List ℕ) (at u n : ℕ) → Head ws vs at u n → Inner ws vs (at + 1) (at + 1 + n) (at + 1) 0 u
-enter ws vs at u n h = record { within = omega arith; fine = h.all; once = λ z. refl; so = allFalse; seen = refl; same = refl }
+enter ws vs at u n h = record { within = omega arith; fine = h.all; once = λ z. refl; so = all_false; seen = refl; same = refl }
 
 -- the loop over a clause is done
 pub done : (ws : List ℤ) (vs : List ℕ) (i₀ at i o u : ℕ) → at ≤ i → Inner ws vs i₀ at i o u
-    → (s : Clause) × (look vs allFalse (slice i₀ at ws) ≡ s) × Found s o
+    → (s : Clause) × (look vs all_false (slice i₀ at ws) ≡ s) × Found s o
 unfolding look
 done ws vs i₀ at i o u h n =
     let e : i ≡ at = let w = n.within in omega arith in
@@ -283,7 +283,7 @@ done ws vs i₀ at i o u h n =
     (n.so, sym (rw q at n.same), n.seen)
 
 module _ (ws : List ℤ) (vs : List ℕ) (at u n : ℕ) (h : Head ws vs at u n) where
-  pub on-held : look vs allFalse (slice (at + 1) (at + 1 + n) ws) ≡ is_held → Outer ws vs (at + 1 + n) u
+  pub on-held : look vs all_false (slice (at + 1) (at + 1 + n) ws) ≡ is_held → Outer ws vs (at + 1 + n) u
   on-held e = record {
     within = h.within;
     fuel = h.fuel;
@@ -293,7 +293,7 @@ module _ (ws : List ℤ) (vs : List ℕ) (at u n : ℕ) (h : Head ws vs at u n) 
     same = sym (pass-held vs h.so _ _ e) ∙ h.same;
   }
 
-  pub on-several : look vs allFalse (slice (at + 1) (at + 1 + n) ws) ≡ several → Outer ws vs (at + 1 + n) u
+  pub on-several : look vs all_false (slice (at + 1) (at + 1 + n) ws) ≡ several → Outer ws vs (at + 1 + n) u
   on-several e = record {
     within = h.within;
     fuel = h.fuel;
@@ -303,7 +303,7 @@ module _ (ws : List ℤ) (vs : List ℕ) (at u n : ℕ) (h : Head ws vs at u n) 
     same = sym (pass-several vs h.so _ _ e) ∙ h.same;
   }
 
-  pub on-unit : (k : ℤ) (u' : ℕ) → look vs allFalse (slice (at + 1) (at + 1 + n) ws) ≡ sole k → Kept (keep h.so k) u' → Outer ws vs (at + 1 + n) u'
+  pub on-unit : (k : ℤ) (u' : ℕ) → look vs all_false (slice (at + 1) (at + 1 + n) ws) ≡ sole k → Kept (keep h.so k) u' → Outer ws vs (at + 1 + n) u'
   on-unit k u' e g = record {
     within = h.within;
     fuel = h.fuel;
@@ -313,7 +313,7 @@ module _ (ws : List ℤ) (vs : List ℕ) (at u n : ℕ) (h : Head ws vs at u n) 
     same = sym (pass-unit vs h.so _ _ k e) ∙ h.same;
   }
 
-  pub on-conflict : look vs allFalse (slice (at + 1) (at + 1 + n) ws) ≡ allFalse → conflicting ≡ seen vs (clausesOf ws)
+  pub on-conflict : look vs all_false (slice (at + 1) (at + 1 + n) ws) ≡ all_false → conflicting ≡ seen vs (clauses_of ws)
   on-conflict e = sym (pass-conflict vs h.so _ _ e) ∙ h.same
 
   keep-kept : (s : Sight) (k : ℤ) → Kept s u → (u ≡ 0 → ⊥) → Kept (keep s k) u
@@ -329,26 +329,26 @@ module _ (ws : List ℤ) (vs : List ℕ) (at u n : ℕ) (h : Head ws vs at u n) 
   keep-new neither k o g e p = p
 
   abbrev Over : ℕ → Type 0
-  Over o = (s : Clause) × (look vs allFalse (slice (at + 1) (at + 1 + n) ws) ≡ s) × Found s o
+  Over o = (s : Clause) × (look vs all_false (slice (at + 1) (at + 1 + n) ws) ≡ s) × Found s o
 
-  pub over-conflict : (o : ℕ) → Over o → o ≡ 0 → conflicting ≡ seen vs (clausesOf ws)
-  over-conflict o (allFalse, q, g) e = on-conflict q
+  pub over-conflict : (o : ℕ) → Over o → o ≡ 0 → conflicting ≡ seen vs (clauses_of ws)
+  over-conflict o (all_false, q, g) e = on-conflict q
   over-conflict o (sole k, q, g) e = absurd (g.some e)
   over-conflict o (several, q, g) e = absurd g
   over-conflict o (is_held, q, g) e = absurd g
 
   pub over-new : (o : ℕ) → Over o → (o ≡ 0 → ⊥) → u ≡ 0 → Outer ws vs (at + 1 + n) o
-  over-new o (allFalse, q, g) e d = absurd (e g)
+  over-new o (all_false, q, g) e d = absurd (e g)
   over-new o (sole k, q, g) e d = on-unit k o q (keep-new h.so k o h.kept d g)
   over-new o (several, q, g) e d = absurd g
   over-new o (is_held, q, g) e d = absurd g
 
-  pub on-skip : Skips (look vs allFalse (slice (at + 1) (at + 1 + n) ws)) → Outer ws vs (at + 1 + n) u
+  pub on-skip : Skips (look vs all_false (slice (at + 1) (at + 1 + n) ws)) → Outer ws vs (at + 1 + n) u
   on-skip = ⊎_elim on-several on-held
 
-  pub on-open : (s : Clause) → look vs allFalse (slice (at + 1) (at + 1 + n) ws) ≡ s
-      → (look vs allFalse (slice (at + 1) (at + 1 + n) ws) ≡ allFalse → ⊥) → (u ≡ 0 → ⊥) → Outer ws vs (at + 1 + n) u
-  on-open allFalse q p d = absurd (p q)
+  pub on-open : (s : Clause) → look vs all_false (slice (at + 1) (at + 1 + n) ws) ≡ s
+      → (look vs all_false (slice (at + 1) (at + 1 + n) ws) ≡ all_false → ⊥) → (u ≡ 0 → ⊥) → Outer ws vs (at + 1 + n) u
+  on-open all_false q p d = absurd (p q)
   on-open (sole k) q p d = on-unit k u q (keep-kept h.so k h.kept d)
   on-open several q p d = on-several q
   on-open is_held q p d = on-held q
@@ -366,12 +366,12 @@ head-counts ws vs at u o b =
     e ∙ ap (λ z. pos (count_of z)) (sym e)
 
 -- the list is done
-pub end_none : (ws : List ℤ) (vs : List ℕ) (at u : ℕ) → Outer ws vs at u → length ws ≤ at → (s : Sight) × (s ≡ seen vs (clausesOf ws)) × Kept s u
+pub end_none : (ws : List ℤ) (vs : List ℕ) (at u : ℕ) → Outer ws vs at u → length ws ≤ at → (s : Sight) × (s ≡ seen vs (clauses_of ws)) × Kept s u
 end_none ws vs at u o b =
     let q : drop at ws ≡ [] = drop_of_length-le ws b in
     (o.so, last o.fuel o.so (rw q at o.same), o.kept)
   where
-    last : (f : ℕ) (s : Sight) → pass vs s (cut f []) ≡ seen vs (clausesOf ws) → s ≡ seen vs (clausesOf ws)
+    last : (f : ℕ) (s : Sight) → pass vs s (cut f []) ≡ seen vs (clauses_of ws) → s ≡ seen vs (clauses_of ws)
     last f s e = end-cut vs f s ∙ e
 
 pub ends-neither : (vs : List ℕ) (u : ℕ) (x : Sight) → (s : Sight) × (s ≡ x) × Kept s u → u ≡ 0 → neither ≡ x
@@ -384,20 +384,20 @@ ends-unit vs u x (conflicting, q, g) e = absurd g
 ends-unit vs u x (unit k, q, g) e = ap unit (ap (to_z w32) g.bits ∙ to_z-of_z g.fits) ∙ q
 ends-unit vs u x (neither, q, g) e = absurd (e g)
 
-pub code-true : (t : Truth) (r : ℕ) → r ≡ truthCode t → r ≡ 1 → t ≡ satisfied
-unfolding truthCode
+pub code-true : (t : Truth) (r : ℕ) → r ≡ truth_code t → r ≡ 1 → t ≡ satisfied
+unfolding truth_code
 code-true falsified r e h = absurd (omega arith)
 code-true satisfied r e h = refl
 code-true unassigned r e h = absurd (omega arith)
 
-pub code-open : (t : Truth) (r : ℕ) → r ≡ truthCode t → r ≡ 2 → t ≡ unassigned
-unfolding truthCode
+pub code-open : (t : Truth) (r : ℕ) → r ≡ truth_code t → r ≡ 2 → t ≡ unassigned
+unfolding truth_code
 code-open falsified r e h = absurd (omega arith)
 code-open satisfied r e h = absurd (omega arith)
 code-open unassigned r e h = refl
 
-pub code-false : (t : Truth) (r : ℕ) → r ≡ truthCode t → (r ≡ 1 → ⊥) → (r ≡ 2 → ⊥) → t ≡ falsified
-unfolding truthCode
+pub code-false : (t : Truth) (r : ℕ) → r ≡ truth_code t → (r ≡ 1 → ⊥) → (r ≡ 2 → ⊥) → t ≡ falsified
+unfolding truth_code
 code-false falsified r e h k = refl
 code-false satisfied r e h k = absurd (h e)
 code-false unassigned r e h k = absurd (k e)

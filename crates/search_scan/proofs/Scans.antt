@@ -7,20 +7,20 @@ use Prim.Native.Nat.{ℕ}
 use lib.IntN.{ℤ}
 use Rattle.prelude.specs.Tests.{all, any}
 use Rattle.search_scan.specs.Seen.{Sight, conflicting, unit, neither, seen}
-use Rattle.search_rules.specs.Rules.{Truth, falsified, satisfied, unassigned, literal, isFalsified, isSatisfied, conflict, openOf}
-use Rattle.search_rules.specs.Rules.{sameLiteral, only, unit_of, firstUnit}
+use Rattle.search_rules.specs.Rules.{Truth, falsified, satisfied, unassigned, literal, is_falsified, is_satisfied, conflict, open_of}
+use Rattle.search_rules.specs.Rules.{same_literal, only, unit_of, first_unit}
 
 -- what is seen of a clause so far: only false literals; open ones, all this one; different open ones; a true one
 pub data Clause : Type 0 where
-  allFalse : Clause
+  all_false : Clause
   sole : ℤ → Clause
   several : Clause
   is_held : Clause
 
 -- one open literal more
 unfoldable pub meet : Clause → ℤ → Clause
-meet allFalse l = sole l
-meet (sole k) l = cond (sameLiteral k l) (sole k) several
+meet all_false l = sole l
+meet (sole k) l = cond (same_literal k l) (sole k) several
 meet several l = several
 meet is_held l = is_held
 
@@ -37,15 +37,15 @@ keep neither l = unit l
 unfoldable pub pass : List ℕ → Sight → List (List ℤ) → Sight
 pass vs s [] = s
 pass vs s (c ∷ cs) =
-    elim (look vs allFalse c)
-    [ allFalse ↦ conflicting | sole l ↦ pass vs (keep s l) cs | several ↦ pass vs s cs | is_held ↦ pass vs s cs ]
+    elim (look vs all_false c)
+    [ all_false ↦ conflicting | sole l ↦ pass vs (keep s l) cs | several ↦ pass vs s cs | is_held ↦ pass vs s cs ]
 
 module _ (vs : List ℕ) where
-  abbrev anyTrue : List ℤ → Bool
-  anyTrue c = any (λ l. isSatisfied (literal vs l)) c
+  abbrev any_true : List ℤ → Bool
+  any_true c = any (λ l. is_satisfied (literal vs l)) c
 
-  abbrev allFalsified : List ℤ → Bool
-  allFalsified c = all (λ l. isFalsified (literal vs l)) c
+  abbrev all_falsified : List ℤ → Bool
+  all_falsified c = all (λ l. is_falsified (literal vs l)) c
 
   unfoldable meets : Clause → List ℤ → Clause
   meets s [] = s
@@ -56,27 +56,27 @@ module _ (vs : List ℕ) where
   meets-several [] = refl
   meets-several (l ∷ ls) = meets-several ls
 
-  meets-sole : (k : ℤ) (ls : List ℤ) → meets (sole k) ls ≡ cond (all (sameLiteral k) ls) (sole k) several
+  meets-sole : (k : ℤ) (ls : List ℤ) → meets (sole k) ls ≡ cond (all (same_literal k) ls) (sole k) several
   unfolding meets meet all
   meets-sole k [] = refl
-  meets-sole k (l ∷ ls) = by (sameLiteral k l) (meets-sole k ls)
+  meets-sole k (l ∷ ls) = by (same_literal k l) (meets-sole k ls)
     where
-      by : (b : Bool) → meets (sole k) ls ≡ cond (all (sameLiteral k) ls) (sole k) several
-          → meets (cond b (sole k) several) ls ≡ cond (b && all (sameLiteral k) ls) (sole k) several
+      by : (b : Bool) → meets (sole k) ls ≡ cond (all (same_literal k) ls) (sole k) several
+          → meets (cond b (sole k) several) ls ≡ cond (b && all (same_literal k) ls) (sole k) several
       by true p = p
       by false p = meets-several ls
 
   -- a clause in one pass: a true literal, else what its open literals come to
-  look_is : (s : Clause) (c : List ℤ) → look vs s c ≡ cond (anyTrue c) is_held (meets s (openOf vs c))
-  unfolding look any openOf meets isSatisfied
+  look_is : (s : Clause) (c : List ℤ) → look vs s c ≡ cond (any_true c) is_held (meets s (open_of vs c))
+  unfolding look any open_of meets is_satisfied
   look_is s [] = refl
   look_is s (l ∷ c) = by (literal vs l) (look_is s c) (look_is (meet s l) c)
     where
-      by : (t : Truth) → look vs s c ≡ cond (anyTrue c) is_held (meets s (openOf vs c))
-          → look vs (meet s l) c ≡ cond (anyTrue c) is_held (meets (meet s l) (openOf vs c))
+      by : (t : Truth) → look vs s c ≡ cond (any_true c) is_held (meets s (open_of vs c))
+          → look vs (meet s l) c ≡ cond (any_true c) is_held (meets (meet s l) (open_of vs c))
           → elim t as (λ _. Clause) [ falsified ↦ look vs s c | satisfied ↦ is_held | unassigned ↦ look vs (meet s l) c ]
-          ≡ cond (isSatisfied t || anyTrue c) is_held
-          (meets s (elim t as (λ _. List ℤ) [ falsified ↦ openOf vs c | satisfied ↦ openOf vs c | unassigned ↦ l ∷ openOf vs c ]))
+          ≡ cond (is_satisfied t || any_true c) is_held
+          (meets s (elim t as (λ _. List ℤ) [ falsified ↦ open_of vs c | satisfied ↦ open_of vs c | unassigned ↦ l ∷ open_of vs c ]))
       by falsified p q = p
       by satisfied p q = refl
       by unassigned p q = q
@@ -89,58 +89,58 @@ module _ (vs : List ℕ) where
   never true = refl
   never false = refl
 
-  all-falsified : (c : List ℤ) → allFalsified c ≡ cond (anyTrue c) false (is_empty (openOf vs c))
-  unfolding all any openOf isFalsified isSatisfied
+  all-falsified : (c : List ℤ) → all_falsified c ≡ cond (any_true c) false (is_empty (open_of vs c))
+  unfolding all any open_of is_falsified is_satisfied
   all-falsified [] = refl
   all-falsified (l ∷ c) = by (literal vs l) (all-falsified c)
     where
-      by : (t : Truth) → allFalsified c ≡ cond (anyTrue c) false (is_empty (openOf vs c))
-          → isFalsified t && allFalsified c
-          ≡ cond (isSatisfied t || anyTrue c) false
-          (is_empty (elim t as (λ _. List ℤ) [ falsified ↦ openOf vs c | satisfied ↦ openOf vs c | unassigned ↦ l ∷ openOf vs c ]))
+      by : (t : Truth) → all_falsified c ≡ cond (any_true c) false (is_empty (open_of vs c))
+          → is_falsified t && all_falsified c
+          ≡ cond (is_satisfied t || any_true c) false
+          (is_empty (elim t as (λ _. List ℤ) [ falsified ↦ open_of vs c | satisfied ↦ open_of vs c | unassigned ↦ l ∷ open_of vs c ]))
       by falsified p = p
       by satisfied p = refl
-      by unassigned p = never (anyTrue c)
+      by unassigned p = never (any_true c)
 
-  abbrev isAllFalse : Clause → Bool
-  isAllFalse allFalse = true
-  isAllFalse (sole l) = false
-  isAllFalse several = false
-  isAllFalse is_held = false
+  abbrev is_all_false : Clause → Bool
+  is_all_false all_false = true
+  is_all_false (sole l) = false
+  is_all_false several = false
+  is_all_false is_held = false
 
   abbrev sole_of : Clause → Option ℤ
-  sole_of allFalse = none
+  sole_of all_false = none
   sole_of (sole l) = some l
   sole_of several = none
   sole_of is_held = none
 
   -- what one pass over a clause shows is what the rules ask of it
   record Shows (c : List ℤ) (x : Clause) : Type 0 where
-    conflicts : allFalsified c ≡ isAllFalse x
+    conflicts : all_falsified c ≡ is_all_false x
     units : unit_of vs c ≡ sole_of x
 
-  shows : (c : List ℤ) → Shows c (look vs allFalse c)
+  shows : (c : List ℤ) → Shows c (look vs all_false c)
   unfolding unit_of only meets meet
-  shows c = rw (look_is allFalse c) (by (anyTrue c) (openOf vs c) (all-falsified c) refl refl)
+  shows c = rw (look_is all_false c) (by (any_true c) (open_of vs c) (all-falsified c) refl refl)
     where
       alike : (l : ℤ) (b : Bool)
-          → (false ≡ isAllFalse (cond b (sole l) several)) × (cond b (some l) none ≡ sole_of (cond b (sole l) several))
+          → (false ≡ is_all_false (cond b (sole l) several)) × (cond b (some l) none ≡ sole_of (cond b (sole l) several))
       alike l true = (refl, refl)
       alike l false = (refl, refl)
 
-      by : (b : Bool) (ls : List ℤ) → allFalsified c ≡ cond b false (is_empty ls) → anyTrue c ≡ b → openOf vs c ≡ ls
-          → Shows c (cond b is_held (meets allFalse ls))
+      by : (b : Bool) (ls : List ℤ) → all_falsified c ≡ cond b false (is_empty ls) → any_true c ≡ b → open_of vs c ≡ ls
+          → Shows c (cond b is_held (meets all_false ls))
       by true ls e p q = record { conflicts = e; units = rw p refl }
       by false [] e p q = record { conflicts = e; units = rw (p, q) refl }
       by false (l ∷ ls) e p q =
-          let a = alike l (all (sameLiteral l) ls) in
+          let a = alike l (all (same_literal l) ls) in
           rw (meets-sole l ls) (record { conflicts = e ∙ a.0; units = rw (p, q) a.1 })
 
-  abbrev keepFirst : Sight → Option ℤ → Sight
-  keepFirst s none = s
-  keepFirst s (some l) = keep s l
+  abbrev keep_first : Sight → Option ℤ → Sight
+  keep_first s none = s
+  keep_first s (some l) = keep s l
 
-  keep-first : (s : Sight) (l : ℤ) (u : Option ℤ) → keepFirst (keep s l) u ≡ keep s l
+  keep-first : (s : Sight) (l : ℤ) (u : Option ℤ) → keep_first (keep s l) u ≡ keep s l
   unfolding keep
   keep-first conflicting l none = refl
   keep-first conflicting l (some k) = refl
@@ -150,29 +150,29 @@ module _ (vs : List ℕ) where
   keep-first neither l (some k) = refl
 
   pass_step : (s : Sight) (c : List ℤ) (cs : List (List ℤ)) → ((s : Sight) → pass vs s cs
-      ≡ cond (conflict vs cs) conflicting (keepFirst s (firstUnit vs cs)))
+      ≡ cond (conflict vs cs) conflicting (keep_first s (first_unit vs cs)))
       → (x : Clause) → Shows c x
-      → elim x as (λ _. Sight) [ allFalse ↦ conflicting | sole l ↦ pass vs (keep s l) cs | several ↦ pass vs s cs | is_held ↦ pass vs s cs ]
-      ≡ cond (allFalsified c || conflict vs cs) conflicting
-      (keepFirst s (elim (unit_of vs c) as (λ _. Option ℤ) [ none ↦ firstUnit vs cs | some l ↦ some l ]))
-  pass_step s c cs p allFalse h = rw h.conflicts refl
+      → elim x as (λ _. Sight) [ all_false ↦ conflicting | sole l ↦ pass vs (keep s l) cs | several ↦ pass vs s cs | is_held ↦ pass vs s cs ]
+      ≡ cond (all_falsified c || conflict vs cs) conflicting
+      (keep_first s (elim (unit_of vs c) as (λ _. Option ℤ) [ none ↦ first_unit vs cs | some l ↦ some l ]))
+  pass_step s c cs p all_false h = rw h.conflicts refl
   pass_step s c cs p (sole l) h =
-      rw (h.conflicts, h.units) (p (keep s l) ∙ ap (cond (conflict vs cs) conflicting) (keep-first s l (firstUnit vs cs)))
+      rw (h.conflicts, h.units) (p (keep s l) ∙ ap (cond (conflict vs cs) conflicting) (keep-first s l (first_unit vs cs)))
   pass_step s c cs p several h = rw (h.conflicts, h.units) (p s)
   pass_step s c cs p is_held h = rw (h.conflicts, h.units) (p s)
 
-  pass-is : (cs : List (List ℤ)) (s : Sight) → pass vs s cs ≡ cond (conflict vs cs) conflicting (keepFirst s (firstUnit vs cs))
-  unfolding pass conflict any firstUnit
+  pass-is : (cs : List (List ℤ)) (s : Sight) → pass vs s cs ≡ cond (conflict vs cs) conflicting (keep_first s (first_unit vs cs))
+  unfolding pass conflict any first_unit
   pass-is [] s = refl
-  pass-is (c ∷ cs) s = pass_step s c cs (pass-is cs) (look vs allFalse c) (shows c)
+  pass-is (c ∷ cs) s = pass_step s c cs (pass-is cs) (look vs all_false c) (shows c)
 
   -- the pass shows a conflict anywhere, else the first unit clause
   pub pass-seen : (cs : List (List ℤ)) → pass vs neither cs ≡ seen vs cs
   unfolding seen keep
-  pass-seen cs = pass-is cs neither ∙ by (conflict vs cs) (firstUnit vs cs)
+  pass-seen cs = pass-is cs neither ∙ by (conflict vs cs) (first_unit vs cs)
     where
       by : (b : Bool) (u : Option ℤ)
-          → cond b conflicting (keepFirst neither u)
+          → cond b conflicting (keep_first neither u)
           ≡ elim b as (λ _. Sight) [ true ↦ conflicting | false ↦ elim u as (λ _. Sight) [ some l ↦ unit l | none ↦ neither ] ]
       by true u = refl
       by false none = refl

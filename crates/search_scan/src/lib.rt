@@ -1,11 +1,11 @@
 // What the values say of a literal and of the clause list.
 ghost use Rattle.std.specs.Prelude.{◌≡◌, ◌≤◌, length};
-ghost use Rattle.clause_list.specs.ClauseList.{clausesOf};
-ghost use Rattle.literal.specs.Words.{lastVariable};
+ghost use Rattle.clause_list.specs.ClauseList.{clauses_of};
+ghost use Rattle.literal.specs.Words.{last_variable};
 ghost use Rattle.search_rules.specs.Rules.{literal};
 ghost use Rattle.search_rules.specs.Held.{InRange};
 ghost use Rattle.search_rules.specs.Inner.{Fine};
-ghost use Rattle.search_scan.specs.Seen.{truthCode, seenAs, seen};
+ghost use Rattle.search_scan.specs.Seen.{truth_code, seen_as, seen};
 
 // What a look over the clauses shows.
 #[derive(Drop)]
@@ -18,8 +18,8 @@ pub enum Seen {
 // What the values say of a literal: 0 false, 1 true, 2 open.
 fn truth(values: &[u8], l: i32) -> u8
     requires in_range { InRange (length values.now) l }
-    requires values_len_bound { length values.now ≤ lastVariable }
-    ensures { result ≡ truthCode (literal values.now l) }
+    requires values_len_bound { length values.now ≤ last_variable }
+    ensures { result ≡ truth_code (literal values.now l) }
 {
     let at = literal::place(l);
     let x = values[at];
@@ -37,8 +37,8 @@ fn truth(values: &[u8], l: i32) -> u8
 // the same. A clause is left at a true literal, and as soon as it can be neither.
 pub fn scan(list: &[i32], values: &[u8]) -> Seen
     requires fine { Fine (length values.now) list.now }
-    requires values_len_bound { length values.now ≤ lastVariable }
-    ensures { seenAs result ≡ seen values.now (clausesOf list.now) }
+    requires values_len_bound { length values.now ≤ last_variable }
+    ensures { seen_as result ≡ seen values.now (clauses_of list.now) }
 {
     let mut at: usize = 0;
     let mut unit: i32 = 0;

@@ -11,8 +11,8 @@ use lib.Seq.{take_all}
 use borrow.Author.Tests.{lt-ltb, le-ltb}
 use Rattle.prelude.specs.Tests.{each, any}
 use Rattle.prelude.proofs.Laws.{or_left, or_right, each-cong}
-use Rattle.search_rules.specs.Rules.{sameLiteral}
-use Rattle.search_rules.specs.Held.{strays, repeats, contradicts, onTrail, setOutside, filledOutside, noState}
+use Rattle.search_rules.specs.Rules.{same_literal}
+use Rattle.search_rules.specs.Held.{strays, repeats, contradicts, on_trail, set_outside, filled_outside, no_state}
 use Rattle.search_state.specs.Inner.{faulty, Marked, MarkedIf, settled}
 
 -- the answer of `mark`
@@ -32,32 +32,32 @@ or-three false true c d e = refl
 or-three false false c d e = or_left c d e
 
 module _ (values : List ℕ) (trail : List ℤ) (n : ℕ) where
-  pub too_long : length values < n → false ≡ not (noState (length values) values trail n)
-  unfolding noState
+  pub too_long : length values < n → false ≡ not (no_state (length values) values trail n)
+  unfolding no_state
   too_long h = rw (lt-ltb (length values) n h)
 
-  pub at-fault : faulty values (take n trail) ≡ true → false ≡ not (noState (length values) values trail n)
-  unfolding noState
+  pub at-fault : faulty values (take n trail) ≡ true → false ≡ not (no_state (length values) values trail n)
+  unfolding no_state
   at-fault e =
       let v = length values in
       let literals = take n trail in
       ap not
       (sym
       (or_right (ltb v n) _
-      (or-three (strays v literals) (repeats literals) (contradicts values literals) (setOutside v values literals || filledOutside trail n) e)))
+      (or-three (strays v literals) (repeats literals) (contradicts values literals) (set_outside v values literals || filled_outside trail n) e)))
 
   module _ (h : n ≤ length values) (seen : List Bool) (m : Marked values (take n trail) seen) where
     -- the conditions that are left
-    left : noState (length values) values trail n ≡ (not (each (length values) (settled values seen)) || filledOutside trail n)
-    unfolding noState
-    left = rw (le-ltb (length values) n h, m.within, m.apart, m.agree) (ap (λ (b : Bool). not b || filledOutside trail n) same)
+    left : no_state (length values) values trail n ≡ (not (each (length values) (settled values seen)) || filled_outside trail n)
+    unfolding no_state
+    left = rw (le-ltb (length values) n h, m.within, m.apart, m.agree) (ap (λ (b : Bool). not b || filled_outside trail n) same)
       where
-        same : each (length values) (λ i. onTrail (take n trail) i || eqb (get_or values i 2) 2) ≡ each (length values) (settled values seen)
+        same : each (length values) (λ i. on_trail (take n trail) i || eqb (get_or values i 2) 2) ≡ each (length values) (settled values seen)
         same = each-cong _ _ (length values) (λ i l. ap (λ (b : Bool). b || eqb (get_or values i 2) 2) (sym (m.marks i)))
 
-    pub set-outside : each (length values) (settled values seen) ≡ false → false ≡ not (noState (length values) values trail n)
+    pub set-outside : each (length values) (settled values seen) ≡ false → false ≡ not (no_state (length values) values trail n)
     set-outside e = rw (left, e)
 
     pub by-words : each (length values) (settled values seen) ≡ true
-        → not (any (λ w. not (sameLiteral w (pos 0))) (take (length trail - n) (drop n trail))) ≡ not (noState (length values) values trail n)
+        → not (any (λ w. not (same_literal w (pos 0))) (take (length trail - n) (drop n trail))) ≡ not (no_state (length values) values trail n)
     by-words e = rw (left, e, take_all (length trail - n) (drop n trail) (simp length-drop (omega arith)))

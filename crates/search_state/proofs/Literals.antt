@@ -10,12 +10,12 @@ use mir.Syntax.{w32}
 use mir.Val.{SFits, of_z}
 use borrow.Author.Tests.{eq-eqb, eqb-true, ltb-false}
 use Rattle.prelude.proofs.Laws.{clash}
-use Rattle.literal.specs.Literals.{isLiteral}
-use Rattle.literal.specs.Words.{isPositive, lastVariable}
+use Rattle.literal.specs.Literals.{is_literal}
+use Rattle.literal.specs.Words.{is_positive, last_variable}
 use Rattle.literal.proofs.Signs.{same_word}
 use Rattle.literal.proofs.Words.{within-words}
-use Rattle.search_rules.specs.Rules.{sameLiteral, place_of}
-use Rattle.search_rules.specs.Held.{goesWith}
+use Rattle.search_rules.specs.Rules.{same_literal, place_of}
+use Rattle.search_rules.specs.Held.{goes_with}
 use Rattle.search_rules.proofs.Assignments.{same_true, same_refl}
 use Rattle.search_rules.proofs.Booleans.{bool_false}
 
@@ -26,7 +26,7 @@ place-of (pos n) = sub-one n
 place-of (negsuc n) = sub-one (suc n)
 
 -- the same literal has the same place
-pub same_place : (k l : ℤ) → sameLiteral k l ≡ true → eqb (place_of k) (place_of l) ≡ true
+pub same_place : (k l : ℤ) → same_literal k l ≡ true → eqb (place_of k) (place_of l) ≡ true
 same_place k l e = eq-eqb (place_of k) (place_of l) (ap place_of (same_true k l e))
 
 -- no byte goes with both literals of a variable
@@ -34,9 +34,9 @@ one-sign : (b : ℕ) → eqb b 1 ≡ true → eqb b 0 || eqb b 3 ≡ false
 one-sign b e = rw (eqb-true b 1 e)
 
 -- so two literals of one variable that go with its byte are the same
-pub same-literal : (k l : ℤ) (b : ℕ) → 1 ≤ nat_abs k → 1 ≤ nat_abs l → place_of k ≡ place_of l → goesWith k b ≡ true → goesWith l b ≡ true
-    → sameLiteral k l ≡ true
-unfolding sameLiteral place_of goesWith
+pub same-literal : (k l : ℤ) (b : ℕ) → 1 ≤ nat_abs k → 1 ≤ nat_abs l → place_of k ≡ place_of l → goes_with k b ≡ true → goes_with l b ≡ true
+    → same_literal k l ≡ true
+unfolding same_literal place_of goes_with
 same-literal (pos zero) l b g h e s t = absurd (omega arith)
 same-literal (pos (suc m)) (pos zero) b g h e s t = absurd (omega arith)
 same-literal (pos (suc m)) (pos (suc n)) b g h e s t = eq-eqb (suc m) (suc n) (ap suc e)
@@ -46,29 +46,29 @@ same-literal (negsuc m) (negsuc n) b g h e s t = eq-eqb m n e
 
 -- the answers of `goes_with`: z is the literal as the machine has it
 module _ (z l : ℤ) (b : ℕ) (e : z ≡ l) where
-  pub goes_above : isPositive z ≡ true → eqb b 1 ≡ goesWith l b
-  unfolding goesWith
+  pub goes_above : is_positive z ≡ true → eqb b 1 ≡ goes_with l b
+  unfolding goes_with
   goes_above t = by l (rw e at t)
     where
-      by : (l : ℤ) → isPositive l ≡ true → eqb b 1 ≡ goesWith l b
+      by : (l : ℤ) → is_positive l ≡ true → eqb b 1 ≡ goes_with l b
       by (pos n) t = refl
       by (negsuc n) t = clash false t refl
 
-  pub goes-below : 1 ≤ nat_abs l → isPositive z ≡ false → eqb b 0 || eqb b 3 ≡ goesWith l b
-  unfolding goesWith
+  pub goes-below : 1 ≤ nat_abs l → is_positive z ≡ false → eqb b 0 || eqb b 3 ≡ goes_with l b
+  unfolding goes_with
   goes-below h t = by l h (rw e at t)
     where
-      by : (l : ℤ) → 1 ≤ nat_abs l → isPositive l ≡ false → eqb b 0 || eqb b 3 ≡ goesWith l b
+      by : (l : ℤ) → 1 ≤ nat_abs l → is_positive l ≡ false → eqb b 0 || eqb b 3 ≡ goes_with l b
       by (pos n) h t = absurd (omega (arith, ltb-false 0 n t))
       by (negsuc n) h t = refl
 
 -- the answer of `is_literal` for so many variables
-pub is_within : (v : ℕ) (z l : ℤ) → v ≤ 16000 → z ≡ l → isLiteral (min v lastVariable) z ≡ isLiteral v l
-is_within v z l h e = ap (isLiteral (min v lastVariable)) e ∙ within-words v l (omega arith)
+pub is_within : (v : ℕ) (z l : ℤ) → v ≤ 16000 → z ≡ l → is_literal (min v last_variable) z ≡ is_literal v l
+is_within v z l h e = ap (is_literal (min v last_variable)) e ∙ within-words v l (omega arith)
 
 -- `w != 0` compares the bits
-pub zero_word : (w : ℤ) → SFits w32 w → of_z w32 w ≡ 0 → sameLiteral w (pos 0) ≡ true
+pub zero_word : (w : ℤ) → SFits w32 w → of_z w32 w ≡ 0 → same_literal w (pos 0) ≡ true
 zero_word w f e = same_refl w (pos 0) (same_word w (pos 0) f (record { sfits = omega arith }) e)
 
-pub other_word : (w : ℤ) → (of_z w32 w ≡ 0 → ⊥) → sameLiteral w (pos 0) ≡ false
-other_word w h = bool_false (sameLiteral w (pos 0)) (λ e. h (ap (of_z w32) (same_true w (pos 0) e)))
+pub other_word : (w : ℤ) → (of_z w32 w ≡ 0 → ⊥) → same_literal w (pos 0) ≡ false
+other_word w h = bool_false (same_literal w (pos 0)) (λ e. h (ap (of_z w32) (same_true w (pos 0) e)))

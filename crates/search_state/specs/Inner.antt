@@ -1,7 +1,7 @@
 -- What the functions of this crate say to each other.
 -- No public contract reaches this file: nothing here needs belief.
 use Rattle.std.specs.Prelude.{◌≡◌, Bool, true, false, ◌||◌, List, ℕ, ◌≤◌, eqb, ℤ, length, get_or, replicate}
-use Rattle.search_rules.specs.Held.{strays, repeats, contradicts, onTrail}
+use Rattle.search_rules.specs.Held.{strays, repeats, contradicts, on_trail}
 
 -- a literal is out of range, repeated or contradicts its value
 abbrev pub faulty : List ℕ → List ℤ → Bool
@@ -13,7 +13,7 @@ pub record Marked (values : List ℕ) (literals : List ℤ) (seen : List Bool) :
   pub within : strays (length values) literals ≡ false
   pub apart : repeats literals ≡ false
   pub agree : contradicts values literals ≡ false
-  pub marks : (i : ℕ) → get_or seen i false ≡ onTrail literals i
+  pub marks : (i : ℕ) → get_or seen i false ≡ on_trail literals i
 
 -- what `mark` leaves behind, by its answer
 unfoldable pub MarkedIf : Bool → List ℕ → List ℤ → List Bool → Type 0

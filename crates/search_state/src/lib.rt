@@ -1,9 +1,9 @@
 // Number 14 (document 02, Changes 1 and 3): whether values, trail and a length hold a state of the rules, and whether the steps are too many.
 ghost use Rattle.std.specs.Prelude.{◌≡◌, not, ◌&&◌, ◌≤◌, pos, nat_abs, length, get_or};
 ghost use Rattle.prelude.specs.Tests.{each, any};
-ghost use Rattle.literal.specs.Literals.{isLiteral};
-ghost use Rattle.search_rules.specs.Rules.{sameLiteral, place_of};
-ghost use Rattle.search_rules.specs.Held.{goesWith, noState, steps_of, tooMany};
+ghost use Rattle.literal.specs.Literals.{is_literal};
+ghost use Rattle.search_rules.specs.Rules.{same_literal, place_of};
+ghost use Rattle.search_rules.specs.Held.{goes_with, no_state, steps_of, too_many};
 ghost use Rattle.search_state.specs.Inner.{MarkedIf, Empty, settled};
 
 use search_rules::Position;
@@ -14,7 +14,7 @@ const STEP_LIMIT: u64 = 18446744073709551615;
 // Whether a literal goes with the byte of its variable.
 fn goes_with(l: i32, b: u8) -> bool
     requires { 1 ≤ nat_abs l }
-    ensures { result ≡ goesWith l b }
+    ensures { result ≡ goes_with l b }
 {
     if literal::is_positive(l) {
         return b == 1;
@@ -28,7 +28,7 @@ fn goes_with(l: i32, b: u8) -> bool
 // Whether a word is a literal of the variables and goes with its value.
 fn agrees(values: &[u8], l: i32) -> bool
     requires { length values.now ≤ 16000 }
-    ensures { result ≡ (isLiteral (length values.now) l && goesWith l (get_or values.now (place_of l) 2)) }
+    ensures { result ≡ (is_literal (length values.now) l && goes_with l (get_or values.now (place_of l) 2)) }
 {
     let v = values.len() as u32;
     if !literal::is_literal(l, v) {
@@ -80,7 +80,7 @@ fn open_outside(values: &[u8], seen: &[bool]) -> bool
 
 // Whether each word is 0.
 fn all_zero(words: &[i32]) -> bool
-    ensures { result ≡ not (any (λ w. not (sameLiteral w (pos 0))) words.now) }
+    ensures { result ≡ not (any (λ w. not (same_literal w (pos 0))) words.now) }
 {
     let mut i = 0;
     while i < words.len() {
@@ -99,7 +99,7 @@ fn holds(values: &[u8], trail: &[i32], used: usize, seen: &mut [bool]) -> bool
     requires used_in_bounds { used ≤ length values.now }
     requires values_in_bounds { length values.now ≤ length seen.old }
     requires empty { Empty seen.old }
-    ensures { result ≡ not (noState (length values.now) values.now trail.now used) }
+    ensures { result ≡ not (no_state (length values.now) values.now trail.now used) }
 {
     if !mark(values, &trail[..used], seen) {
         return false;
@@ -115,7 +115,7 @@ fn holds(values: &[u8], trail: &[i32], used: usize, seen: &mut [bool]) -> bool
 pub fn is_state(values: &[u8], trail: &[i32], used: usize) -> bool
     requires values_len_bound { length values.now ≤ 16000 }
     requires trail_len { length trail.now ≡ length values.now }
-    ensures { result ≡ not (noState (length values.now) values.now trail.now used) }
+    ensures { result ≡ not (no_state (length values.now) values.now trail.now used) }
 {
     if values.len() < used {
         return false;
@@ -130,7 +130,7 @@ pub fn is_state(values: &[u8], trail: &[i32], used: usize) -> bool
 
 // Whether the steps done, of all three kinds, and those allowed pass 2^64 - 1. What is left of it is told, so that no sum wraps.
 pub fn too_many(done: Position, budget: u64) -> bool
-    ensures { result ≡ tooMany (steps_of done) budget }
+    ensures { result ≡ too_many (steps_of done) budget }
 {
     let after_propagations = STEP_LIMIT - done.propagations;
     if after_propagations < done.decisions {

@@ -21,7 +21,7 @@ fn only(test: bool, s: Shape) -> Shape
 }
 
 pub fn is_shaped(x: Shape) -> bool
-    ensures { result ≡ spec.isShaped x }
+    ensures { result ≡ spec.is_shaped x }
 {
     match x {
         Shape::Ill => false,
@@ -32,7 +32,7 @@ pub fn is_shaped(x: Shape) -> bool
 }
 
 pub fn is_formula(x: Shape) -> bool
-    ensures { result ≡ spec.isFormula x }
+    ensures { result ≡ spec.is_formula x }
 {
     match x {
         Shape::Ill => false,
@@ -43,7 +43,7 @@ pub fn is_formula(x: Shape) -> bool
 }
 
 fn is_expression(x: Shape) -> bool
-    ensures { result ≡ spec.isExpression x }
+    ensures { result ≡ spec.is_expression x }
 {
     match x {
         Shape::Ill => false,
@@ -54,7 +54,7 @@ fn is_expression(x: Shape) -> bool
 }
 
 fn is_set_of(s: usize, y: Shape) -> bool
-    ensures { result ≡ spec.isSetOf s y }
+    ensures { result ≡ spec.is_set_of s y }
 {
     match y {
         Shape::Ill => false,
@@ -65,7 +65,7 @@ fn is_set_of(s: usize, y: Shape) -> bool
 }
 
 fn is_relation_of(s: usize, t: usize, y: Shape) -> bool
-    ensures { result ≡ spec.isRelationOf s t y }
+    ensures { result ≡ spec.is_relation_of s t y }
 {
     match y {
         Shape::Ill => false,
@@ -76,7 +76,7 @@ fn is_relation_of(s: usize, t: usize, y: Shape) -> bool
 }
 
 fn equal_shape(x: Shape, y: Shape) -> bool
-    ensures { result ≡ spec.equalShape x y }
+    ensures { result ≡ spec.equal_shape x y }
 {
     match x {
         Shape::Ill => false,
@@ -87,7 +87,7 @@ fn equal_shape(x: Shape, y: Shape) -> bool
 }
 
 fn join_set(s: usize, y: Shape) -> Shape
-    ensures { result ≡ spec.joinSet s y }
+    ensures { result ≡ spec.join_set s y }
 {
     match y {
         Shape::Ill => Shape::Ill,
@@ -98,7 +98,7 @@ fn join_set(s: usize, y: Shape) -> Shape
 }
 
 fn join_relation(s: usize, t: usize, y: Shape) -> Shape
-    ensures { result ≡ spec.joinRelation s t y }
+    ensures { result ≡ spec.join_relation s t y }
 {
     match y {
         Shape::Ill => Shape::Ill,
@@ -109,7 +109,7 @@ fn join_relation(s: usize, t: usize, y: Shape) -> Shape
 }
 
 fn join_shape(x: Shape, y: Shape) -> Shape
-    ensures { result ≡ spec.joinShape x y }
+    ensures { result ≡ spec.join_shape x y }
 {
     match x {
         Shape::Ill => Shape::Ill,
@@ -120,7 +120,7 @@ fn join_shape(x: Shape, y: Shape) -> Shape
 }
 
 fn product_set(s: usize, y: Shape) -> Shape
-    ensures { result ≡ spec.productSet s y }
+    ensures { result ≡ spec.product_set s y }
 {
     match y {
         Shape::Ill => Shape::Ill,
@@ -131,7 +131,7 @@ fn product_set(s: usize, y: Shape) -> Shape
 }
 
 fn product_shape(x: Shape, y: Shape) -> Shape
-    ensures { result ≡ spec.productShape x y }
+    ensures { result ≡ spec.product_shape x y }
 {
     match x {
         Shape::Ill => Shape::Ill,
@@ -142,7 +142,7 @@ fn product_shape(x: Shape, y: Shape) -> Shape
 }
 
 fn inverse_shape(x: Shape) -> Shape
-    ensures { result ≡ spec.inverseShape x }
+    ensures { result ≡ spec.inverse_shape x }
 {
     match x {
         Shape::Ill => Shape::Ill,
@@ -153,7 +153,7 @@ fn inverse_shape(x: Shape) -> Shape
 }
 
 fn closure_shape(x: Shape) -> Shape
-    ensures { result ≡ spec.closureShape x }
+    ensures { result ≡ spec.closure_shape x }
 {
     match x {
         Shape::Ill => Shape::Ill,

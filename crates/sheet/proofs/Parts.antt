@@ -4,7 +4,7 @@ use mathlib.Core.List.{List}
 use Prim.Native.Nat.{ℕ, ◌+◌, ◌-◌}
 use native.Mathlib.Omega.{arith}
 use lib.ListN.{take, drop}
-use Rattle.sheet_rules.specs.Blocks.{length_at, block_at, after, relationsHead, nodesHead, blocksEnd, fourBlocks, sheetOf}
+use Rattle.sheet_rules.specs.Blocks.{length_at, block_at, after, relations_head, nodes_head, blocks_end, four_blocks, sheet_of}
 
 module _ (s : List ℕ) where
   part-is : (head end : ℕ) → end ≡ after s head → take (end - (head + 2)) (drop (head + 2) s) ≡ block_at s head
@@ -14,21 +14,21 @@ module _ (s : List ℕ) where
 
   module _ (variables relations nodes end : ℕ) (ev : variables ≡ after s 1) (er : relations ≡ after s variables)
       (en : nodes ≡ after s relations) (ee : end ≡ after s nodes) where
-    relations-head : relations ≡ relationsHead s
+    relations-head : relations ≡ relations_head s
     relations-head = er ∙ ap (after s) ev
 
-    nodes-head : nodes ≡ nodesHead s
+    nodes-head : nodes ≡ nodes_head s
     nodes-head = en ∙ ap (after s) relations-head
 
-    pub end_is : end ≡ blocksEnd s
+    pub end_is : end ≡ blocks_end s
     end_is = ee ∙ ap (after s) nodes-head
 
-    pub parts_are : fourBlocks (take (variables - 3) (drop 3 s)) (take (relations - (variables + 2)) (drop (variables + 2) s))
+    pub parts_are : four_blocks (take (variables - 3) (drop 3 s)) (take (relations - (variables + 2)) (drop (variables + 2) s))
         (take (nodes - (relations + 2)) (drop (relations + 2) s)) (take (end - (nodes + 2)) (drop (nodes + 2) s))
-        ≡ sheetOf s
+        ≡ sheet_of s
     parts_are =
         let p₁ = part-is 1 variables ev in
         let p₂ = part-is variables relations er ∙ ap (block_at s) ev in
         let p₃ = part-is relations nodes en ∙ ap (block_at s) relations-head in
         let p₄ = part-is nodes end ee ∙ ap (block_at s) nodes-head in
-        λ i. fourBlocks (p₁ i) (p₂ i) (p₃ i) (p₄ i)
+        λ i. four_blocks (p₁ i) (p₂ i) (p₃ i) (p₄ i)

@@ -6,7 +6,7 @@ use native.Mathlib.Omega.{arith}
 use native.Mathlib.Nat.{mul-le-mul_left, mul-le-mul_right, zero-mul}
 use native.Mathlib.Decide.{dec_le}
 use Rattle.kinds.specs.declared.Row.{Row}
-use Rattle.sheet_rules.specs.Tables.{isNode, isVariable, visitsBy}
+use Rattle.sheet_rules.specs.Tables.{is_node, is_variable, visits_by}
 use Rattle.sheet.specs.Filling.{capped}
 
 pub capped_le : (n : ℕ) → capped n ≤ 1000001
@@ -38,10 +38,10 @@ capped-sum p q times = go (dec_le p 1000001) (dec_le q 1000001)
         rw (ep, eq) (many times hq)
     go (no hp) d = omega arith
 
-pub capped-visits : (row : Row) (atoms p q : ℕ) → capped (visitsBy row atoms (capped p) (capped q)) ≡ capped (visitsBy row atoms p q)
+pub capped-visits : (row : Row) (atoms p q : ℕ) → capped (visits_by row atoms (capped p) (capped q)) ≡ capped (visits_by row atoms p q)
 capped-visits row atoms p q =
-    rw (cond-capped (isNode row.a) p, cond-capped (isNode row.b) q)
-    (capped-sum (cond (isNode row.a) p 0) (cond (isNode row.b) q 0) (cond (isVariable row.a) atoms 1))
+    rw (cond-capped (is_node row.a) p, cond-capped (is_node row.b) q)
+    (capped-sum (cond (is_node row.a) p 0) (cond (is_node row.b) q 0) (cond (is_variable row.a) atoms 1))
 
 -- no sum of visits leaves 64 bits
 pub product-fits : (times right : ℕ) → times ≤ 255 → right ≤ 1000001 → times * right ≤ 255000255

@@ -1,7 +1,7 @@
 // Bytes and lengths of a sheet.
 ghost use Rattle.std.specs.Prelude.{◌≡◌, ◌+◌, ◌*◌, ◌<◌, ◌≤◌};
 ghost use Rattle.sheet_rules.specs.Blocks as blocks;
-ghost use Rattle.sheet.specs.Filling.{scopeIn};
+ghost use Rattle.sheet.specs.Filling.{scope_in};
 
 fn wide(x: u8) -> usize
     ensures { result ≡ x }
@@ -34,7 +34,7 @@ pub(crate) fn after(s: &[u8], head: usize) -> usize
 
 // The atoms that sort k can have: a byte from 129 on is a limit.
 pub fn scope_at(sorts: &[u8], k: usize) -> usize
-    ensures { (result ≡ scopeIn sorts.now k) × (result < 256) }
+    ensures { (result ≡ scope_in sorts.now k) × (result < 256) }
 {
     let b = byte(sorts, k);
     if 129 <= b { b - 128 } else { b }

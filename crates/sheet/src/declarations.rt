@@ -2,15 +2,15 @@
 ghost use Rattle.std.specs.Prelude.{◌≡◌, ◌<◌, ◌≤◌, ◌/◌, ltb, length};
 ghost use Rattle.prelude.specs.Tests.{each, between};
 ghost use Rattle.sheet_rules.specs.Blocks as blocks;
-ghost use Rattle.sheet_rules.specs.Reading.{relationDeclared};
-ghost use Rattle.sheet.specs.Filling.{scopeIn};
+ghost use Rattle.sheet_rules.specs.Reading.{relation_declared};
+ghost use Rattle.sheet.specs.Filling.{scope_in};
 
 use super::bytes::{byte, field, scope_at};
 use prelude::{both, choose, within};
 
 // Number 4: each scope, or upper limit, is one of 1 to 8.
 pub(crate) fn scopes_fine(sorts: &[u8]) -> bool
-    ensures { result ≡ each (length sorts.now) (λ k. between 1 8 (scopeIn sorts.now k)) }
+    ensures { result ≡ each (length sorts.now) (λ k. between 1 8 (scope_in sorts.now k)) }
 {
     let mut fine = true;
     let mut k: usize = 0;
@@ -38,7 +38,7 @@ pub(crate) fn variables_fine(variables: &[u8], sorts: usize) -> bool
 fn relation_fine(relations: &[u8], sorts: usize, r: usize) -> bool
     requires { r ≤ 16 }
     ensures { (sheet : blocks.Sheet) → sheet.relations ≡ relations.now → length sheet.sorts ≡ sorts
-        → result ≡ relationDeclared sheet r }
+        → result ≡ relation_declared sheet r }
 {
     let columns = field(relations, 4, r, 0);
     let mark = field(relations, 4, r, 1);
@@ -55,7 +55,7 @@ fn relation_fine(relations: &[u8], sorts: usize, r: usize) -> bool
 pub(crate) fn relations_fine(relations: &[u8], sorts: usize) -> bool
     requires { length relations.now / 4 ≤ 16 }
     ensures { (sheet : blocks.Sheet) → sheet.relations ≡ relations.now → length sheet.sorts ≡ sorts
-        → result ≡ each (blocks.relationCount sheet) (relationDeclared sheet) }
+        → result ≡ each (blocks.relation_count sheet) (relation_declared sheet) }
 {
     let count = relations.len() / 4;
     let mut fine = true;

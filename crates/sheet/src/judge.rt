@@ -65,8 +65,8 @@ fn layout(sorts: usize, variables: usize, relations: usize, nodes: usize) -> Lay
 fn judge_walk(sorts: &[u8], variables: &[u8], relations: &[u8], nodes: &[u8]) -> Reading
     requires { (length sorts.now ≤ 8) × (length variables.now ≤ 4) × (length relations.now ≤ 100) × (1 ≤ length nodes.now / 3)
         × (length nodes.now / 3 ≤ 200) }
-    ensures { answer_of result ≡ spec.walkJudged
-        (blocks.fourBlocks sorts.now variables.now relations.now nodes.now) }
+    ensures { answer_of result ≡ spec.walk_judged
+        (blocks.four_blocks sorts.now variables.now relations.now nodes.now) }
 {
     let count = nodes.len() / 3;
     let root = count - 1;
@@ -94,8 +94,8 @@ pub(crate) fn judge_blocks(
     relations: &[u8],
     nodes: &[u8],
 ) -> Reading
-    ensures { answer_of result ≡ spec.wholeJudged
-        (blocks.fourBlocks sorts.now variables.now relations.now nodes.now) }
+    ensures { answer_of result ≡ spec.whole_judged
+        (blocks.four_blocks sorts.now variables.now relations.now nodes.now) }
 {
     let sort_count = sorts.len();
     let variable_count = variables.len();

@@ -3,14 +3,14 @@ ghost use Rattle.std.specs.Prelude.{◌≡◌, ◌<◌, ◌≤◌, ◌/◌, leng
 ghost use Rattle.prelude.specs.Tests.{each};
 ghost use Rattle.sheet_rules.specs.Blocks as blocks;
 ghost use Rattle.sheet_rules.specs.Tables as tables;
-ghost use Rattle.sheet_rules.specs.Reading.{fieldFine, nodeFine};
+ghost use Rattle.sheet_rules.specs.Reading.{field_fine, node_fine};
 
 use super::bytes::field;
 use kinds::{Field, is_known, row_of};
 use prelude::both;
 
 pub(crate) fn is_node(f: Field) -> bool
-    ensures { result ≡ tables.isNode f }
+    ensures { result ≡ tables.is_node f }
 {
     match f {
         Field::Unused => false,
@@ -22,7 +22,7 @@ pub(crate) fn is_node(f: Field) -> bool
 }
 
 pub(crate) fn is_variable(f: Field) -> bool
-    ensures { result ≡ tables.isVariable f }
+    ensures { result ≡ tables.is_variable f }
 {
     match f {
         Field::Unused => false,
@@ -42,8 +42,8 @@ fn field_fine(
     v: usize,
     x: usize,
 ) -> bool
-    ensures { (sheet : blocks.Sheet) → blocks.sortCount sheet ≡ sorts → blocks.variableCount sheet ≡ variables
-        → blocks.relationCount sheet ≡ relations → result ≡ fieldFine sheet f v x }
+    ensures { (sheet : blocks.Sheet) → blocks.sort_count sheet ≡ sorts → blocks.variable_count sheet ≡ variables
+        → blocks.relation_count sheet ≡ relations → result ≡ field_fine sheet f v x }
 {
     match f {
         Field::Unused => x == 0,
@@ -56,8 +56,8 @@ fn field_fine(
 
 fn node_fine(nodes: &[u8], sorts: usize, variables: usize, relations: usize, v: usize) -> bool
     requires { v ≤ 200 }
-    ensures { (sheet : blocks.Sheet) → sheet.nodes ≡ nodes.now → blocks.sortCount sheet ≡ sorts
-        → blocks.variableCount sheet ≡ variables → blocks.relationCount sheet ≡ relations → result ≡ nodeFine sheet v }
+    ensures { (sheet : blocks.Sheet) → sheet.nodes ≡ nodes.now → blocks.sort_count sheet ≡ sorts
+        → blocks.variable_count sheet ≡ variables → blocks.relation_count sheet ≡ relations → result ≡ node_fine sheet v }
 {
     let row = row_of(field(nodes, 3, v, 0));
     let a = row.a;
@@ -71,9 +71,9 @@ fn node_fine(nodes: &[u8], sorts: usize, variables: usize, relations: usize, v: 
 // Number 6.
 pub(crate) fn nodes_fine(nodes: &[u8], sorts: usize, variables: usize, relations: usize) -> bool
     requires { length nodes.now / 3 ≤ 200 }
-    ensures { (sheet : blocks.Sheet) → sheet.nodes ≡ nodes.now → blocks.sortCount sheet ≡ sorts
-        → blocks.variableCount sheet ≡ variables → blocks.relationCount sheet ≡ relations
-        → result ≡ each (blocks.nodeCount sheet) (nodeFine sheet) }
+    ensures { (sheet : blocks.Sheet) → sheet.nodes ≡ nodes.now → blocks.sort_count sheet ≡ sorts
+        → blocks.variable_count sheet ≡ variables → blocks.relation_count sheet ≡ relations
+        → result ≡ each (blocks.node_count sheet) (node_fine sheet) }
 {
     let count = nodes.len() / 3;
     let mut fine = true;

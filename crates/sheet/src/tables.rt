@@ -3,7 +3,7 @@ ghost use Rattle.std.specs.Prelude.{◌≡◌, not, false, cond, ℕ, ◌+◌, �
 ghost use Rattle.prelude.specs.Tests.{each};
 ghost use Rattle.sheet_rules.specs.Blocks as blocks;
 ghost use Rattle.sheet_rules.specs.Tables as spec;
-ghost use Rattle.shapes.specs.Shapes.{isShaped};
+ghost use Rattle.shapes.specs.Shapes.{is_shaped};
 ghost use Rattle.sheet.specs.Filling.{Fills, capped as cap};
 
 use super::bytes::{byte, field, scope_at};
@@ -33,7 +33,7 @@ pub(crate) fn count_at(counts: [u64; 200], i: usize) -> u64
 
 fn declared_shape(relations: &[u8], r: usize) -> Shape
     requires { r < 256 }
-    ensures { (sheet : blocks.Sheet) → sheet.relations ≡ relations.now → result ≡ spec.declaredShape sheet r }
+    ensures { (sheet : blocks.Sheet) → sheet.relations ≡ relations.now → result ≡ spec.declared_shape sheet r }
 {
     shape_of(
         field(relations, 4, r, 0),
@@ -51,7 +51,7 @@ fn node_shape(
 ) -> Shape
     requires { v ≤ 200 }
     ensures { (sheet : blocks.Sheet) → sheet.variables ≡ variables.now → sheet.relations ≡ relations.now
-        → sheet.nodes ≡ nodes.now → result ≡ spec.shapeStep sheet v shapes }
+        → sheet.nodes ≡ nodes.now → result ≡ spec.shape_step sheet v shapes }
 {
     let row = row_of(field(nodes, 3, v, 0));
     let rule = row.rule;
@@ -87,7 +87,7 @@ pub(crate) fn shapes_of(variables: &[u8], relations: &[u8], nodes: &[u8]) -> [Sh
 
 // Number 7: each of the first n nodes has a shape.
 pub(crate) fn all_shaped(shapes: [Shape; 200], n: usize) -> bool
-    ensures { result ≡ each n (λ v. isShaped (get_or shapes v Shape.Ill)) }
+    ensures { result ≡ each n (λ v. is_shaped (get_or shapes v Shape.Ill)) }
 {
     let mut fine = true;
     let mut v: usize = 0;
@@ -99,7 +99,7 @@ pub(crate) fn all_shaped(shapes: [Shape; 200], n: usize) -> bool
 }
 
 fn free_by(x: usize, row: Row, a: usize, p: bool, q: bool) -> bool
-    ensures { result ≡ spec.freeBy x row a p q }
+    ensures { result ≡ spec.free_by x row a p q }
 {
     let field_a = row.a;
     let field_b = row.b;
@@ -160,7 +160,7 @@ fn pick(test: bool, a: u64, b: u64) -> u64
 
 fn visits_by(row: Row, atoms: u64, p: u64, q: u64) -> u64
     requires { (atoms < 256) × (p ≤ 1000001) × (q ≤ 1000001) }
-    ensures { result ≡ cap (spec.visitsBy row atoms p q) }
+    ensures { result ≡ cap (spec.visits_by row atoms p q) }
 {
     let field_a = row.a;
     let field_b = row.b;

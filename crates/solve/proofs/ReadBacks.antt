@@ -12,21 +12,21 @@ use lib.Seq.{get_or-drop, paste-suc}
 use borrow.Author.Tests.{le-leb, lt-leb, eq-eqb, ne_eqb}
 use Rattle.prelude.specs.Tests.{all}
 use Rattle.prelude.proofs.Laws.{and_both, and-not-left, and-not-right}
-use Rattle.sheet_rules.specs.Blocks.{sheetOf}
+use Rattle.sheet_rules.specs.Blocks.{sheet_of}
 use Rattle.sheet_rules.specs.Reading as sheets
 use Rattle.refusal.specs.declared.Refusal.{Refusal}
 use Rattle.refusal.specs.Refusals.{number_of}
-use Rattle.relational.specs.Cells.{cellCount}
+use Rattle.relational.specs.Cells.{cell_count}
 use Rattle.clauses.specs.declared.answer.Size.{Size}
 use Rattle.clauses.specs.declared.answer.Count.{Count}
 use Rattle.clauses.specs.declared.answer.Count.TheVariants.{Fits, Refused}
 use Rattle.clauses.specs.Answers as count
-use Rattle.clauses.specs.Answers.{countAfter, countAnswer}
+use Rattle.clauses.specs.Answers.{count_after, count_answer}
 use Rattle.clauses.proofs.Answered.{count_fits}
 use Rattle.clauses_rules.proofs.Match.{cells-variables}
 use Rattle.search_rules.specs.Rules.{settle}
-use Rattle.solve_rules.specs.Answers.{Answer, copied, refused, readBackAfter, readBackAnswer, instanceBy, instanceAfter}
-use Rattle.solve.specs.Private.{cellsAnswer, cellsLeft}
+use Rattle.solve_rules.specs.Answers.{Answer, copied, refused, read_back_after, read_back_answer, instance_by, instance_after}
+use Rattle.solve.specs.Private.{cells_answer, cells_left}
 
 -- the bits of a part are that part of the bits
 map-take : {A B : Type 0} (f : A → B) (n : ℕ) (xs : List A) → map f (take n xs) ≡ take n (map f xs)
@@ -63,7 +63,7 @@ pasted values instance₀ instance i b h k e f =
 
 module _ (v cells : ℕ) (values instance : List ℕ) where
   abbrev answer : Answer
-  answer = cellsAnswer v cells values (length instance)
+  answer = cells_answer v cells values (length instance)
 
   abbrev read : List ℕ
   read = take cells (drop 1 (map settle values))
@@ -73,10 +73,10 @@ module _ (v cells : ℕ) (values instance : List ℕ) where
 
   -- an answer, and what it leaves
   abbrev Gives : Answer → List ℕ → Type 0
-  Gives a left = (a ≡ answer) × (left ≡ cellsLeft v cells values instance)
+  Gives a left = (a ≡ answer) × (left ≡ cells_left v cells values instance)
 
-  gives : (a : Answer) → answer ≡ a → Gives a (instanceBy a read instance)
-  gives a e = (sym e, ap (λ x. instanceBy x read instance) (sym e))
+  gives : (a : Answer) → answer ≡ a → Gives a (instance_by a read instance)
+  gives a e = (sym e, ap (λ x. instance_by x read instance) (sym e))
 
   by_tests : (p q : Bool) → (eqb (length values) v && bits) ≡ p → leb cells (length instance) ≡ q
       → answer ≡ cond p (cond q (copied cells) (refused 13)) (refused 11)
@@ -99,40 +99,40 @@ module _ (v cells : ℕ) (values instance : List ℕ) where
       gives (copied cells) (by_tests true true (and_both _ bits (eq-eqb (length values) v e) h) (le-leb cells (length instance) l))
 
 -- what counting answered, by the case that its answer is
-pub count-refused : (s : List ℕ) (r : Count) (x : Refusal) → count.answer_of r ≡ countAnswer s → r ≡ Refused x
-    → countAnswer s ≡ count.refused (number_of x)
+pub count-refused : (s : List ℕ) (r : Count) (x : Refusal) → count.answer_of r ≡ count_answer s → r ≡ Refused x
+    → count_answer s ≡ count.refused (number_of x)
 count-refused s r x e f = sym e ∙ ap count.answer_of f
 
-pub count-sized : (s : List ℕ) (r : Count) (z : Size) → count.answer_of r ≡ countAnswer s → r ≡ Fits z
-    → countAnswer s ≡ count.fits z.variables z.clauses z.words
+pub count-sized : (s : List ℕ) (r : Count) (z : Size) → count.answer_of r ≡ count_answer s → r ≡ Fits z
+    → count_answer s ≡ count.fits z.variables z.clauses z.words
 count-sized s r z e f = sym e ∙ ap count.answer_of f
 
 -- from counting to read-back
 module _ (s values instance : List ℕ) where
-  pub refuses : (n : ℕ) → countAnswer s ≡ count.refused n
-      → (refused n ≡ readBackAnswer s values instance) × (instance ≡ instanceAfter s values instance)
-  unfolding readBackAnswer instanceAfter
+  pub refuses : (n : ℕ) → count_answer s ≡ count.refused n
+      → (refused n ≡ read_back_answer s values instance) × (instance ≡ instance_after s values instance)
+  unfolding read_back_answer instance_after
   refuses n e =
-      let f : readBackAnswer s values instance ≡ refused n = ap (λ a. readBackAfter a (sheetOf s) values (length instance)) e in
-      (sym f, ap (λ a. instanceBy a (take (cellCount (sheetOf s)) (drop 1 (map settle values))) instance) (sym f))
+      let f : read_back_answer s values instance ≡ refused n = ap (λ a. read_back_after a (sheet_of s) values (length instance)) e in
+      (sym f, ap (λ a. instance_by a (take (cell_count (sheet_of s)) (drop 1 (map settle values))) instance) (sym f))
 
-  pub counts-cells : (v c w cells : ℕ) → countAnswer s ≡ count.fits v c w → cells ≡ cellCount (sheetOf s)
-      → (cellsAnswer v cells values (length instance) ≡ readBackAnswer s values instance)
-      × (cellsLeft v cells values instance ≡ instanceAfter s values instance)
-  unfolding readBackAnswer instanceAfter
+  pub counts-cells : (v c w cells : ℕ) → count_answer s ≡ count.fits v c w → cells ≡ cell_count (sheet_of s)
+      → (cells_answer v cells values (length instance) ≡ read_back_answer s values instance)
+      × (cells_left v cells values instance ≡ instance_after s values instance)
+  unfolding read_back_answer instance_after
   counts-cells v c w cells e f =
       rw f
-      (let g : readBackAnswer s values instance ≡ cellsAnswer v (cellCount (sheetOf s)) values (length instance) =
-      ap (λ a. readBackAfter a (sheetOf s) values (length instance)) e in
-      (sym g, ap (λ a. instanceBy a (take (cellCount (sheetOf s)) (drop 1 (map settle values))) instance) (sym g)))
+      (let g : read_back_answer s values instance ≡ cells_answer v (cell_count (sheet_of s)) values (length instance) =
+      ap (λ a. read_back_after a (sheet_of s) values (length instance)) e in
+      (sym g, ap (λ a. instance_by a (take (cell_count (sheet_of s)) (drop 1 (map settle values))) instance) (sym g)))
 
 -- a variable for each cell, and variable 1
-pub room-for-cells : (s : List ℕ) (v c w cells : ℕ) → countAnswer s ≡ count.fits v c w → cells ≡ cellCount (sheetOf s) → suc cells ≤ v
+pub room-for-cells : (s : List ℕ) (v c w cells : ℕ) → count_answer s ≡ count.fits v c w → cells ≡ cell_count (sheet_of s) → suc cells ≤ v
 room-for-cells s v c w cells e f =
     let d = count_fits s v c w e in
-    omega (arith, d.variables, cells-variables (sheetOf s))
+    omega (arith, d.variables, cells-variables (sheet_of s))
 
 -- a sheet that is refused is refused by counting
-pub counting-refuses : (s : List ℕ) (n : ℕ) → sheets.reading s ≡ sheets.refused n → countAnswer s ≡ count.refused n
-unfolding countAnswer
-counting-refuses s n e = ap (λ x. countAfter x (sheetOf s)) e
+pub counting-refuses : (s : List ℕ) (n : ℕ) → sheets.reading s ≡ sheets.refused n → count_answer s ≡ count.refused n
+unfolding count_answer
+counting-refuses s n e = ap (λ x. count_after x (sheet_of s)) e

@@ -3,7 +3,7 @@ ghost use Rattle.std.specs.Prelude.{◌≡◌, ◌++◌, map, suc, ◌≤◌, le
 ghost use Rattle.prelude.specs.Tests.{all};
 ghost use Rattle.search_rules.specs.Rules.{settle};
 ghost use Rattle.solve.specs.Answers.{answer_of};
-ghost use Rattle.solve.specs.Private.{cellsAnswer, cellsLeft};
+ghost use Rattle.solve.specs.Private.{cells_answer, cells_left};
 
 use super::answer::ReadBack;
 use refusal::Refusal;
@@ -45,8 +45,8 @@ pub(crate) fn copy_cells(cells: usize, values: &[u8], instance: &mut [u8])
 // Numbers 11 and 13 over values of v variables, and the copy.
 pub(crate) fn read_cells(v: usize, cells: usize, values: &[u8], instance: &mut [u8]) -> ReadBack
     requires { suc cells ≤ v }
-    ensures result_value { answer_of result ≡ cellsAnswer v cells values.now (length instance.old) }
-    ensures instance_after { instance.new ≡ cellsLeft v cells values.now instance.old }
+    ensures result_value { answer_of result ≡ cells_answer v cells values.now (length instance.old) }
+    ensures instance_after { instance.new ≡ cells_left v cells values.now instance.old }
 {
     if values.len() != v {
         return ReadBack::Refused(Refusal::Cells);

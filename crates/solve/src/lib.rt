@@ -1,10 +1,10 @@
 // From a sheet to an answer: read-back, and the finder over lent slices.
 ghost use Rattle.std.specs.Prelude.{◌≡◌};
-ghost use Rattle.sheet_rules.specs.Blocks.{sheetOf};
-ghost use Rattle.relational.specs.Cells.{cellCount};
-ghost use Rattle.clauses.specs.Answers.{fits, countAnswer};
+ghost use Rattle.sheet_rules.specs.Blocks.{sheet_of};
+ghost use Rattle.relational.specs.Cells.{cell_count};
+ghost use Rattle.clauses.specs.Answers.{fits, count_answer};
 ghost use Rattle.search.specs.Answers as searched;
-ghost use Rattle.solve_rules.specs.Answers.{readBackAnswer, instanceAfter};
+ghost use Rattle.solve_rules.specs.Answers.{read_back_answer, instance_after};
 ghost use Rattle.solve_rules.specs.Finding.{slices, finding};
 ghost use Rattle.solve_rules.specs.Finds.{Finds};
 ghost use Rattle.solve.specs.Answers.{answer_of};
@@ -26,9 +26,9 @@ mod copies; // copies.rt: the cells' values, tested and copied
 
 // Read-back over values of an accepted sheet with so many cells.
 fn read_accepted(sheet: &[u8], cells: usize, values: &[u8], instance: &mut [u8]) -> ReadBack
-    requires { cells ≡ cellCount (sheetOf sheet.now) }
-    ensures result_value { answer_of result ≡ readBackAnswer sheet.now values.now instance.old }
-    ensures instance_after { instance.new ≡ instanceAfter sheet.now values.now instance.old }
+    requires { cells ≡ cell_count (sheet_of sheet.now) }
+    ensures result_value { answer_of result ≡ read_back_answer sheet.now values.now instance.old }
+    ensures instance_after { instance.new ≡ instance_after sheet.now values.now instance.old }
 {
     let counted = count(sheet);
     match counted {
@@ -39,8 +39,8 @@ fn read_accepted(sheet: &[u8], cells: usize, values: &[u8], instance: &mut [u8])
 
 // Copies the cells' values to the front of the instance. Its answer and what it leaves are those of the definitions.
 pub fn read_back(sheet: &[u8], values: &[u8], instance: &mut [u8]) -> ReadBack
-    ensures result_value { answer_of result ≡ readBackAnswer sheet.now values.now instance.old }
-    ensures instance_after { instance.new ≡ instanceAfter sheet.now values.now instance.old }
+    ensures result_value { answer_of result ≡ read_back_answer sheet.now values.now instance.old }
+    ensures instance_after { instance.new ≡ instance_after sheet.now values.now instance.old }
 {
     let reading = read(sheet);
     match reading {
@@ -90,8 +90,8 @@ fn find_sized(
     instance: &mut [u8],
     budget: u64,
 ) -> Search
-    requires sheet_value { countAnswer sheet.now ≡ fits size.variables size.clauses size.words }
-    requires cells_value { cells ≡ cellCount (sheetOf sheet.now) }
+    requires sheet_value { count_answer sheet.now ≡ fits size.variables size.clauses size.words }
+    requires cells_value { cells ≡ cell_count (sheet_of sheet.now) }
     ensures { Left sheet.now
         (slices list.old values.old trail.old instance.old) budget
         (searched.answer_of result) (slices list.new values.new trail.new instance.new) }
@@ -126,7 +126,7 @@ fn find_accepted(
     instance: &mut [u8],
     budget: u64,
 ) -> Search
-    requires { cells ≡ cellCount (sheetOf sheet.now) }
+    requires { cells ≡ cell_count (sheet_of sheet.now) }
     ensures { Left sheet.now
         (slices list.old values.old trail.old instance.old) budget
         (searched.answer_of result) (slices list.new values.new trail.new instance.new) }

@@ -9,62 +9,62 @@ use lib.ListN.{length, take, drop}
 use lib.Seq.{take_at}
 use borrow.Author.Tests.{le-leb, eq-eqb}
 use Rattle.prelude.proofs.Laws.{and_both}
-use Rattle.sheet_rules.specs.Blocks.{sheetOf}
-use Rattle.relational.specs.Cells.{cellCount, hasCells}
+use Rattle.sheet_rules.specs.Blocks.{sheet_of}
+use Rattle.relational.specs.Cells.{cell_count, has_cells}
 use Rattle.relational.proofs.Scopes.{within-size, within-bits}
-use Rattle.clauses_rules.specs.Whole.{words, variableTotal, clauseTotal, wordTotal}
+use Rattle.clauses_rules.specs.Whole.{words, variable_total, clause_total, word_total}
 use Rattle.clauses.specs.Answers as count
-use Rattle.clauses.specs.Answers.{fits, countAfter, countAnswer, writeAfter, writeAnswer, listAfter}
+use Rattle.clauses.specs.Answers.{fits, count_after, count_answer, write_after, write_answer, list_after}
 use Rattle.clauses.proofs.Answered.{write-fits}
-use Rattle.solve_rules.specs.Answers.{copied, refused, readBits, readBackAfter, readBackAnswer, instanceBy, instanceAfter}
+use Rattle.solve_rules.specs.Answers.{copied, refused, read_bits, read_back_after, read_back_answer, instance_by, instance_after}
 use Rattle.solve_rules.specs.Demand3.{FitsLimits, ReadsBack}
 
 module _ (s : List ℕ) (h : FitsLimits s) where
   abbrev size : count.Answer
-  size = fits (variableTotal (sheetOf s)) (clauseTotal (sheetOf s)) (wordTotal (sheetOf s))
+  size = fits (variable_total (sheet_of s)) (clause_total (sheet_of s)) (word_total (sheet_of s))
 
-  pub counts : countAnswer s ≡ size
-  unfolding countAnswer
+  pub counts : count_answer s ≡ size
+  unfolding count_answer
   counts =
-      ap (λ r. countAfter r (sheetOf s)) h.accepted
-      ∙ ap (λ b. cond b size (count.refused 10)) (le-leb (variableTotal (sheetOf s)) 16000 h.few-variables)
+      ap (λ r. count_after r (sheet_of s)) h.accepted
+      ∙ ap (λ b. cond b size (count.refused 10)) (le-leb (variable_total (sheet_of s)) 16000 h.few_variables)
 
-  module _ (list : List ℤ) (room : wordTotal (sheetOf s) ≤ length list) where
-    pub writes : writeAnswer s list ≡ size
-    unfolding writeAnswer
+  module _ (list : List ℤ) (room : word_total (sheet_of s) ≤ length list) where
+    pub writes : write_answer s list ≡ size
+    unfolding write_answer
     writes =
-        ap (λ a. writeAfter a (length list)) counts
-        ∙ ap (λ b. cond b size (count.refused 13)) (le-leb (wordTotal (sheetOf s)) (length list) room)
+        ap (λ a. write_after a (length list)) counts
+        ∙ ap (λ b. cond b size (count.refused 13)) (le-leb (word_total (sheet_of s)) (length list) room)
 
     -- exactly the words of the clauses stand in front
-    pub writes-words : take (wordTotal (sheetOf s)) (listAfter s list) ≡ words (sheetOf s)
-    writes-words = (write-fits s list (variableTotal (sheetOf s)) (clauseTotal (sheetOf s)) (wordTotal (sheetOf s)) writes).front
+    pub writes-words : take (word_total (sheet_of s)) (list_after s list) ≡ words (sheet_of s)
+    writes-words = (write-fits s list (variable_total (sheet_of s)) (clause_total (sheet_of s)) (word_total (sheet_of s)) writes).front
 
   -- read-back of values of which the cells' values, 3 taken as 0, are an instance
-  module _ (values lent : List ℕ) (one_each : length values ≡ variableTotal (sheetOf s))
-      (within : hasCells (sheetOf s) (readBits (sheetOf s) values) ≡ true) (room : cellCount (sheetOf s) ≤ length lent)
+  module _ (values lent : List ℕ) (one_each : length values ≡ variable_total (sheet_of s))
+      (within : has_cells (sheet_of s) (read_bits (sheet_of s) values) ≡ true) (room : cell_count (sheet_of s) ≤ length lent)
     where
-      read-size : length (readBits (sheetOf s) values) ≡ cellCount (sheetOf s)
-      read-size = within-size (sheetOf s) (readBits (sheetOf s) values) within
+      read-size : length (read_bits (sheet_of s) values) ≡ cell_count (sheet_of s)
+      read-size = within-size (sheet_of s) (read_bits (sheet_of s) values) within
 
-      answers-cells : readBackAnswer s values lent ≡ copied (cellCount (sheetOf s))
-      unfolding readBackAnswer
+      answers-cells : read_back_answer s values lent ≡ copied (cell_count (sheet_of s))
+      unfolding read_back_answer
       answers-cells =
-          ap (λ a. readBackAfter a (sheetOf s) values (length lent)) counts
-          ∙ ap (λ b. cond b (cond (leb (cellCount (sheetOf s)) (length lent)) (copied (cellCount (sheetOf s))) (refused 13)) (refused 11))
-          (and_both _ _ (eq-eqb (length values) (variableTotal (sheetOf s)) one_each)
-          (within-bits (sheetOf s) (readBits (sheetOf s) values) within))
-          ∙ ap (λ b. cond b (copied (cellCount (sheetOf s))) (refused 13)) (le-leb (cellCount (sheetOf s)) (length lent) room)
+          ap (λ a. read_back_after a (sheet_of s) values (length lent)) counts
+          ∙ ap (λ b. cond b (cond (leb (cell_count (sheet_of s)) (length lent)) (copied (cell_count (sheet_of s))) (refused 13)) (refused 11))
+          (and_both _ _ (eq-eqb (length values) (variable_total (sheet_of s)) one_each)
+          (within-bits (sheet_of s) (read_bits (sheet_of s) values) within))
+          ∙ ap (λ b. cond b (copied (cell_count (sheet_of s))) (refused 13)) (le-leb (cell_count (sheet_of s)) (length lent) room)
 
-      pub instance-after : instanceAfter s values lent ≡ readBits (sheetOf s) values ++ drop (cellCount (sheetOf s)) lent
-      unfolding instanceAfter
-      instance-after = ap (λ a. instanceBy a (readBits (sheetOf s) values) lent) answers-cells
+      pub instance-after : instance_after s values lent ≡ read_bits (sheet_of s) values ++ drop (cell_count (sheet_of s)) lent
+      unfolding instance_after
+      instance-after = ap (λ a. instance_by a (read_bits (sheet_of s) values) lent) answers-cells
 
-      pub reads-back : ReadsBack s values lent (readBits (sheetOf s) values)
+      pub reads-back : ReadsBack s values lent (read_bits (sheet_of s) values)
       reads-back =
           record {
             answer = answers-cells ∙ ap copied (sym read-size);
-            copies = instance-after ∙ ap (λ n. readBits (sheetOf s) values ++ drop n lent) (sym read-size);
+            copies = instance-after ∙ ap (λ n. read_bits (sheet_of s) values ++ drop n lent) (sym read-size);
           }
 
 -- read-back answers one instance

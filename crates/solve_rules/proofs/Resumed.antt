@@ -5,29 +5,29 @@ use mathlib.Core.List.{List}
 use Prim.Native.Nat.{ℕ, ◌+◌, ◌≤◌}
 use native.Mathlib.Omega.{arith}
 use lib.ListN.{take}
-use Rattle.sheet_rules.specs.Blocks.{sheetOf}
-use Rattle.clauses_rules.specs.Whole.{variableTotal, wordTotal}
-use Rattle.clauses.specs.Answers.{listAfter}
+use Rattle.sheet_rules.specs.Blocks.{sheet_of}
+use Rattle.clauses_rules.specs.Whole.{variable_total, word_total}
+use Rattle.clauses.specs.Answers.{list_after}
 use Rattle.search_rules.specs.declared.Steps.{Steps}
-use Rattle.search_rules.specs.Held.{stepLimit}
+use Rattle.search_rules.specs.Held.{step_limit}
 use Rattle.search.specs.Answers.{spent, refused}
 use Rattle.search.specs.Resumed.{Resumption, resumption}
-use Rattle.search.specs.Resuming.{recordOf, withRecord}
+use Rattle.search.specs.Resuming.{record_of, with_record}
 use Rattle.search.proofs.Resuming.{search-resumed}
-use Rattle.solve_rules.specs.Finding.{Slices, Finding, finding, searchedBy}
+use Rattle.solve_rules.specs.Finding.{Slices, Finding, finding, searched_by}
 use Rattle.solve_rules.specs.Finds.{FindResumed}
 use Rattle.solve_rules.proofs.Findings.{Declined, Ran, called}
 
 module _ (s : List ℕ) (lent : Slices) (m n : ℕ) (steps : Steps) (spends : (finding s lent m).answer ≡ spent steps)
-    (few : m + n ≤ stepLimit) where
+    (few : m + n ≤ step_limit) where
   abbrev v : ℕ
-  v = variableTotal (sheetOf s)
+  v = variable_total (sheet_of s)
 
   abbrev w : ℕ
-  w = wordTotal (sheetOf s)
+  w = word_total (sheet_of s)
 
   abbrev further : Finding → Resumption
-  further f = resumption (take w f.left.list) v f.left.values f.left.trail (recordOf v (searchedBy f)) n
+  further f = resumption (take w f.left.list) v f.left.values f.left.trail (record_of v (searched_by f)) n
 
   -- neither call is refused
   began : Ran s lent m
@@ -43,12 +43,12 @@ module _ (s : List ℕ) (lent : Slices) (m n : ℕ) (steps : Steps) (spends : (f
   at_once = ⊎_elim (λ (d : Declined s lent (m + n)). absurd (d.unfit began.limits began.room)) (λ r. r)
       (called s lent (m + n))
 
-  resumed : further (finding s lent m) ≡ withRecord v (searchedBy (finding s lent (m + n)))
+  resumed : further (finding s lent m) ≡ with_record v (searched_by (finding s lent (m + n)))
   resumed =
       ap further began.is
-      ∙ search-resumed (take w (listAfter s lent.list)) v lent.values lent.trail m n steps
+      ∙ search-resumed (take w (list_after s lent.list)) v lent.values lent.trail m n steps
       (ap (λ (x : Finding). x.answer) (sym began.is) ∙ spends) few
-      ∙ ap (λ (f : Finding). withRecord v (searchedBy f)) (sym at_once.is)
+      ∙ ap (λ (f : Finding). with_record v (searched_by f)) (sym at_once.is)
 
 pub find-resumed : FindResumed
 find-resumed = resumed

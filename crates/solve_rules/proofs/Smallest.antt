@@ -6,14 +6,14 @@ use mathlib.Core.List.{List}
 use Prim.Native.Nat.{ℕ}
 use Rattle.prelude.proofs.Order.{StrictTotalOrder, before-irreflexive, before-transitive, before-total}
 use Rattle.sheet_rules.specs.Blocks.{Sheet}
-use Rattle.relational.specs.Cells.{hasCells}
+use Rattle.relational.specs.Cells.{has_cells}
 use Rattle.relational.specs.Meaning.{Solution}
 use Rattle.relational.proofs.Scopes.{within-size, within-bits}
 use Rattle.solve_rules.specs.Smallest.{Smallest}
 
 -- that order is a strict total order on the instances of a sheet
 abbrev pub InstancesOrdered : Type 0
-InstancesOrdered = (sheet : Sheet) → StrictTotalOrder (λ (instance : List ℕ). hasCells sheet instance ≡ true)
+InstancesOrdered = (sheet : Sheet) → StrictTotalOrder (λ (instance : List ℕ). has_cells sheet instance ≡ true)
 
 -- to "compare printed cases between releases": two sheets that the same instances satisfy have the same smallest
 abbrev pub SameSmallest : Type 0

@@ -27,8 +27,8 @@ unfoldable pub decimal : ℕ → List ℕ
 decimal n = digits (suc n) n
 
 -- a word, a number, and the end of the line
-abbrev pub endLine : List ℕ → ℕ → List ℕ
-endLine word n = word ++ (decimal n ++ bytes_of "\n")
+abbrev pub end_line : List ℕ → ℕ → List ℕ
+end_line word n = word ++ (decimal n ++ bytes_of "\n")
 
 -- a text was printed to the front of a slice: it ends at the place answered, and what was lent after it is unchanged
 pub record Prints (text lent left : List ℕ) (end : ℕ) : Type 0 where

@@ -1,6 +1,6 @@
 // Text in a lent slice: pieces, numbers in decimal, lines. Each function that puts a piece does so where there is room, and answers where it ends.
 ghost use Rattle.std.specs.Prelude.{◌≡◌, ◌≤◌, length};
-ghost use Rattle.text.specs.Texts.{decimal, endLine};
+ghost use Rattle.text.specs.Texts.{decimal, end_line};
 ghost use Rattle.text.specs.Puts.{Room, Put};
 
 // Puts a piece of text.
@@ -49,7 +49,7 @@ pub fn decimal_length(n: usize) -> usize
 pub fn put_end(text: &mut [u8], word: &[u8], n: u64) -> usize
     requires in_bounds { 37 ≤ length text.old }
     requires word_len_bound { length word.now ≤ 16 }
-    ensures put { Put text.old 0 (endLine word.now n) text.new result }
+    ensures put { Put text.old 0 (end_line word.now n) text.new result }
     ensures upper_bound { result ≤ 37 }
 {
     let at = put_bytes(text, 0, word);

@@ -3,7 +3,7 @@ use mathlib.Core.Path.{◌≡◌, ◌∙◌, ap}
 use Prim.Native.Nat.{◌+◌, ◌*◌}
 use native.Mathlib.Omega.{arith}
 use borrow.Author.Rules.{rules}
-use Rattle.sheet_rules.specs.Blocks.{byte, sheetOf}
+use Rattle.sheet_rules.specs.Blocks.{byte, sheet_of}
 use Rattle.cells.proofs.arity.Statement.{statement}
 use Rattle.cells.proofs.arity.Tie as tie
 
@@ -14,7 +14,7 @@ returns : tie.Need-returns
 returns c =
     let a = c.before.before.args in
     let e : 4 * a.r + 0 ≡ 4 * a.r = omega arith in
-    c.declared.ensures ∙ ap (byte (sheetOf a.sheet.now).relations) e
+    c.declared.ensures ∙ ap (byte (sheet_of a.sheet.now).relations) e
 
 pub arity-spec : {M : Type 1} → statement M
 arity-spec = tie.close (tie.spec declared-requires returns)

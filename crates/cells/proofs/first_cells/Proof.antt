@@ -3,17 +3,17 @@ use mathlib.Core.Path.{◌≡◌, ap, ◌∙◌}
 use Prim.Native.Nat.{◌<◌, ◌≤◌, ◌-◌, ◌*◌}
 use native.Mathlib.Omega.{arith}
 use borrow.Author.Rules.{rules}
-use Rattle.sheet_rules.specs.Blocks.{sheetOf, relationCount}
+use Rattle.sheet_rules.specs.Blocks.{sheet_of, relation_count}
 use Rattle.sheet_rules.proofs.Acceptance.{accepted-facts}
-use Rattle.relational.specs.Cells.{mostCells, firstMember, firstCell}
-use Rattle.cells.proofs.Parts.{sorts-counted, relations-counted, few-relations}
+use Rattle.relational.specs.Cells.{most_cells, first_member, first_cell}
+use Rattle.cells.proofs.Parts.{sorts-counted, relations-counted, few_relations}
 use Rattle.cells.proofs.Layouts.{first-most, Stored, stored-none, stored_more}
 use Rattle.relational.proofs.Places.{square}
 use Rattle.cells.proofs.first_cells.Statement.{statement}
 use Rattle.cells.proofs.first_cells.Tie as tie
 
 abbrev invariant-loop : tie.invariant-loop
-invariant-loop sheet layout n members starts₀ count₀ r₀ starts count r = (r ≤ n) × Stored (sheetOf sheet) count starts r
+invariant-loop sheet layout n members starts₀ count₀ r₀ starts count r = (r ≤ n) × Stored (sheet_of sheet) count starts r
 
 abbrev decreases-loop : tie.decreases-loop
 decreases-loop sheet layout n members starts₀ count₀ r₀ starts count r = n - r
@@ -22,18 +22,18 @@ decreases-loop sheet layout n members starts₀ count₀ r₀ starts count r = n
 reached : (c : tie.In-loop invariant-loop decreases-loop) → c.before.loop.r < 16
 reached c =
     let s = c.before.before.before.before.before.before in
-    omega (arith, few-relations _ _ s.requires, c.loop-test.true)
+    omega (arith, few_relations _ _ s.requires, c.loop-test.true)
 
 loop-holds : tie.Need-loop-init invariant-loop decreases-loop
 loop-holds c =
     let s = c.before.before.before.before in
-    (omega arith, stored-none _ _ (c.first_member.ensures.0 ∙ ap (firstMember _) (sorts-counted _ _ s.requires)))
+    (omega arith, stored-none _ _ (c.first_member.ensures.0 ∙ ap (first_member _) (sorts-counted _ _ s.requires)))
 
 first-member-requires : tie.Need-first-member-requires invariant-loop decreases-loop
 first-member-requires c κs =
     let s = c.before.before.before in (
       s.requires,
-      rw (sorts-counted _ _ s.requires) (accepted-facts _ _ s.requires).counts.few-sorts,
+      rw (sorts-counted _ _ s.requires) (accepted-facts _ _ s.requires).counts.few_sorts,
     )
 
 mul-starts : tie.Need-overflow-mul-starts invariant-loop decreases-loop
@@ -55,7 +55,7 @@ row-length-requires c κs = (
 few-more : (c : tie.After-row-length invariant-loop decreases-loop) → c.before.row_count.result * c.row-length.result ≤ 64
 few-more c = square c.before.row_count.ensures.1 c.row-length.ensures.1
 
-few-before : (c : tie.After-row-length invariant-loop decreases-loop) → c.before.before.before.loop.count ≤ mostCells
+few-before : (c : tie.After-row-length invariant-loop decreases-loop) → c.before.before.before.loop.count ≤ most_cells
 few-before c =
     let l = c.before.before.before.loop in
     let s = c.before.before.before.before.before.before.before.before in
@@ -83,10 +83,10 @@ returns c =
     let l = c.before.loop in
     let s = c.before.before.before.before.before.before in
     let e = relations-counted _ _ s.requires in
-    let k : l.r ≡ relationCount (sheetOf s.args.sheet.now) = omega (arith, e, l.invariant.0, c.loop-test.false) in (
-      l.invariant.1.next ∙ ap (firstCell _) k,
+    let k : l.r ≡ relation_count (sheet_of s.args.sheet.now) = omega (arith, e, l.invariant.0, c.loop-test.false) in (
+      l.invariant.1.next ∙ ap (first_cell _) k,
       (
-        omega (arith, l.invariant.1.next, first-most _ (accepted-facts _ _ s.requires) l.r, few-relations _ _ s.requires),
+        omega (arith, l.invariant.1.next, first-most _ (accepted-facts _ _ s.requires) l.r, few_relations _ _ s.requires),
         record { long = l.invariant.1.long; first = λ q h. l.invariant.1.first q (omega (arith, k)) },
       ),
     )

@@ -3,14 +3,14 @@ use mathlib.Core.Path.{◌≡◌, ap, ◌∙◌}
 use Prim.Native.Nat.{◌≤◌, ◌-◌, ◌*◌}
 use native.Mathlib.Omega.{arith}
 use borrow.Author.Rules.{rules}
-use Rattle.sheet_rules.specs.Blocks.{sheetOf}
-use Rattle.relational.specs.Cells.{firstMember}
+use Rattle.sheet_rules.specs.Blocks.{sheet_of}
+use Rattle.relational.specs.Cells.{first_member}
 use Rattle.cells.proofs.Layouts.{member-none, member-more}
 use Rattle.cells.proofs.first_member.Statement.{statement}
 use Rattle.cells.proofs.first_member.Tie as tie
 
 abbrev invariant-loop : tie.invariant-loop
-invariant-loop sheet layout sort count₀ k₀ count k = (k ≤ sort) × (count ≡ firstMember (sheetOf sheet) k) × (count ≤ 8 * k)
+invariant-loop sheet layout sort count₀ k₀ count k = (k ≤ sort) × (count ≡ first_member (sheet_of sheet) k) × (count ≤ 8 * k)
 
 abbrev decreases-loop : tie.decreases-loop
 decreases-loop sheet layout sort count₀ k₀ count k = sort - k
@@ -49,7 +49,7 @@ returns c =
     let l = c.before.loop in
     let s = c.before.before.before in
     let e : l.k ≡ s.args.sort = omega (arith, l.invariant.0, c.loop-test.false) in
-    (l.invariant.1 ∙ ap (firstMember (sheetOf s.args.sheet.now)) e, omega (arith, l.invariant.2, e))
+    (l.invariant.1 ∙ ap (first_member (sheet_of s.args.sheet.now)) e, omega (arith, l.invariant.2, e))
 
 pub first-member-spec : {M : Type 1} → statement M
 first-member-spec =

@@ -1,7 +1,7 @@
 -- `members_of` meets its contract.
 use native.Mathlib.Omega.{arith}
 use borrow.Author.Rules.{rules}
-use Rattle.sheet_rules.specs.Blocks.{sheetOf}
+use Rattle.sheet_rules.specs.Blocks.{sheet_of}
 use Rattle.cells.proofs.Layouts.{bounded-members, full-members}
 use Rattle.cells.proofs.members_of.Statement.{statement}
 use Rattle.cells.proofs.members_of.Tie as tie
@@ -15,7 +15,7 @@ scope-requires c κs = search rules
 returns : tie.Need-returns
 returns c =
     let s = c.before.before.before.before in (
-      bounded-members (sheetOf s.args.sheet.now) s.args.sort c.before.before.is-bounded.ensures
+      bounded-members (sheet_of s.args.sheet.now) s.args.sort c.before.before.is-bounded.ensures
           c.before.if1.true c.scope.ensures.0,
       c.scope.ensures.1,
     )
@@ -23,7 +23,7 @@ returns c =
 returns-2 : tie.Need-returns-2
 returns-2 c =
     let s = c.before.before.before in (
-      full-members (sheetOf s.args.sheet.now) s.args.sort c.before.is-bounded.ensures c.if1.false,
+      full-members (sheet_of s.args.sheet.now) s.args.sort c.before.is-bounded.ensures c.if1.false,
       omega arith,
     )
 

@@ -21,9 +21,9 @@ either-requires c κs = search rules
 returns : tie.Need-returns
 returns c =
     rw (
-      ← c.before.before.before.before.first-sort.ensures,
+      ← c.before.before.before.before.first_sort_ok.ensures,
       ← c.before.before.before.is-bounded.ensures,
-      ← c.before.before.second-sort.ensures,
+      ← c.before.before.second_sort_ok.ensures,
       ← c.before.is-bounded2.ensures,
     )
     c.either.ensures

@@ -1,7 +1,7 @@
 -- `row_count` meets its contract.
 use native.Mathlib.Omega.{arith}
 use borrow.Author.Rules.{rules}
-use Rattle.sheet_rules.specs.Blocks.{sheetOf}
+use Rattle.sheet_rules.specs.Blocks.{sheet_of}
 use Rattle.cells.proofs.Layouts.{set-rows, relation-rows}
 use Rattle.cells.proofs.row_count.Statement.{statement}
 use Rattle.cells.proofs.row_count.Tie as tie
@@ -12,7 +12,7 @@ arity-requires c κs = search rules
 returns : tie.Need-returns
 returns c =
     let s = c.before.before.before in
-    (set-rows (sheetOf s.args.sheet.now) s.args.r c.before.arity.ensures c.if1.true, omega arith)
+    (set-rows (sheet_of s.args.sheet.now) s.args.r c.before.arity.ensures c.if1.true, omega arith)
 
 first-sort-requires : tie.Need-first-sort-requires
 first-sort-requires c κs = search rules
@@ -23,8 +23,8 @@ scope-requires c κs = search rules
 returns-2 : tie.Need-returns-2
 returns-2 c =
     let s = c.before.before.before.before.before in (
-      relation-rows (sheetOf s.args.sheet.now) s.args.r c.before.before.before.arity.ensures c.before.before.if1.false
-          c.before.first-sort.ensures c.scope.ensures.0,
+      relation-rows (sheet_of s.args.sheet.now) s.args.r c.before.before.before.arity.ensures c.before.before.if1.false
+          c.before.first_sort_ok.ensures c.scope.ensures.0,
       c.scope.ensures.1,
     )
 

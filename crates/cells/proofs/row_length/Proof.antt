@@ -1,6 +1,6 @@
 -- `row_length` meets its contract.
 use borrow.Author.Rules.{rules}
-use Rattle.sheet_rules.specs.Blocks.{sheetOf}
+use Rattle.sheet_rules.specs.Blocks.{sheet_of}
 use Rattle.cells.proofs.Layouts.{set-length, relation-length}
 use Rattle.cells.proofs.row_length.Statement.{statement}
 use Rattle.cells.proofs.row_length.Tie as tie
@@ -17,8 +17,8 @@ scope-requires c κs = search rules
 returns : tie.Need-returns
 returns c =
     let s = c.before.before.before.before.before in (
-      set-length (sheetOf s.args.sheet.now) s.args.r c.before.before.before.arity.ensures c.before.before.if1.true
-          c.before.first-sort.ensures c.scope.ensures.0,
+      set-length (sheet_of s.args.sheet.now) s.args.r c.before.before.before.arity.ensures c.before.before.if1.true
+          c.before.first_sort_ok.ensures c.scope.ensures.0,
       c.scope.ensures.1,
     )
 
@@ -31,8 +31,8 @@ scope-requires-2 c κs = search rules
 returns-2 : tie.Need-returns-2
 returns-2 c =
     let s = c.before.before.before.before.before in (
-      relation-length (sheetOf s.args.sheet.now) s.args.r c.before.before.before.arity.ensures c.before.before.if1.false
-          c.before.second-sort.ensures c.scope2.ensures.0,
+      relation-length (sheet_of s.args.sheet.now) s.args.r c.before.before.before.arity.ensures c.before.before.if1.false
+          c.before.second_sort_ok.ensures c.scope2.ensures.0,
       c.scope2.ensures.1,
     )
 

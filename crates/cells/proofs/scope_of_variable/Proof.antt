@@ -1,7 +1,7 @@
 -- `scope_of_variable` meets its contract.
 use mathlib.Core.Path.{◌∙◌, ap}
 use borrow.Author.Rules.{rules}
-use Rattle.sheet_rules.specs.Blocks.{sheetOf, scope}
+use Rattle.sheet_rules.specs.Blocks.{sheet_of, scope}
 use Rattle.cells.proofs.scope_of_variable.Statement.{statement}
 use Rattle.cells.proofs.scope_of_variable.Tie as tie
 
@@ -15,7 +15,7 @@ returns : tie.Need-returns
 returns c =
     let s = c.before.before.before in (
       c.scope.ensures.0
-          ∙ ap (scope (sheetOf s.args.sheet.now)) c.before.sort-of-variable.ensures,
+          ∙ ap (scope (sheet_of s.args.sheet.now)) c.before.sort-of-variable.ensures,
       c.scope.ensures.1,
     )
 

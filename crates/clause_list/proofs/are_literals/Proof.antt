@@ -8,15 +8,15 @@ use borrow.Author.Rules.{rules}
 use borrow.Author.Tests.{not-true, not-false}
 use Rattle.prelude.specs.Tests.{all}
 use Rattle.prelude.proofs.Laws.{and-not-left, and-rest, all_from, all-from-end}
-use Rattle.literal.specs.Literals.{isLiteral}
-use Rattle.literal.specs.Words.{lastVariable}
+use Rattle.literal.specs.Literals.{is_literal}
+use Rattle.literal.specs.Words.{last_variable}
 use Rattle.literal.proofs.Signs.{back}
 use Rattle.literal.proofs.Words.{within-words}
 use Rattle.clause_list.proofs.are_literals.Statement.{statement}
 use Rattle.clause_list.proofs.are_literals.Tie as tie
 
 abbrev invariant-loop : tie.invariant-loop
-invariant-loop words v i₀ i = (i ≤ length words) × (all (isLiteral v) words ≡ all (isLiteral v) (drop i words))
+invariant-loop words v i₀ i = (i ≤ length words) × (all (is_literal v) words ≡ all (is_literal v) (drop i words))
 
 abbrev decreases-loop : tie.decreases-loop
 decreases-loop words v i₀ i = length words - i
@@ -35,21 +35,21 @@ is-literal-requires c κs = search rules
 
 -- what was asked of the word at i
 asked : (c : tie.After-is-literal invariant-loop decreases-loop)
-    → c.is-literal.result ≡ isLiteral c.before.before.before.before.args.v
+    → c.is-literal.result ≡ is_literal c.before.before.before.before.args.v
     (get_or c.before.before.before.before.args.words.now c.before.before.before.loop.i (pos 0))
 asked c =
     let a = c.before.before.before.before.args in
     let i = c.before.before.before.loop.i in
     let w = get_or a.words.now i (pos 0) in
     c.is-literal.ensures
-    ∙ ap (isLiteral (min a.v lastVariable)) (back w (record { sfits = c.before.word.given }))
+    ∙ ap (is_literal (min a.v last_variable)) (back w (record { sfits = c.before.word.given }))
     ∙ within-words a.v w (omega (arith, c.before.before.before.before.requires))
 
 returns : tie.Need-returns invariant-loop decreases-loop
 returns c =
     let a = c.before.before.before.before.before.args in
     let i = c.before.before.before.before.loop.i in
-    let p = isLiteral a.v in
+    let p = is_literal a.v in
     sym
     (c.before.before.before.before.loop.invariant.1
     ∙ all_from p a.words.now i (pos 0) c.before.before.before.loop-test.true
@@ -66,7 +66,7 @@ loop-again : tie.Need-loop-preserved invariant-loop decreases-loop
 loop-again c =
     let a = c.before.before.before.before.before.args in
     let i = c.before.before.before.before.loop.i in
-    let p = isLiteral a.v in (
+    let p = is_literal a.v in (
       omega arith,
       c.before.before.before.before.loop.invariant.1
           ∙ all_from p a.words.now i (pos 0) c.before.before.before.loop-test.true
@@ -77,7 +77,7 @@ loop-again c =
 returns-2 : tie.Need-returns-2 invariant-loop decreases-loop
 returns-2 c =
     let a = c.before.before.args in
-    sym (c.before.loop.invariant.1 ∙ all-from-end (isLiteral a.v) a.words.now c.before.loop.i c.loop-test.false)
+    sym (c.before.loop.invariant.1 ∙ all-from-end (is_literal a.v) a.words.now c.before.loop.i c.loop-test.false)
 
 pub are-literals-spec : {M : Type 1} → statement M
 are-literals-spec =

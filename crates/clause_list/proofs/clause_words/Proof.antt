@@ -7,7 +7,7 @@ use lib.ListN.{get_or, take, drop}
 use borrow.Author.Rules.{rules}
 use borrow.Author.Tests.{not-true, not-false}
 use Rattle.prelude.specs.Tests.{all}
-use Rattle.literal.specs.Literals.{isLiteral}
+use Rattle.literal.specs.Literals.{is_literal}
 use Rattle.literal.specs.Words.{count_of}
 use Rattle.literal.proofs.Signs.{back}
 use Rattle.clause_list.proofs.Fronts.{front-empty, front_below, front-past, front-no-literal, front-words}
@@ -63,13 +63,13 @@ are-literals-requires c κs = search rules
 -- what was asked of the words after the count
 asked : (c : tie.After-are-literals)
     → c.are-literals.result
-    ≡ all (isLiteral c.before.before.before.before.before.before.before.args.v)
+    ≡ all (is_literal c.before.before.before.before.before.before.before.args.v)
     (take c.before.before.before.before.count.result (drop 1 c.before.before.before.before.before.before.before.args.words.now))
 asked c =
     let a = c.before.before.before.before.before.before.before.args in
     let n = c.before.before.before.before.count.result in
     let e : (n + 1) - 1 ≡ n = omega arith in
-    c.are-literals.ensures ∙ ap (λ (k : ℕ). all (isLiteral a.v) (take k (drop 1 a.words.now))) e
+    c.are-literals.ensures ∙ ap (λ (k : ℕ). all (is_literal a.v) (take k (drop 1 a.words.now))) e
 
 returns-4 : tie.Need-returns-4
 returns-4 c =

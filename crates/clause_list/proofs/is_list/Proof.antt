@@ -5,14 +5,14 @@ use native.Mathlib.Omega.{arith}
 use lib.ListN.{length, drop, drop_of_length-le, length-drop}
 use lib.Seq.{drop-drop, take_all}
 use borrow.Author.Rules.{rules}
-use Rattle.clause_list.specs.Private.{clauseWords}
-use Rattle.clause_list.proofs.Laws.{wellCutWords, well-cut-nil, no-variable, many-variables, many-words, list-cut}
+use Rattle.clause_list.specs.Private.{clause_words}
+use Rattle.clause_list.proofs.Laws.{well_cut_words, well-cut-nil, no-variable, many-variables, many-words, list-cut}
 use Rattle.clause_list.proofs.Fronts.{front_cut, front-none}
 use Rattle.clause_list.proofs.is_list.Statement.{statement}
 use Rattle.clause_list.proofs.is_list.Tie as tie
 
 abbrev invariant-loop : tie.invariant-loop
-invariant-loop list v at₀ at = (at ≤ length list) × (wellCutWords v list ≡ wellCutWords v (drop at list))
+invariant-loop list v at₀ at = (at ≤ length list) × (well_cut_words v list ≡ well_cut_words v (drop at list))
 
 abbrev decreases-loop : tie.decreases-loop
 decreases-loop list v at₀ at = length list - at
@@ -47,13 +47,13 @@ clause-words-requires c κs = search rules
 -- the part that was lent is what is not yet passed
 found : (c : tie.After-clause-words invariant-loop decreases-loop)
     → c.clause-words.result
-    ≡ clauseWords c.before.before.before.before.before.before.before.args.v
+    ≡ clause_words c.before.before.before.before.before.before.before.args.v
     (drop c.before.before.before.loop.at c.before.before.before.before.before.before.before.args.list.now)
 found c =
     let a = c.before.before.before.before.before.before.before.args in
     let at = c.before.before.before.loop.at in
     c.clause-words.ensures
-    ∙ ap (clauseWords a.v) (take_all (length a.list.now - at) (drop at a.list.now) (omega (arith, length-drop at a.list.now)))
+    ∙ ap (clause_words a.v) (take_all (length a.list.now - at) (drop at a.list.now) (omega (arith, length-drop at a.list.now)))
 
 returns-4 : tie.Need-returns-4 invariant-loop decreases-loop
 returns-4 c =
@@ -80,8 +80,8 @@ passed c =
       omega (arith, f.0, found c.before, length-drop at a.list.now),
       c.before.before.before.before.loop.invariant.1
           ∙ f.1
-          ∙ ap (λ (k : ℕ). wellCutWords a.v (drop k (drop at a.list.now))) (sym (found c.before))
-          ∙ ap (wellCutWords a.v) (drop-drop n at a.list.now),
+          ∙ ap (λ (k : ℕ). well_cut_words a.v (drop k (drop at a.list.now))) (sym (found c.before))
+          ∙ ap (well_cut_words a.v) (drop-drop n at a.list.now),
     )
 
 add_at : tie.Need-overflow-add-at invariant-loop decreases-loop
@@ -100,7 +100,7 @@ returns-5 c =
     sym
     (list-cut a.v a.list.now (omega arith) (omega arith) (omega arith)
     ∙ c.before.loop.invariant.1
-    ∙ ap (wellCutWords a.v) (drop_of_length-le a.list.now c.loop-test.false)
+    ∙ ap (well_cut_words a.v) (drop_of_length-le a.list.now c.loop-test.false)
     ∙ well-cut-nil a.v)
 
 pub is-list-spec : {M : Type 1} → statement M

@@ -2,11 +2,11 @@
 use mathlib.Core.Path.{refl, ap, ◌∙◌}
 use Prim.Native.Nat.{◌-◌, ◌*◌, ◌≤◌}
 use native.Mathlib.Omega.{arith}
-use Rattle.sheet_rules.specs.Blocks.{sheetOf}
-use Rattle.cells.proofs.Parts.{relations-counted, few-relations}
-use Rattle.clauses_rules.specs.Whole.{series, markClauses}
-use Rattle.clauses_emission.specs.Emission.{literalsOf}
-use Rattle.clauses_marks.specs.Marking.{Adds, relationClauses}
+use Rattle.sheet_rules.specs.Blocks.{sheet_of}
+use Rattle.cells.proofs.Parts.{relations-counted, few_relations}
+use Rattle.clauses_rules.specs.Whole.{series, mark_clauses}
+use Rattle.clauses_emission.specs.Emission.{literals_of}
+use Rattle.clauses_marks.specs.Marking.{Adds, relation_clauses}
 use Rattle.clauses_marks.proofs.Adding.{adds_none, adds-as, adds-most, adds-length, adds-small, adds_then}
 use Rattle.clauses_marks.proofs.Relations.{series-none, series-more, series-done}
 use Rattle.clauses_marks.proofs.marks.Statement.{statement}
@@ -14,7 +14,7 @@ use Rattle.clauses_marks.proofs.marks.Tie as tie
 
 abbrev invariant-loop : tie.invariant-loop
 invariant-loop list₀ sheet layout given starts count after₀ r₀ list after r =
-    (r ≤ count) × Adds (1424 * r) (series r (relationClauses (sheetOf sheet) (literalsOf given))) list₀ after₀ list
+    (r ≤ count) × Adds (1424 * r) (series r (relation_clauses (sheet_of sheet) (literals_of given))) list₀ after₀ list
     after
 
 abbrev decreases-loop : tie.decreases-loop
@@ -30,14 +30,14 @@ relation-marks-requires c κs =
     let p = c.before.before.before.before.before.before.requires in
     let loop = c.before.before.loop in
     let taken = p.1.located.taken in (
-      adds-small loop.invariant.1 p.0 (omega (arith, loop.invariant.0, few-relations _ _ taken)),
+      adds-small loop.invariant.1 p.0 (omega (arith, loop.invariant.0, few_relations _ _ taken)),
       (p.1, omega (arith, c.before.loop-test.true, relations-counted _ _ taken)),
     )
 
 add_r : tie.Need-overflow-add-r invariant-loop decreases-loop
 add_r c =
     let p = c.before.before.before.before.before.before.before.before.requires in
-    omega (arith, c.before.before.before.loop-test.true, few-relations _ _ p.1.located.taken)
+    omega (arith, c.before.before.before.loop-test.true, few_relations _ _ p.1.located.taken)
 
 loop-less : tie.Need-loop-smaller invariant-loop decreases-loop
 loop-less c = omega arith
@@ -46,7 +46,7 @@ loop-again : tie.Need-loop-preserved invariant-loop decreases-loop
 loop-again c =
     let a = c.before.before.before.before.before.before.before.before.args in
     let loop = c.before.before.before.before.loop in
-    let f = relationClauses (sheetOf a.sheet.now) (literalsOf a.given.now) in (
+    let f = relation_clauses (sheet_of a.sheet.now) (literals_of a.given.now) in (
       omega arith,
       adds-most (adds-as (adds_then loop.invariant.1 c.before.relation-marks.ensures) (series-more loop.r f refl)) (omega arith),
     )
@@ -55,16 +55,16 @@ same_length : tie.Need-same-length invariant-loop decreases-loop
 same_length c = adds-length c.before.loop.invariant.1
 
 returns : tie.Need-returns invariant-loop decreases-loop
-unfolding markClauses
+unfolding mark_clauses
 returns c =
     let s = c.before.before.before.before.before in
     let loop = c.before.loop in
-    let f = relationClauses (sheetOf s.args.sheet.now) (literalsOf s.args.given.now) in
+    let f = relation_clauses (sheet_of s.args.sheet.now) (literals_of s.args.given.now) in
     let taken = s.requires.1.located.taken in
     adds-most
     (adds-as loop.invariant.1
     (series-done f loop.invariant.0 c.loop-test.false ∙ ap (λ k. series k f) (relations-counted _ _ taken)))
-    (omega (arith, loop.invariant.0, few-relations _ _ taken))
+    (omega (arith, loop.invariant.0, few_relations _ _ taken))
 
 pub marks-spec : {M : Type 1} → statement M
 marks-spec =

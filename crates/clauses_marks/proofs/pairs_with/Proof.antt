@@ -9,13 +9,13 @@ use mir.Syntax.{w32}
 use mir.Val.{to_z}
 use lib.ListN.{length, get_or, take}
 use Rattle.literal.specs.Literals.{opposite}
-use Rattle.literal.specs.Words.{literalOf}
+use Rattle.literal.specs.Words.{literal_of}
 use Rattle.literal.proofs.Signs.{read, back}
 use Rattle.clauses_rules.specs.Gates.{Clause}
-use Rattle.clauses_rules.specs.Whole.{pairClause}
-use Rattle.clauses_emission.specs.Emission.{literalsOf}
+use Rattle.clauses_rules.specs.Whole.{pair_clause}
+use Rattle.clauses_emission.specs.Emission.{literals_of}
 use Rattle.clauses_emission.proofs.Ranges.{opposite-read}
-use Rattle.clauses_marks.specs.Marking.{Adds, pairsWith}
+use Rattle.clauses_marks.specs.Marking.{Adds, pairs_with}
 use Rattle.clauses_marks.proofs.Adding.{adds_none, adds-as, adds-most, adds-length, adds-small, adds_then, adds_one, small-room}
 use Rattle.clauses_marks.proofs.Rows.{with-next, with_all, member-inside}
 use Rattle.clauses_marks.proofs.pairs_with.Statement.{statement}
@@ -24,7 +24,7 @@ use Rattle.clauses_marks.proofs.pairs_with.Tie as tie
 abbrev invariant-loop : tie.invariant-loop
 invariant-loop list₀ p others first after₀ k₀ list after k =
     (k ≤ length others)
-    × Adds (3 * k) (map pairClause (pairsWith (literalOf (to_z w32 p)) (literalsOf (take k others)))) list₀ after₀ list after
+    × Adds (3 * k) (map pair_clause (pairs_with (literal_of (to_z w32 p)) (literals_of (take k others)))) list₀ after₀ list after
 
 abbrev decreases-loop : tie.decreases-loop
 decreases-loop list₀ p others first after₀ k₀ list after k = length others - k
@@ -70,21 +70,21 @@ loop-again c =
     let w = get_or ws k (pos 0) in
     let h = c.before.before.before.before.before.before.loop-test.true in
     let p = start.args.p in
-    let e : literalOf (read first.result) ≡ opposite (literalOf (read p)) =
+    let e : literal_of (read first.result) ≡ opposite (literal_of (read p)) =
     opposite-read 16002 p first.result (omega arith) start.ranges.p start.requires.1.0 first.ensures (record { sfits = first.type-inv })
-    ∙ ap (λ z. opposite (literalOf z)) (sym (back p start.ranges.p))
+    ∙ ap (λ z. opposite (literal_of z)) (sym (back p start.ranges.p))
     in
-    let f : literalOf (read second.result) ≡ opposite (literalOf w) =
+    let f : literal_of (read second.result) ≡ opposite (literal_of w) =
     opposite-read 16002 w second.result (omega arith) (record { sfits = c.before.before.before.before.before.q.given })
     (member-inside start.requires.1.1 k h) second.ensures (record { sfits = second.type-inv })
     in
-    let g : ◌≡◌ {A = List Clause} ((literalOf (read first.result) ∷ literalOf (read second.result) ∷ []) ∷ [])
-    ((opposite (literalOf (read p)) ∷ opposite (literalOf w) ∷ []) ∷ []) = rw (e, f)
+    let g : ◌≡◌ {A = List Clause} ((literal_of (read first.result) ∷ literal_of (read second.result) ∷ []) ∷ [])
+    ((opposite (literal_of (read p)) ∷ opposite (literal_of w) ∷ []) ∷ []) = rw (e, f)
     in (
       omega arith,
       adds-most (adds-as (adds_then loop.invariant.1
           (adds-as (adds_one (read first.result) (read second.result ∷ []) c.before.emit-clause.ensures) g))
-          (with-next (literalOf (read p)) ws k h)) (omega arith),
+          (with-next (literal_of (read p)) ws k h)) (omega arith),
     )
 
 same_length : tie.Need-same-length invariant-loop decreases-loop
@@ -96,8 +96,8 @@ returns c =
     let ws = start.args.others.now in
     let p = start.args.p in
     adds-most (adds-as c.before.loop.invariant.1
-    (with_all (literalOf (read p)) ws c.before.loop.k c.loop-test.false
-    ∙ ap (λ z. map pairClause (pairsWith (literalOf z) (literalsOf ws))) (back p start.ranges.p)))
+    (with_all (literal_of (read p)) ws c.before.loop.k c.loop-test.false
+    ∙ ap (λ z. map pair_clause (pairs_with (literal_of z) (literals_of ws))) (back p start.ranges.p)))
     (omega (arith, c.before.loop.invariant.0, start.requires.1.1.few))
 
 pub pairs-with-spec : {M : Type 1} → statement M

@@ -3,12 +3,12 @@ use mathlib.Core.Path.{ap, ◌∙◌}
 use Prim.Native.Nat.{◌-◌, ◌*◌, ◌≤◌, ◌<◌}
 use native.Mathlib.Omega.{arith}
 use lib.ListN.{get_or}
-use Rattle.sheet_rules.specs.Blocks.{sheetOf, multiplicity}
+use Rattle.sheet_rules.specs.Blocks.{sheet_of, multiplicity}
 use Rattle.sheet_rules.proofs.Acceptance.{accepted-facts}
-use Rattle.clauses_rules.specs.Whole.{series, rowMembers}
+use Rattle.clauses_rules.specs.Whole.{series, row_members}
 use Rattle.clauses_rules.proofs.Accepted.{accepted-rows}
-use Rattle.clauses_emission.specs.Emission.{literalsOf}
-use Rattle.clauses_marks.specs.Marking.{Adds, rowMarks}
+use Rattle.clauses_emission.specs.Emission.{literals_of}
+use Rattle.clauses_marks.specs.Marking.{Adds, row_marks}
 use Rattle.clauses_marks.proofs.Adding.{adds_none, adds-as, adds-most, adds-length, adds-small, adds_then}
 use Rattle.clauses_marks.proofs.Relations.{series-none, series-more, series-done}
 use Rattle.clauses_marks.proofs.Relations.{RowAt, row_same, row_ends, row_is, row-members, row-some}
@@ -18,20 +18,20 @@ use Rattle.clauses_marks.proofs.relation_marks.Tie as tie
 
 abbrev invariant-loop : tie.invariant-loop
 invariant-loop list₀ sheet layout given starts r rows n first after₀ i₀ list after i =
-    (i ≤ rows) × Adds (178 * i) (series i (rowMarks (sheetOf sheet) (literalsOf given) r)) list₀ after₀ list after
+    (i ≤ rows) × Adds (178 * i) (series i (row_marks (sheet_of sheet) (literals_of given) r)) list₀ after₀ list after
 
 abbrev decreases-loop : tie.decreases-loop
 decreases-loop list₀ sheet layout given starts r rows n first after₀ i₀ list after i = rows - i
 
-few-relations : (c : tie.Start invariant-loop decreases-loop) → c.args.r < 16
-few-relations c = omega (arith, c.requires.1.1, (accepted-facts _ _ c.requires.1.0.located.taken).counts.few-relations)
+few_relations : (c : tie.Start invariant-loop decreases-loop) → c.args.r < 16
+few_relations c = omega (arith, c.requires.1.1, (accepted-facts _ _ c.requires.1.0.located.taken).counts.few_relations)
 
 abbrev start : tie.At-loop invariant-loop decreases-loop → tie.Start invariant-loop decreases-loop
 start at = at.before.before.before.before.before.before
 
 -- the row of a turn
 row : (c : tie.In-loop invariant-loop decreases-loop)
-    → RowAt (sheetOf (start c.before).args.sheet.now) (start c.before).args.given.now (start c.before).args.r
+    → RowAt (sheet_of (start c.before).args.sheet.now) (start c.before).args.given.now (start c.before).args.r
     c.before.loop.i c.before.before.before.before.row_count.result c.before.before.before.row-length.result
     (get_or (start c.before).args.starts.now (start c.before).args.r 0)
 row c =
@@ -50,20 +50,20 @@ row c =
 row-count-requires : tie.Need-row-count-requires invariant-loop decreases-loop
 row-count-requires c κs =
     let s = c.before.before in
-    (s.requires.1.0.located.taken, omega (arith, few-relations s))
+    (s.requires.1.0.located.taken, omega (arith, few_relations s))
 
 row-length-requires : tie.Need-row-length-requires invariant-loop decreases-loop
 row-length-requires c κs =
     let s = c.before.before.before in
-    (s.requires.1.0.located.taken, omega (arith, few-relations s))
+    (s.requires.1.0.located.taken, omega (arith, few_relations s))
 
 mul-first : tie.Need-overflow-mul-first invariant-loop decreases-loop
-mul-first c = omega (arith, few-relations c.before.before.before.before)
+mul-first c = omega (arith, few_relations c.before.before.before.before)
 
 shared-slice-read-first : tie.Need-shared-slice-read-first invariant-loop decreases-loop
 shared-slice-read-first c =
     let s = c.before.before.before.before.before in
-    omega (arith, few-relations s, s.requires.1.0.located.cells.long)
+    omega (arith, few_relations s, s.requires.1.0.located.cells.long)
 
 loop-holds : tie.Need-loop-init invariant-loop decreases-loop
 loop-holds c =
@@ -101,7 +101,7 @@ row-marks-requires c κs =
       adds-small at.loop.invariant.1 s.pre.0 (omega (arith, at.loop.invariant.0, few)),
       record {
         accepts = record { taken = g.located.taken; inside = g.inside };
-        relation = omega (arith, few-relations s);
+        relation = omega (arith, few_relations s);
         atom = omega (arith, c.before.before.loop-test.true, few);
         members = row-members t at.before.before.row-length.ensures.1 g.inside;
         some = row-some t;
@@ -121,9 +121,9 @@ loop-again c =
     let a = (start at).args in (
       omega (arith, turn.loop-test.true),
       adds-most (adds-as (adds_then at.loop.invariant.1 c.before.row-marks.ensures)
-          (series-more at.loop.i (rowMarks (sheetOf a.sheet.now) (literalsOf a.given.now) a.r)
-          (row_same (multiplicity (sheetOf a.sheet.now) a.r)
-          (rowMembers (sheetOf a.sheet.now) (literalsOf a.given.now) a.r at.loop.i)
+          (series-more at.loop.i (row_marks (sheet_of a.sheet.now) (literals_of a.given.now) a.r)
+          (row_same (multiplicity (sheet_of a.sheet.now) a.r)
+          (row_members (sheet_of a.sheet.now) (literals_of a.given.now) a.r at.loop.i)
           (row_is (row turn)))))
           (omega arith),
     )
@@ -136,7 +136,7 @@ returns c =
     let at = c.before in
     let a = (start at).args in
     let rows = at.before.before.before.row_count.ensures in
-    let f = rowMarks (sheetOf a.sheet.now) (literalsOf a.given.now) a.r in
+    let f = row_marks (sheet_of a.sheet.now) (literals_of a.given.now) a.r in
     adds-most (adds-as at.loop.invariant.1 (series-done f at.loop.invariant.0 c.loop-test.false ∙ ap (λ k. series k f) rows.0))
     (omega (arith, at.loop.invariant.0, rows.1))
 

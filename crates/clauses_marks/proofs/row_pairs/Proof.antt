@@ -6,25 +6,25 @@ use Prim.Native.Nat.{◌+◌, ◌-◌, ◌≤◌}
 use native.Mathlib.Omega.{arith}
 use lib.IntN.{pos}
 use lib.ListN.{length, get_or, take, drop}
-use Rattle.literal.specs.Words.{literalOf}
+use Rattle.literal.specs.Words.{literal_of}
 use Rattle.literal.proofs.Signs.{back}
-use Rattle.clauses_rules.specs.Whole.{pairClause}
-use Rattle.clauses_emission.specs.Emission.{literalsOf}
+use Rattle.clauses_rules.specs.Whole.{pair_clause}
+use Rattle.clauses_emission.specs.Emission.{literals_of}
 use Rattle.clauses_emission.proofs.Ors.{length-literals}
-use Rattle.clauses_marks.specs.Marking.{pairsWith}
+use Rattle.clauses_marks.specs.Marking.{pairs_with}
 use Rattle.clauses_marks.proofs.Adding.{adds-as, adds-length, adds-small}
 use Rattle.clauses_marks.proofs.Rows.{Paired, paired_none, paired-more, paired-all, with_rest, member-inside, members-after}
 use Rattle.clauses_marks.proofs.row_pairs.Statement.{statement}
 use Rattle.clauses_marks.proofs.row_pairs.Tie as tie
 
 abbrev invariant-loop : tie.invariant-loop
-invariant-loop list₀ row after₀ k₀ list after k = (k ≤ length row) × Paired (literalsOf row) k list₀ after₀ list after
+invariant-loop list₀ row after₀ k₀ list after k = (k ≤ length row) × Paired (literals_of row) k list₀ after₀ list after
 
 abbrev decreases-loop : tie.decreases-loop
 decreases-loop list₀ row after₀ k₀ list after k = length row - k
 
 loop-holds : tie.Need-loop-init invariant-loop decreases-loop
-loop-holds c = (omega arith, paired_none (literalsOf c.args.row.now) c.args.list.now c.args.tape)
+loop-holds c = (omega arith, paired_none (literals_of c.args.row.now) c.args.list.now c.args.tape)
 
 mul-p : tie.Need-overflow-mul-p invariant-loop decreases-loop
 mul-p c = search rules
@@ -75,12 +75,12 @@ loop-again c =
     let h = c.before.before.before.before.before.loop-test.true in
     let ws = start.args.row.now in
     let w = get_or ws loop.k (pos 0) in
-    let rest = literalsOf (take (length ws - (loop.k + 1)) (drop (loop.k + 1) ws)) in (
+    let rest = literals_of (take (length ws - (loop.k + 1)) (drop (loop.k + 1) ws)) in (
       omega arith,
-      paired-more (literalsOf ws) loop.k loop.invariant.1 (rw (length-literals ws) h)
+      paired-more (literals_of ws) loop.k loop.invariant.1 (rw (length-literals ws) h)
           (adds-as c.before.pairs-with.ensures
-          (ap (λ z. map pairClause (pairsWith (literalOf z) rest)) (back w (record { sfits = c.before.before.before.before.p.given }))
-          ∙ ap (map pairClause) (with_rest ws loop.k h))),
+          (ap (λ z. map pair_clause (pairs_with (literal_of z) rest)) (back w (record { sfits = c.before.before.before.before.p.given }))
+          ∙ ap (map pair_clause) (with_rest ws loop.k h))),
     )
 
 same_length : tie.Need-same-length invariant-loop decreases-loop
@@ -91,7 +91,7 @@ returns c =
     let start = c.before.before in
     let ws = start.args.row.now in
     let n = length-literals ws in
-    paired-all (literalsOf ws) c.before.loop.k c.before.loop.invariant.1 (omega (arith, n, c.loop-test.false))
+    paired-all (literals_of ws) c.before.loop.k c.before.loop.invariant.1 (omega (arith, n, c.loop-test.false))
     (omega (arith, c.before.loop.invariant.0, start.requires.1.few))
 
 pub row-pairs-spec : {M : Type 1} → statement M

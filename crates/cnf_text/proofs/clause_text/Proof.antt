@@ -4,15 +4,15 @@ use Prim.Native.Nat.{◌≤◌}
 use native.Mathlib.Omega.{arith}
 use lib.ListN.{length, take}
 use borrow.Author.Rules.{rules}
-use Rattle.text.specs.Texts.{bytes_of, endLine}
+use Rattle.text.specs.Texts.{bytes_of, end_line}
 use Rattle.text.proofs.Puts.{put_as, prints, counts}
-use Rattle.sheet_rules.specs.Blocks.{sheetOf}
+use Rattle.sheet_rules.specs.Blocks.{sheet_of}
 use Rattle.clauses.specs.declared.answer.Size.{Size}
 use Rattle.clauses.specs.declared.answer.Count.TheVariants.{Fits}
-use Rattle.clauses.specs.Answers.{fits, answer_of, writeAnswer}
+use Rattle.clauses.specs.Answers.{fits, answer_of, write_answer}
 use Rattle.dimacs.specs.Text.{text_of}
 use Rattle.cnf_text.specs.Private.{PrintsText}
-use Rattle.cnf_text.specs.Printed.{textAs}
+use Rattle.cnf_text.specs.Printed.{text_as}
 use Rattle.cnf_text.proofs.Texts.{long-clauses, long-list, short-clauses, short-list, text-counts}
 use Rattle.cnf_text.proofs.Texts.{written-inside, written_listed, written-fits, written-text}
 use Rattle.cnf_text.proofs.clause_text.Statement.{statement}
@@ -59,7 +59,7 @@ start c = c.before.before.before.before
 
 -- writing answered with numbers
 sized : (c : tie.After-write) (z : Size) → c.write.result ≡ Fits z
-    → writeAnswer (start c).args.input.now (start c).args.list.now ≡ fits z.variables z.clauses z.words
+    → write_answer (start c).args.input.now (start c).args.list.now ≡ fits z.variables z.clauses z.words
 sized c z e = sym c.write.ensures.0 ∙ ap answer_of e
 
 put-clauses-requires : tie.Need-put-clauses-requires
@@ -83,7 +83,7 @@ returns-2 c =
     let list = s.args.list.now in
     let h = k.before.before.if1.false in
     let a = ap answer_of (sym c.before.before.before.before.before.written.given.1) ∙ k.write.ensures.0 in
-    let e = ap (endLine (bytes_of "refused ")) c.before.number.ensures ∙ ap (λ x. textAs x (sheetOf input)) a ∙ sym (short-clauses input list h) in
+    let e = ap (end_line (bytes_of "refused ")) c.before.number.ensures ∙ ap (λ x. text_as x (sheet_of input)) a ∙ sym (short-clauses input list h) in
     let p = put_as e c.put-end2.ensures.0 in
     let l : c.put-end2.result ≤ length s.args.text.now = omega (arith, c.put-end2.ensures.1) in
     (counts p l, (prints p l, k.write.ensures.1 ∙ sym (short-list input list h)))

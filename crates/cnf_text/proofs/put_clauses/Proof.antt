@@ -8,8 +8,8 @@ use lib.ListN.{length, take}
 use lib.Seq.{length-take-le}
 use borrow.Author.Rules.{rules}
 use Rattle.clause_list.proofs.Laws.{list-most-variables}
-use Rattle.dimacs.specs.Answers.{bytes, answer_of, sizeAnswer}
-use Rattle.cnf_text.proofs.Texts.{not-refused, part-inside, part-printed}
+use Rattle.dimacs.specs.Answers.{bytes, answer_of, size_answer}
+use Rattle.cnf_text.proofs.Texts.{not_refused, part-inside, part-printed}
 use Rattle.cnf_text.proofs.put_clauses.Statement.{statement}
 use Rattle.cnf_text.proofs.put_clauses.Tie as tie
 
@@ -38,7 +38,7 @@ returns : tie.Need-returns
 returns c =
     let s = c.before.before.before.before.before.before in
     let a = ap answer_of (sym c.enum_told.given.1) ∙ c.before.before.size.ensures in
-    absurd (not-refused s.args.size.variables (take s.args.size.words s.args.list.now) s.requires.1.0 _ a)
+    absurd (not_refused s.args.size.variables (take s.args.size.words s.args.list.now) s.requires.1.0 _ a)
 
 -- the figure
 abbrev start : tie.After-sized → tie.Start
@@ -47,7 +47,7 @@ start c = c.before.before.before.before.before.before
 abbrev words : tie.After-sized → List ℤ
 words c = take (start c).args.size.words (start c).args.list.now
 
-figure : (c : tie.After-sized) → sizeAnswer (start c).args.size.variables (words c) ≡ bytes c.sized.given.0.0
+figure : (c : tie.After-sized) → size_answer (start c).args.size.variables (words c) ≡ bytes c.sized.given.0.0
 figure c = sym c.before.before.size.ensures ∙ ap answer_of c.sized.given.1
 
 inside : (c : tie.After-sized) → c.sized.given.0.0 ≤ length (start c).args.text.now

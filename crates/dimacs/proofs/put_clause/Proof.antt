@@ -10,19 +10,19 @@ use borrow.Author.Rules.{rules}
 use Rattle.text.proofs.Puts.{put_byte, put_two, put-length, put_as, room-first}
 use Rattle.text.proofs.Puts.{Left, left-all, left_as, left-room, left-put, left-last}
 use Rattle.literal.proofs.Signs.{back}
-use Rattle.dimacs.specs.Text.{literalText, clauseLine}
+use Rattle.dimacs.specs.Text.{literal_text, clause_line}
 use Rattle.dimacs.proofs.Lines.{line-from, line-end}
 use Rattle.dimacs.proofs.put_clause.Statement.{statement}
 use Rattle.dimacs.proofs.put_clause.Tie as tie
 
 abbrev invariant-loop : tie.invariant-loop
-invariant-loop text₀ at clause end₀ i₀ text end i = (i ≤ length clause) × Left text₀ at (clauseLine clause) text end (clauseLine (drop i clause))
+invariant-loop text₀ at clause end₀ i₀ text end i = (i ≤ length clause) × Left text₀ at (clause_line clause) text end (clause_line (drop i clause))
 
 abbrev decreases-loop : tie.decreases-loop
 decreases-loop text₀ at clause end₀ i₀ text end i = length clause - i
 
 loop-holds : tie.Need-loop-init invariant-loop decreases-loop
-loop-holds c = (omega arith, left-all c.before.args.text.now c.before.args.at (clauseLine c.before.args.clause.now))
+loop-holds c = (omega arith, left-all c.before.args.text.now c.before.args.at (clause_line c.before.args.clause.now))
 
 mul-l : tie.Need-overflow-mul-l invariant-loop decreases-loop
 mul-l c = search rules
@@ -35,10 +35,10 @@ abbrev entered : tie.At-loop invariant-loop decreases-loop → tie.Start invaria
 entered c = c.before.before
 
 turn : (c : tie.In-loop invariant-loop decreases-loop)
-    → Left (entered c.before).args.text.now (entered c.before).args.at (clauseLine (entered c.before).args.clause.now)
+    → Left (entered c.before).args.text.now (entered c.before).args.at (clause_line (entered c.before).args.clause.now)
     c.before.loop.text c.before.loop.end
-    (literalText (get_or (entered c.before).args.clause.now c.before.loop.i (pos 0))
-    ++ (32 ∷ clauseLine (drop (suc c.before.loop.i) (entered c.before).args.clause.now)))
+    (literal_text (get_or (entered c.before).args.clause.now c.before.loop.i (pos 0))
+    ++ (32 ∷ clause_line (drop (suc c.before.loop.i) (entered c.before).args.clause.now)))
 turn c = left_as (line-from (entered c.before).args.clause.now c.before.loop.i c.loop-test.true) c.before.loop.invariant.1
 
 put-literal-requires : tie.Need-put-literal-requires invariant-loop decreases-loop
@@ -48,8 +48,8 @@ put-literal-requires c κs =
     let l = get_or start.args.clause.now i (pos 0) in
     rw (back l (record { sfits = c.before.l.given })) (
       start.requires.0 i c.before.before.loop-test.true,
-      room-first c.before.before.before.loop.text c.before.before.before.loop.end (literalText l)
-          (32 ∷ clauseLine (drop (suc i) start.args.clause.now))
+      room-first c.before.before.before.loop.text c.before.before.before.loop.end (literal_text l)
+          (32 ∷ clause_line (drop (suc i) start.args.clause.now))
           (left-room start.requires.1 (turn c.before.before)),
     )
 
@@ -58,13 +58,13 @@ abbrev turning : tie.After-put-literal invariant-loop decreases-loop → tie.At-
 turning c = c.before.before.before.before
 
 after : (c : tie.After-put-literal invariant-loop decreases-loop)
-    → Left (entered (turning c)).args.text.now (entered (turning c)).args.at (clauseLine (entered (turning c)).args.clause.now)
+    → Left (entered (turning c)).args.text.now (entered (turning c)).args.at (clause_line (entered (turning c)).args.clause.now)
     c.put-literal.new.0 c.put-literal.result
-    (32 ∷ clauseLine (drop (suc (turning c).loop.i) (entered (turning c)).args.clause.now))
+    (32 ∷ clause_line (drop (suc (turning c).loop.i) (entered (turning c)).args.clause.now))
 after c =
     let l = get_or (entered (turning c)).args.clause.now (turning c).loop.i (pos 0) in
     let e = back l (record { sfits = c.before.before.l.given }) in
-    left-put (turn c.before.before.before) (put_as (ap literalText e) c.put-literal.ensures)
+    left-put (turn c.before.before.before) (put_as (ap literal_text e) c.put-literal.ensures)
 
 slice-write-text : tie.Need-slice-write-text invariant-loop decreases-loop
 slice-write-text c =
@@ -89,11 +89,11 @@ loop-again c =
     let i = c.before.before.before.before.before.before.loop.i in
     let call = c.before.before.put-literal in
     let l = left-put (after c.before.before) (put_byte call.new.0 call.result 32) in
-    (omega arith, left_as (ap (λ n. clauseLine (drop n clause)) (sym (add-one i))) l)
+    (omega arith, left_as (ap (λ n. clause_line (drop n clause)) (sym (add-one i))) l)
 
 -- after the loop
 ending : (c : tie.After-loop invariant-loop decreases-loop)
-    → Left (entered c.before).args.text.now (entered c.before).args.at (clauseLine (entered c.before).args.clause.now)
+    → Left (entered c.before).args.text.now (entered c.before).args.at (clause_line (entered c.before).args.clause.now)
     c.before.loop.text c.before.loop.end (48 ∷ 10 ∷ [])
 ending c = left_as (line-end (entered c.before).args.clause.now c.before.loop.i c.loop-test.false) c.before.loop.invariant.1
 

@@ -5,16 +5,16 @@ use Prim.Native.Nat.{suc, ◌+◌, ◌-◌}
 use native.Mathlib.Omega.{arith}
 use lib.ListN.{length, take, drop, drop_of_length-le}
 use Rattle.text.proofs.Puts.{put_as, put-length, room-first, Left, left-all, left_as, left-room, left-put, left-none}
-use Rattle.clause_list.specs.ClauseList.{clausesOf}
+use Rattle.clause_list.specs.ClauseList.{clauses_of}
 use Rattle.clause_list.proofs.Laws.{ClauseAt, clauses-nil}
-use Rattle.dimacs.specs.Text.{clauseLine, clauseLines}
+use Rattle.dimacs.specs.Text.{clause_line, clause_lines}
 use Rattle.dimacs.proofs.Lines.{lines_none, lines_more}
-use Rattle.dimacs.proofs.Walks.{At, at-start, countAt, clauseAt, here, next, part, proper}
+use Rattle.dimacs.proofs.Walks.{At, at-start, count_at, clause_at, here, next, part, proper}
 use Rattle.dimacs.proofs.put_clauses.Statement.{statement}
 use Rattle.dimacs.proofs.put_clauses.Tie as tie
 
 abbrev invariant-loop : tie.invariant-loop
-invariant-loop text₀ at list end₀ i₀ text end i = At list i × Left text₀ at (clauseLines (clausesOf list)) text end (clauseLines (clausesOf (drop i list)))
+invariant-loop text₀ at list end₀ i₀ text end i = At list i × Left text₀ at (clause_lines (clauses_of list)) text end (clause_lines (clauses_of (drop i list)))
 
 abbrev decreases-loop : tie.decreases-loop
 decreases-loop text₀ at list end₀ i₀ text end i = length list - i
@@ -22,7 +22,7 @@ decreases-loop text₀ at list end₀ i₀ text end i = length list - i
 loop-holds : tie.Need-loop-init invariant-loop decreases-loop
 loop-holds c =
     let a = c.before.args in
-    (at-start a.list.now, left-all a.text.now a.at (clauseLines (clausesOf a.list.now)))
+    (at-start a.list.now, left-all a.text.now a.at (clause_lines (clauses_of a.list.now)))
 
 add-first : tie.Need-overflow-add-first invariant-loop decreases-loop
 add-first c = omega arith
@@ -42,21 +42,21 @@ entered c = c.before.before.before.before
 -- the clause at i
 clause : (c : tie.After-clause-end invariant-loop decreases-loop)
     → ClauseAt (entered c).requires.0.variables (entered c).args.list.now (turning c).loop.i
-    (countAt (entered c).args.list.now (turning c).loop.i)
+    (count_at (entered c).args.list.now (turning c).loop.i)
 clause c =
     let loop = (turning c).loop in
     here (entered c).args.list.now loop.i loop.inv.0 c.before.loop-test.true (entered c).requires.0
 
 -- what is still to be put in a turn, its clause first
 turn : (c : tie.After-clause-end invariant-loop decreases-loop)
-    → Left (entered c).args.text.now (entered c).args.at (clauseLines (clausesOf (entered c).args.list.now))
+    → Left (entered c).args.text.now (entered c).args.at (clause_lines (clauses_of (entered c).args.list.now))
     (turning c).loop.text (turning c).loop.end
-    (clauseLine (clauseAt (entered c).args.list.now (turning c).loop.i)
-    ++ clauseLines (clausesOf (drop c.clause-end.result (entered c).args.list.now)))
+    (clause_line (clause_at (entered c).args.list.now (turning c).loop.i)
+    ++ clause_lines (clauses_of (drop c.clause-end.result (entered c).args.list.now)))
 turn c =
     let ws = (entered c).args.list.now in
-    let rest = ap (λ i. clauseLine (clauseAt ws (turning c).loop.i) ++ clauseLines (clausesOf (drop i ws))) (sym c.clause-end.ensures) in
-    left_as (ap clauseLines (clause c).clauses ∙ lines_more _ _ ∙ rest) (turning c).loop.invariant.1
+    let rest = ap (λ i. clause_line (clause_at ws (turning c).loop.i) ++ clause_lines (clauses_of (drop i ws))) (sym c.clause-end.ensures) in
+    left_as (ap clause_lines (clause c).clauses ∙ lines_more _ _ ∙ rest) (turning c).loop.invariant.1
 
 mul-put-clause : tie.Need-overflow-mul-put-clause invariant-loop decreases-loop
 mul-put-clause c = omega (arith, (clause c.before).fits)
@@ -73,7 +73,7 @@ part-put-clause-end c = omega (arith, c.before.clause-end.ensures, (clause c.bef
 -- what the call is lent is the clause
 lent : (c : tie.After-clause-end invariant-loop decreases-loop)
     → take (c.clause-end.result - ((turning c).loop.i + 1)) (drop ((turning c).loop.i + 1) (entered c).args.list.now)
-    ≡ clauseAt (entered c).args.list.now (turning c).loop.i
+    ≡ clause_at (entered c).args.list.now (turning c).loop.i
 lent c = part (entered c).args.list.now (turning c).loop.i c.clause-end.result c.clause-end.ensures
 
 put-clause-requires : tie.Need-put-clause-requires invariant-loop decreases-loop
@@ -81,10 +81,10 @@ put-clause-requires c κs =
     let k = c.before.before in
     let start = entered k in
     let loop = (turning k).loop in
-    let words = clauseAt start.args.list.now loop.i in
+    let words = clause_at start.args.list.now loop.i in
     rw (lent k) (
       proper start.pre.0.variables words (clause k).literals,
-      room-first loop.text loop.end (clauseLine words) _ (left-room start.pre.1 (turn k)),
+      room-first loop.text loop.end (clause_line words) _ (left-room start.pre.1 (turn k)),
     )
 
 loop-less : tie.Need-loop-smaller invariant-loop decreases-loop
@@ -98,7 +98,7 @@ loop-again c =
     let start = entered k in
     let ws = start.args.list.now in
     let loop = (turning k).loop in
-    let p = put_as (ap clauseLine (lent k)) c.before.before.put-clause.ensures in (
+    let p = put_as (ap clause_line (lent k)) c.before.before.put-clause.ensures in (
       next ws loop.i loop.inv.0 k.before.loop-test.true start.pre.0 k.clause-end.ensures,
       left-put (turn k) p,
     )
@@ -106,7 +106,7 @@ loop-again c =
 returns : tie.Need-returns invariant-loop decreases-loop
 returns c =
     let d = drop_of_length-le c.before.before.before.args.list.now c.loop-test.false in
-    let e = ap (λ ws. clauseLines (clausesOf ws)) d ∙ ap clauseLines clauses-nil ∙ lines_none in
+    let e = ap (λ ws. clause_lines (clauses_of ws)) d ∙ ap clause_lines clauses-nil ∙ lines_none in
     left-none (left_as e c.before.loop.invariant.1)
 
 same_length : tie.Need-same-length invariant-loop decreases-loop

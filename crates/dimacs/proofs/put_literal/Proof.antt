@@ -7,18 +7,18 @@ use borrow.Author.Rules.{rules}
 use Rattle.text.specs.Texts.{decimal}
 use Rattle.text.proofs.Puts.{put_byte, put_both, put_as, put-length}
 use Rattle.literal.proofs.Signs.{back}
-use Rattle.dimacs.specs.Text.{literalText}
+use Rattle.dimacs.specs.Text.{literal_text}
 use Rattle.dimacs.proofs.Lines.{positive-word, negative-word}
 use Rattle.dimacs.proofs.put_literal.Statement.{statement}
 use Rattle.dimacs.proofs.put_literal.Tie as tie
 
 -- the text of the literal, by its sign
-positive : (c : tie.Then1) → literalText c.before.before.before.before.args.l ≡ decimal c.before.before.variable.result
+positive : (c : tie.Then1) → literal_text c.before.before.before.before.args.l ≡ decimal c.before.before.variable.result
 positive c =
     let s = c.before.before.before.before in
     positive-word (back s.args.l s.ranges.l) c.before.before.variable.ensures c.before.is_positive.ensures c.if1.true
 
-negative : (c : tie.Else1) → literalText c.before.before.before.before.args.l ≡ 45 ∷ decimal c.before.before.variable.result
+negative : (c : tie.Else1) → literal_text c.before.before.before.before.args.l ≡ 45 ∷ decimal c.before.before.variable.result
 negative c =
     let s = c.before.before.before.before in
     negative-word (back s.args.l s.ranges.l) c.before.before.variable.ensures c.before.is_positive.ensures c.if1.false

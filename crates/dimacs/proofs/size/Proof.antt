@@ -3,7 +3,7 @@ use mathlib.Core.Path.{◌≡◌, sym, ap, ◌∙◌}
 use mathlib.Core.Bool.{true}
 use borrow.Author.Rules.{rules}
 use borrow.Author.Tests.{not-true, not-false}
-use Rattle.clause_list.specs.ClauseList.{isList}
+use Rattle.clause_list.specs.ClauseList.{is_list}
 use Rattle.dimacs.specs.Answers.{bytes}
 use Rattle.dimacs.proofs.Answers.{size-refused, size-bytes}
 use Rattle.dimacs.proofs.size.Statement.{statement}
@@ -15,10 +15,10 @@ is-list-requires c κs = search rules
 returns : tie.Need-returns
 returns c =
     let a = c.before.before.args in
-    sym (size-refused a.v a.list.now (sym c.before.is-list.ensures ∙ not-true c.before.is-list.result c.if1.true))
+    sym (size-refused a.v a.list.now (sym c.before.is_list_ok.ensures ∙ not-true c.before.is_list_ok.result c.if1.true))
 
-passed : (c : tie.Else1) → isList c.before.before.args.v c.before.before.args.list.now ≡ true
-passed c = sym c.before.is-list.ensures ∙ not-false c.before.is-list.result c.if1.false
+passed : (c : tie.Else1) → is_list c.before.before.args.v c.before.before.args.list.now ≡ true
+passed c = sym c.before.is_list_ok.ensures ∙ not-false c.before.is_list_ok.result c.if1.false
 
 measure-requires : tie.Need-measure-requires
 measure-requires c κs = passed c

@@ -8,8 +8,8 @@ use borrow.Author.Rules.{rules}
 use borrow.Author.Tests.{not-true, not-false}
 use Rattle.text.specs.Puts.{Put, Room}
 use Rattle.text.proofs.Puts.{put_both, put_as, room-first, put-length, Left, left-all, left_as, left-put, left-room}
-use Rattle.clause_list.specs.ClauseList.{clausesOf, isList}
-use Rattle.dimacs.specs.Text.{header, clauseLines, text_of}
+use Rattle.clause_list.specs.ClauseList.{clauses_of, is_list}
+use Rattle.dimacs.specs.Text.{header, clause_lines, text_of}
 use Rattle.dimacs.proofs.Answers.{write-no-list, after-no-list, write-short, after-short, write-put}
 use Rattle.dimacs.proofs.Lines.{text-parts}
 use Rattle.dimacs.proofs.write.Statement.{statement}
@@ -21,12 +21,12 @@ is-list-requires c κs = search rules
 returns : tie.Need-returns
 returns c =
     let a = c.before.before.before.args in
-    let f = sym c.before.is-list.ensures ∙ not-true c.before.is-list.result c.if1.true in
+    let f = sym c.before.is_list_ok.ensures ∙ not-true c.before.is_list_ok.result c.if1.true in
     (sym (write-no-list a.v a.list.now a.text.now f), sym (after-no-list a.v a.list.now a.text.now f))
 
 -- the list is one
-passed : (c : tie.Else1) → isList c.before.before.before.args.v c.before.before.before.args.list.now ≡ true
-passed c = sym c.before.is-list.ensures ∙ not-false c.before.is-list.result c.if1.false
+passed : (c : tie.Else1) → is_list c.before.before.before.args.v c.before.before.before.args.list.now ≡ true
+passed c = sym c.before.is_list_ok.ensures ∙ not-false c.before.is_list_ok.result c.if1.false
 
 measure-requires : tie.Need-measure-requires
 measure-requires c κs = passed c
@@ -49,15 +49,15 @@ roomy c = omega (arith, c.if2.false, c.before.before.measure.ensures.1)
 
 -- the header for the clauses that were counted, and then the lines
 headed : (c : tie.Else2)
-    → header (taken c).args.v c.before.before.measure.result.clauses ++ clauseLines (clausesOf (taken c).args.list.now)
+    → header (taken c).args.v c.before.before.measure.result.clauses ++ clause_lines (clauses_of (taken c).args.list.now)
     ≡ text_of (taken c).args.v (taken c).args.list.now
 headed c =
     let a = (taken c).args in
-    ap (λ n. header a.v n ++ clauseLines (clausesOf a.list.now)) c.before.before.measure.ensures.0 ∙ text-parts a.v a.list.now
+    ap (λ n. header a.v n ++ clause_lines (clauses_of a.list.now)) c.before.before.measure.ensures.0 ∙ text-parts a.v a.list.now
 
 to-put : (c : tie.Else2)
     → Left (taken c).args.text.now 0 (text_of (taken c).args.v (taken c).args.list.now) (taken c).args.text.now 0
-    (header (taken c).args.v c.before.before.measure.result.clauses ++ clauseLines (clausesOf (taken c).args.list.now))
+    (header (taken c).args.v c.before.before.measure.result.clauses ++ clause_lines (clauses_of (taken c).args.list.now))
 to-put c =
     let a = (taken c).args in
     left_as (sym (headed c)) (left-all a.text.now 0 (text_of a.v a.list.now))
@@ -66,7 +66,7 @@ put-header-requires : tie.Need-put-header-requires
 put-header-requires c κs =
     let k = c.before in
     let a = (taken k).args in
-    room-first a.text.now 0 (header a.v k.before.before.measure.result.clauses) (clauseLines (clausesOf a.list.now))
+    room-first a.text.now 0 (header a.v k.before.before.measure.result.clauses) (clause_lines (clauses_of a.list.now))
     (left-room (roomy k) (to-put k))
 
 put-clauses-requires : tie.Need-put-clauses-requires

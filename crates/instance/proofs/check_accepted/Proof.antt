@@ -3,7 +3,7 @@ use mathlib.Core.Path.{◌≡◌, sym, ap, ◌∙◌}
 use mathlib.Core.Bool.{cond}
 use borrow.Author.Tests.{not-true, not-false}
 use Rattle.instance.specs.Answers.{yes, no}
-use Rattle.instance.specs.Held.{checkAnswer}
+use Rattle.instance.specs.Held.{check_answer}
 use Rattle.instance.proofs.Held.{other_length, other-cells, evaluated}
 use borrow.Author.Rules.{rules}
 use Rattle.instance.proofs.check_accepted.Statement.{statement}
@@ -37,7 +37,7 @@ abbrev start : tie.After-holds → tie.Start
 start c = c.before.before.before.before.before.before.before.before.before
 
 answered : (c : tie.After-holds)
-    → cond c.holds.result yes no ≡ checkAnswer (start c).args.sheet.now (start c).args.instance.now
+    → cond c.holds.result yes no ≡ check_answer (start c).args.sheet.now (start c).args.instance.now
 answered c =
     let b = c.before.before.before in
     evaluated _ _ (start c).requires b.before.before.before.first-cells.ensures.0 b.before.if1.false b.are-bits.ensures

@@ -1,11 +1,11 @@
 -- The cells, the marks, and the root from any atoms.
 use mathlib.Core.Path.{◌∙◌}
 use native.Mathlib.Omega.{arith}
-use Rattle.sheet_rules.specs.Blocks.{sheetOf}
-use Rattle.relational.specs.Trees.{rootTree}
+use Rattle.sheet_rules.specs.Blocks.{sheet_of}
+use Rattle.relational.specs.Trees.{root_tree}
 use Rattle.relational.specs.Evaluation.{holds}
 use Rattle.cells.proofs.Parts.{nodes-counted}
-use Rattle.nodes.proofs.Roots.{root-formula}
+use Rattle.nodes.proofs.Roots.{root_formula}
 use Rattle.instance_evaluation.proofs.Layouts.{facts-of}
 use Rattle.instance_evaluation.proofs.Steps.{root-truth}
 use borrow.Author.Rules.{rules}
@@ -18,7 +18,7 @@ marks-hold-requires c κs = search rules
 sub-root : tie.Need-overflow-sub-root
 sub-root c =
     let s = c.before.before.before.before.before.before in
-    omega (arith, nodes-counted _ _ s.requires.taken, (facts-of s.requires).counts.some-nodes)
+    omega (arith, nodes-counted _ _ s.requires.taken, (facts-of s.requires).counts.some_nodes)
 
 cells-inside-requires : tie.Need-cells-inside-requires
 cells-inside-requires c κs = search rules
@@ -26,7 +26,7 @@ cells-inside-requires c κs = search rules
 formula-requires : tie.Need-formula-requires
 formula-requires c κs =
     let s = c.before.before.before.before.before.before.before in
-    (s.requires, rw (nodes-counted _ _ s.requires.taken) (root-formula _ (facts-of s.requires)))
+    (s.requires, rw (nodes-counted _ _ s.requires.taken) (root_formula _ (facts-of s.requires)))
 
 both-requires : tie.Need-both-requires
 both-requires c κs = search rules
@@ -38,11 +38,11 @@ returns : tie.Need-returns
 unfolding holds
 returns c =
     let s = c.before.before.before.before.before.before.before.before.before.before in
-    let sheet = sheetOf s.args.sheet.now in
+    let sheet = sheet_of s.args.sheet.now in
     let truth = (rw (nodes-counted _ _ s.requires.taken) at c.before.before.formula.ensures)
-    ∙ root-truth sheet s.args.instance.now (rootTree sheet) in
+    ∙ root-truth sheet s.args.instance.now (root_tree sheet) in
     rw (
-      ← c.before.before.before.cells-inside.ensures,
+      ← c.before.before.before.cells_inside_ok.ensures,
       ← c.before.before.before.before.before.before.marks-hold.ensures,
       ← truth,
       ← c.before.both.ensures,

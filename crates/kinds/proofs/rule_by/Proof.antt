@@ -1,6 +1,6 @@
 -- A number that no arm has is 0 or past the list.
 use Rattle.kinds.specs.declared.Rule.TheVariants.{Unknown}
-use Rattle.kinds.specs.Codes.{knownRules}
+use Rattle.kinds.specs.Codes.{known_rules}
 use Rattle.kinds.proofs.Table.{first-or-past}
 use borrow.Author.Rules.{rules}
 use Rattle.kinds.proofs.rule_by.Statement.{statement}
@@ -52,7 +52,7 @@ returns-15 : tie.Need-returns-15
 returns-15 c = search rules
 
 returns-16 : tie.Need-returns-16
-returns-16 c = first-or-past Unknown knownRules c.before.args.code c.match.rest
+returns-16 c = first-or-past Unknown known_rules c.before.args.code c.match.rest
 
 pub rule-by-spec : {M : Type 1} → statement M
 rule-by-spec =

@@ -2,10 +2,10 @@
 use mathlib.Core.Path.{sym, ap, ◌∙◌}
 use native.Mathlib.Omega.{arith}
 use borrow.Author.Rules.{rules}
-use Rattle.text.specs.Texts.{bytes_of, endLine}
+use Rattle.text.specs.Texts.{bytes_of, end_line}
 use Rattle.text.proofs.Puts.{put_as}
-use Rattle.clauses.specs.Answers.{answer_of, countAnswer}
-use Rattle.listing.specs.Printed.{asFinder}
+use Rattle.clauses.specs.Answers.{answer_of, count_answer}
+use Rattle.listing.specs.Printed.{as_finder}
 use Rattle.listing.proofs.Beginning.{long-refused, long-list, short-writes, short-list, begins-refused, begins_cases}
 use Rattle.listing.proofs.begin.Statement.{statement}
 use Rattle.listing.proofs.begin.Tie as tie
@@ -54,10 +54,10 @@ returns-2 c =
     let s = k.before.before.before.before in
     let h = k.before.before.if1.false in
     let w = sym k.write.ensures.0 ∙ ap answer_of c.before.before.before.before.before.before.written.given.1 in
-    let a = short-writes s.args.input.now s.args.list.now h ∙ ap (asFinder (countAnswer s.args.input.now)) w in
+    let a = short-writes s.args.input.now s.args.list.now h ∙ ap (as_finder (count_answer s.args.input.now)) w in
     let e = c.put-end2.ensures in
     let n = c.before.number.ensures ∙ c.before.before.before.before.finder-refusal.ensures in
-    let b = begins-refused _ _ a (put_as (ap (endLine (bytes_of "refused ")) n) e.0) (omega (arith, e.1)) in
+    let b = begins-refused _ _ a (put_as (ap (end_line (bytes_of "refused ")) n) e.0) (omega (arith, e.1)) in
     (b.0, (k.write.ensures.1 ∙ sym (short-list s.args.input.now s.args.list.now h), b.1))
 
 returns-3 : tie.Need-returns-3
@@ -66,7 +66,7 @@ returns-3 c =
     let s = k.before.before.before.before in
     let h = k.before.before.if1.false in
     let a = short-writes s.args.input.now s.args.list.now h
-    ∙ ap (asFinder (countAnswer s.args.input.now)) (sym k.write.ensures.0 ∙ ap answer_of c.before.written2.given.1) in
+    ∙ ap (as_finder (count_answer s.args.input.now)) (sym k.write.ensures.0 ∙ ap answer_of c.before.written2.given.1) in
     let b = begins_cases _ c.before.written2.given.0.0 a s.args.text.now in
     (b.0, (k.write.ensures.1 ∙ sym (short-list s.args.input.now s.args.list.now h), b.1))
 

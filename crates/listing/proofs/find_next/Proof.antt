@@ -9,7 +9,7 @@ use denote.Enum.Declared.{tag_of}
 use Rattle.search.specs.contracts.answer.Search.{the_type}
 use Rattle.search.specs.Answers.{Answer, answer_of}
 use Rattle.search.proofs.AnswerTests.{was-found, not_found}
-use Rattle.solve_rules.specs.Finding.{instanceFor}
+use Rattle.solve_rules.specs.Finding.{instance_for}
 use Rattle.solve_rules.proofs.Findings.{instance-kept}
 use Rattle.listing.proofs.NextCall.{found-wide}
 use Rattle.listing.proofs.find_next.Statement.{statement}
@@ -59,7 +59,7 @@ returns c =
     let k = c.before.before.before.before.before.before.before.before.before.before in
     let s = start k in
     let f = was-found k.followed.result.answer c.before.before.before.before.before.before.match.keys1 in
-    let read = ap (λ (a : Answer). instanceFor a s.args.input.now (take s.args.v k.followed.new.1.1.0) s.args.instance.now) in
+    let read = ap (λ (a : Answer). instance_for a s.args.input.now (take s.args.v k.followed.new.1.1.0) s.args.instance.now) in
     (k.followed.ensures, c.before.before.read_back.ensures.1 ∙ read (sym f.1))
 
 same-length-4 : tie.Need-same-length-4

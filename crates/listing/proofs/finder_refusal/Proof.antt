@@ -4,17 +4,17 @@ use mathlib.Core.List.{List}
 use Prim.Native.Nat.{ℕ, ◌≤◌, ◌<◌}
 use borrow.Author.Rules.{rules}
 use borrow.Author.Tests.{le-leb, lt-leb}
-use Rattle.clauses.specs.Answers.{fits, countAnswer}
+use Rattle.clauses.specs.Answers.{fits, count_answer}
 use Rattle.solve.proofs.ReadBacks.{count-refused, count-sized}
-use Rattle.listing.specs.Printed.{finderNumber}
+use Rattle.listing.specs.Printed.{finder_number}
 use Rattle.listing.proofs.finder_refusal.Statement.{statement}
 use Rattle.listing.proofs.finder_refusal.Tie as tie
 
 -- by what counting answers
-beyond : (s : List ℕ) (v c w n : ℕ) → countAnswer s ≡ fits v c w → 2147483647 < w → 12 ≡ finderNumber (countAnswer s) n
+beyond : (s : List ℕ) (v c w n : ℕ) → count_answer s ≡ fits v c w → 2147483647 < w → 12 ≡ finder_number (count_answer s) n
 beyond s v c w n e h = rw (e, lt-leb w 2147483647 h) refl
 
-within : (s : List ℕ) (v c w n : ℕ) → countAnswer s ≡ fits v c w → w ≤ 2147483647 → n ≡ finderNumber (countAnswer s) n
+within : (s : List ℕ) (v c w n : ℕ) → count_answer s ≡ fits v c w → w ≤ 2147483647 → n ≡ finder_number (count_answer s) n
 within s v c w n e h = rw (e, le-leb w 2147483647 h) refl
 
 count-requires : tie.Need-count-requires

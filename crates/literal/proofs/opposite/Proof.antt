@@ -3,14 +3,14 @@ use mathlib.Core.Path.{sym, ap, ◌∙◌}
 use Prim.Native.Nat.{◌<◌}
 use lib.IntN.{nat_abs}
 use native.Mathlib.Omega.{arith}
-use Rattle.literal.specs.Words.{oppositeWord}
+use Rattle.literal.specs.Words.{opposite_word}
 use Rattle.literal.proofs.Signs.{lowest-word, above-lowest, negated}
 use Rattle.literal.proofs.Words.{opposite-is}
 use Rattle.literal.proofs.opposite.Statement.{statement}
 use Rattle.literal.proofs.opposite.Tie as tie
 
 returns : tie.Need-returns
-returns c = sym (ap oppositeWord (lowest-word c.before.args.l c.before.ranges.l c.if1.true))
+returns c = sym (ap opposite_word (lowest-word c.before.args.l c.before.ranges.l c.if1.true))
 
 small : (c : tie.Else1) → nat_abs c.before.args.l < 2147483648
 small c = above-lowest c.before.args.l c.before.ranges.l c.if1.false

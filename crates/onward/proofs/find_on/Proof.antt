@@ -8,7 +8,7 @@ use Rattle.solve_rules.specs.Finding.{Slices, slices, finding}
 use Rattle.solve_rules.specs.Finds.{Finds}
 use Rattle.solve.specs.Private.{Left}
 use Rattle.solve.proofs.FindLaws.{means}
-use Rattle.onward.specs.Limits.{mostSteps}
+use Rattle.onward.specs.Limits.{most_steps}
 use Rattle.onward.specs.Private.{Begun}
 use Rattle.search.proofs.AnswerTests.{was-spent, not-spent}
 use Rattle.onward.proofs.TakenUp.{begins, still-fit}
@@ -33,11 +33,11 @@ begun c t =
     c.find.ensures.0 c.find.ensures.1.0
 
 -- what is ensured, from the definition's answer and slices
-ensured : (s : tie.Start) (answer : Answer) (left : Slices) → Left s.args.sheet.now (lent s) mostSteps answer left
-    → (answer ≡ (finding s.args.sheet.now (lent s) mostSteps).answer)
-    × ((left ≡ (finding s.args.sheet.now (lent s) mostSteps).left)
-    × Finds s.args.sheet.now (lent s) mostSteps answer left)
-ensured s answer left l = (l.answer-is, (l.left_is, means s.args.sheet.now (lent s) mostSteps answer left l))
+ensured : (s : tie.Start) (answer : Answer) (left : Slices) → Left s.args.sheet.now (lent s) most_steps answer left
+    → (answer ≡ (finding s.args.sheet.now (lent s) most_steps).answer)
+    × ((left ≡ (finding s.args.sheet.now (lent s) most_steps).left)
+    × Finds s.args.sheet.now (lent s) most_steps answer left)
+ensured s answer left l = (l.answer_is, (l.left_is, means s.args.sheet.now (lent s) most_steps answer left l))
 
 find-requires : tie.Need-find-requires
 find-requires c κs = search rules

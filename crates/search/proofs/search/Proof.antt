@@ -6,7 +6,7 @@ use lib.ListN.{length, take}
 use lib.Seq.{length-take-le}
 use borrow.Author.Rules.{rules}
 use borrow.Author.Tests.{not-true, not-false}
-use Rattle.clause_list.specs.ClauseList.{isList}
+use Rattle.clause_list.specs.ClauseList.{is_list}
 use Rattle.clause_list.proofs.Laws.{list-most-variables}
 use Rattle.search_rules.proofs.Ranges.{fine-list}
 use Rattle.search.proofs.Outcomes.{no-list, short-values, short-trail, runs, declines, finishes}
@@ -16,11 +16,11 @@ use Rattle.search.proofs.search.Tie as tie
 is-list-requires : tie.Need-is-list-requires
 is-list-requires c κs = search rules
 
-refuses : (c : tie.Then1) → isList c.before.before.before.args.v c.before.before.before.args.list.now ≡ false
-refuses c = sym c.before.is-list.ensures ∙ not-true _ c.if1.true
+refuses : (c : tie.Then1) → is_list c.before.before.before.args.v c.before.before.before.args.list.now ≡ false
+refuses c = sym c.before.is_list_ok.ensures ∙ not-true _ c.if1.true
 
-accepts : (c : tie.Else1) → isList c.before.before.before.args.v c.before.before.before.args.list.now ≡ true
-accepts c = sym c.before.is-list.ensures ∙ not-false _ c.if1.false
+accepts : (c : tie.Else1) → is_list c.before.before.before.args.v c.before.before.before.args.list.now ≡ true
+accepts c = sym c.before.is_list_ok.ensures ∙ not-false _ c.if1.false
 
 returns : tie.Need-returns
 returns c = declines 12 _ _ _ (no-list _ _ _ _ _ (refuses c))

@@ -9,18 +9,18 @@ use lib.ListN.{length, take}
 use lib.Seq.{length-take-le}
 use borrow.Author.Rules.{rules}
 use borrow.Author.Tests.{not-true, not-false, ltb-true, ltb-false}
-use Rattle.clause_list.specs.ClauseList.{isList}
+use Rattle.clause_list.specs.ClauseList.{is_list}
 use Rattle.clause_list.proofs.Laws.{list-most-variables}
 use Rattle.search_rules.specs.declared.Steps.{Steps}
 use Rattle.search_rules.specs.Rules.{State}
 use Rattle.search_rules.specs.Run.{total}
-use Rattle.search_rules.specs.Held.{steps_of, noState, stepLimit, tooMany, Stored}
+use Rattle.search_rules.specs.Held.{steps_of, no_state, step_limit, too_many, Stored}
 use Rattle.search_rules.proofs.StateHeld.{holds-state}
 use Rattle.search_rules.proofs.Ranges.{fine-list}
 use Rattle.refusal.specs.declared.Refusal.TheVariants.{Short}
 use Rattle.refusal.specs.declared.Refusal.TheVariants as refusal
 use Rattle.search.specs.Resumed.{start_of}
-use Rattle.search.proofs.Resumptions.{no-list, short-values, short-trail, no-state, too_many, runs, denied, granted}
+use Rattle.search.proofs.Resumptions.{no-list, short-values, short-trail, no-state, too_many_lem, runs, denied, granted}
 use Rattle.search.proofs.Resumptions.{declines, declines-back, finishes}
 use Rattle.search.proofs.taken_up.Statement.{statement}
 use Rattle.search.proofs.taken_up.Tie as tie
@@ -28,11 +28,11 @@ use Rattle.search.proofs.taken_up.Tie as tie
 is-list-requires : tie.Need-is-list-requires
 is-list-requires c κs = search rules
 
-refuses : (c : tie.Then1) → isList c.before.before.before.args.v c.before.before.before.args.list.now ≡ false
-refuses c = sym c.before.is-list.ensures ∙ not-true _ c.if1.true
+refuses : (c : tie.Then1) → is_list c.before.before.before.args.v c.before.before.before.args.list.now ≡ false
+refuses c = sym c.before.is_list_ok.ensures ∙ not-true _ c.if1.true
 
-accepts : (c : tie.Else1) → isList c.before.before.before.args.v c.before.before.before.args.list.now ≡ true
-accepts c = sym c.before.is-list.ensures ∙ not-false _ c.if1.false
+accepts : (c : tie.Else1) → is_list c.before.before.before.args.v c.before.before.before.args.list.now ≡ true
+accepts c = sym c.before.is_list_ok.ensures ∙ not-false _ c.if1.false
 
 refused-requires : tie.Need-refused-requires
 refused-requires c κs = search rules
@@ -76,7 +76,7 @@ module _ (c : tie.After-ts) where
   abbrev v : ℕ
   v = s.args.v
 
-  listed : isList v s.args.list.now ≡ true
+  listed : is_list v s.args.list.now ≡ true
   listed = accepts c.before.before.before.before
 
   in-values : v ≤ length s.args.values.now
@@ -107,18 +107,18 @@ module _ (c : tie.After-is-state) where
   abbrev ts : List ℤ
   ts = take from.args.v from.args.trail.now
 
-  tells : not (noState from.args.v vs ts from.args.position.length) ≡ c.is_state.result
+  tells : not (no_state from.args.v vs ts from.args.position.length) ≡ c.is_state.result
   tells = sym (rw (wide c.before.before.before) at c.is_state.ensures)
 
 refuses-state : (c : tie.Then4)
-    → noState (from c.before).args.v (vs c.before) (ts c.before) (from c.before).args.position.length ≡ true
+    → no_state (from c.before).args.v (vs c.before) (ts c.before) (from c.before).args.position.length ≡ true
 refuses-state c = denied _ (tells c.before ∙ not-true _ c.if4.true)
 
 module _ (c : tie.Else4) where
   abbrev begin : tie.Start
   begin = from c.before
 
-  takes-state : noState begin.args.v (vs c.before) (ts c.before) begin.args.position.length ≡ false
+  takes-state : no_state begin.args.v (vs c.before) (ts c.before) begin.args.position.length ≡ false
   takes-state = granted _ (tells c.before ∙ not-false _ c.if4.false)
 
   abbrev state : State
@@ -146,18 +146,18 @@ too-many-requires : tie.Need-too-many-requires
 too-many-requires c κs = search rules
 
 -- what the test of the steps says
-more : (done : Steps) (allowed : ℕ) → tooMany done allowed ≡ true → stepLimit < total done + allowed
+more : (done : Steps) (allowed : ℕ) → too_many done allowed ≡ true → step_limit < total done + allowed
 more done allowed e = ltb-true _ _ e
 
-fewer : (done : Steps) (allowed : ℕ) → tooMany done allowed ≡ false → total done + allowed ≤ stepLimit
+fewer : (done : Steps) (allowed : ℕ) → too_many done allowed ≡ false → total done + allowed ≤ step_limit
 fewer done allowed e = ltb-false _ _ e
 
 too-many-steps : (c : tie.Then5)
-    → stepLimit < total (steps_of (from c.before.before.before).args.position) + (from c.before.before.before).args.budget
+    → step_limit < total (steps_of (from c.before.before.before).args.position) + (from c.before.before.before).args.budget
 too-many-steps c = omega (arith, more _ _ (sym c.before.too_many.ensures ∙ c.if5.true))
 
 few-steps : (c : tie.Else5)
-    → total (steps_of (from c.before.before.before).args.position) + (from c.before.before.before).args.budget ≤ stepLimit
+    → total (steps_of (from c.before.before.before).args.position) + (from c.before.before.before).args.budget ≤ step_limit
 few-steps c = omega (arith, fewer _ _ (sym c.before.too_many.ensures ∙ c.if5.false))
 
 refused-requires-5 : tie.Need-refused-requires-5
@@ -173,7 +173,7 @@ returns-5 : tie.Need-returns-5
 returns-5 c =
     let t = c.before.before.before.before.before.before.before.before.before.before in
     declines-back (v t) refusal.State _ _ _ _ _ c.refused5.ensures.0 c.refused5.ensures.1
-    (too_many _ _ _ _ _ _ _ (listed t) (in-values t) (in-trail t) (too-many-steps c.before.before.before.before))
+    (too_many_lem _ _ _ _ _ _ _ (listed t) (in-values t) (in-trail t) (too-many-steps c.before.before.before.before))
 
 go-on-requires : tie.Need-go-on-requires
 go-on-requires c κs =

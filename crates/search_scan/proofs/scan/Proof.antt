@@ -12,8 +12,8 @@ use borrow.Author.Rules.{sfits_of, scaled_Fits}
 use Rattle.literal.specs.Words.{count_of}
 use Rattle.literal.proofs.Signs.{read, back}
 use Rattle.search_rules.specs.Rules.{literal}
-use Rattle.search_scan.specs.Seen.{truthCode}
-use Rattle.search_scan.proofs.ScanLoops.{Outer, Inner, Head, start, head_at, head-counts, enter, literal-in, is_true, is_false}
+use Rattle.search_scan.specs.Seen.{truth_code}
+use Rattle.search_scan.proofs.ScanLoops.{Outer, Inner, Head, start, head_at, head-counts, enter, literal-in, is_true_lem, is_false}
 use Rattle.search_scan.proofs.ScanLoops.{is_open, meets-first, meets-other, meets-same, done, on-held, on-skip, on-open, is-several}
 use Rattle.search_scan.proofs.ScanLoops.{not-conflict, was-none, over-conflict, over-new, end_none, ends-neither, ends-unit}
 use Rattle.search_scan.proofs.ScanLoops.{code-true, code-false, code-open}
@@ -52,7 +52,7 @@ module _ (c : tie.After-l invariant-loop decreases-loop invariant-clauses decrea
   lit_is = to_z-of_z (sfits_of c.l.given)
 
 module _ (c : tie.After-truth invariant-loop decreases-loop invariant-clauses decreases-clauses) where
-  says : c.truth.result ≡ truthCode (literal c.before.before.before.before.before.before.before.before.before.args.values.now
+  says : c.truth.result ≡ truth_code (literal c.before.before.before.before.before.before.before.before.before.args.values.now
       (get_or c.before.before.before.before.before.before.before.before.before.args.list.now c.before.before.before.loop.i
       (pos 0)))
   says = rw (lit_is c.before) at c.truth.ensures
@@ -99,7 +99,7 @@ clauses-less c = omega (arith, (head c.before.before.before.before.before).withi
 
 clauses-again : tie.Need-clauses-preserved invariant-loop decreases-loop invariant-clauses decreases-clauses
 clauses-again c = on-held _ _ _ _ _ (head c.before.before.before.before.before)
-    (is_true _ _ _ _ _ (head c.before.before.before.before.before).within c.before.before.before.loop-test.true _ _
+    (is_true_lem _ _ _ _ _ (head c.before.before.before.before.before).within c.before.before.before.loop-test.true _ _
     c.before.before.before.before.loop.invariant (code-true _ _ (says c.before) c.if1.true))
 
 clauses-less-2 : tie.Need-clauses-smaller-2 invariant-loop decreases-loop invariant-clauses decreases-clauses

@@ -7,7 +7,7 @@ use mir.Facts.{to_z-of_z}
 use borrow.Author.Rules.{rules}
 use borrow.Author.Tests.{not-true, not-false}
 use Rattle.prelude.proofs.Laws.{and-not-left}
-use Rattle.literal.specs.Literals.{isLiteral}
+use Rattle.literal.specs.Literals.{is_literal}
 use Rattle.literal.proofs.Words.{literal-low, literal-high}
 use Rattle.search_rules.specs.Rules.{place_of}
 use Rattle.search_state.proofs.Literals.{place-of, is_within}
@@ -28,7 +28,7 @@ returns c =
     sym (and-not-left _ _ (sym e ∙ sym c.before.is-literal.ensures ∙ not-true _ c.if1.true))
 
 -- the word is a literal of the variables
-is : (c : tie.Else1) → let s = c.before.before.before.args in isLiteral (length s.values.now) s.l ≡ true
+is : (c : tie.Else1) → let s = c.before.before.before.args in is_literal (length s.values.now) s.l ≡ true
 is c =
     let s = c.before.before.before in
     let e = is_within (length s.args.values.now) _ s.args.l s.requires (to_z-of_z s.ranges.l) in

@@ -9,14 +9,14 @@ use lib.Seq.{take_all}
 use borrow.Author.Rules.{rules}
 use Rattle.prelude.specs.Tests.{any}
 use Rattle.prelude.proofs.Laws.{any_at}
-use Rattle.search_rules.specs.Rules.{sameLiteral}
+use Rattle.search_rules.specs.Rules.{same_literal}
 use Rattle.search_state.proofs.Tests.{any-take}
 use Rattle.search_state.proofs.Literals.{zero_word, other_word}
 use Rattle.search_state.proofs.all_zero.Statement.{statement}
 use Rattle.search_state.proofs.all_zero.Tie as tie
 
 abbrev filled : ℤ → Bool
-filled w = not (sameLiteral w (pos 0))
+filled w = not (same_literal w (pos 0))
 
 abbrev invariant-loop : tie.invariant-loop
 invariant-loop words i₀ i = (i ≤ length words) × (any filled (take i words) ≡ false)

@@ -6,7 +6,7 @@ use mir.Facts.{to_z-of_z}
 use borrow.Author.Rules.{rules}
 use borrow.Author.Tests.{eq-eqb, ne_eqb}
 use Rattle.prelude.proofs.Laws.{or_left, or-rest}
-use Rattle.search_rules.specs.Held.{goesWith}
+use Rattle.search_rules.specs.Held.{goes_with}
 use Rattle.search_state.proofs.Literals.{goes_above, goes-below}
 use Rattle.search_state.proofs.goes_with.Statement.{statement}
 use Rattle.search_state.proofs.goes_with.Tie as tie
@@ -20,7 +20,7 @@ returns c =
     goes_above _ s.args.l s.args.b (to_z-of_z s.ranges.l) (sym c.before.is_positive.ensures ∙ c.if1.true)
 
 -- behind the first test
-below : (c : tie.Else1) → let s = c.before.before.args in eqb s.b 0 || eqb s.b 3 ≡ goesWith s.l s.b
+below : (c : tie.Else1) → let s = c.before.before.args in eqb s.b 0 || eqb s.b 3 ≡ goes_with s.l s.b
 below c =
     let s = c.before.before in
     goes-below _ s.args.l s.args.b (to_z-of_z s.ranges.l) s.requires (sym c.before.is_positive.ensures ∙ c.if1.false)

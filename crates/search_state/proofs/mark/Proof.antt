@@ -9,13 +9,13 @@ use lib.Seq.{take_all}
 use borrow.Author.Rules.{rules}
 use borrow.Author.Tests.{not-true, not-false}
 use Rattle.prelude.proofs.Laws.{and_left}
-use Rattle.literal.specs.Literals.{isLiteral}
+use Rattle.literal.specs.Literals.{is_literal}
 use Rattle.literal.proofs.Signs.{read, back}
 use Rattle.literal.proofs.Words.{literal-low, literal-high}
 use Rattle.search_rules.specs.Rules.{place_of}
 use Rattle.search_state.specs.Inner.{Marked, MarkedIf}
 use Rattle.search_state.proofs.Literals.{place-of}
-use Rattle.search_state.proofs.Marks.{agreesWith, place-within, marked-none, disagrees, twice, marked_more}
+use Rattle.search_state.proofs.Marks.{agrees_with, place-within, marked-none, disagrees, twice, marked_more}
 use Rattle.search_state.proofs.mark.Statement.{statement}
 use Rattle.search_state.proofs.mark.Tie as tie
 
@@ -48,8 +48,8 @@ was_read c = back (literal c) (record { sfits = c.before.l.given })
 
 -- what `agrees` told of it
 told : (c : tie.After-agrees invariant-loop decreases-loop)
-    → c.agrees.result ≡ agreesWith c.before.before.before.before.before.before.args.values.now (literal c)
-told c = c.agrees.ensures ∙ ap (agreesWith c.before.before.before.before.before.before.args.values.now) (was_read c)
+    → c.agrees.result ≡ agrees_with c.before.before.before.before.before.before.args.values.now (literal c)
+told c = c.agrees.ensures ∙ ap (agrees_with c.before.before.before.before.before.before.args.values.now) (was_read c)
 
 same_length : tie.Need-same-length invariant-loop decreases-loop
 same_length c = c.before.before.before.before.loop.invariant.1.1
@@ -63,11 +63,11 @@ returns c =
 
 -- the literal agrees
 agrees : (c : tie.Else1 invariant-loop decreases-loop)
-    → agreesWith c.before.before.before.before.before.before.before.args.values.now (literal c.before) ≡ true
+    → agrees_with c.before.before.before.before.before.before.before.args.values.now (literal c.before) ≡ true
 agrees c = sym (told c.before) ∙ not-false _ c.if1.false
 
 is-own : (c : tie.Else1 invariant-loop decreases-loop)
-    → isLiteral (length c.before.before.before.before.before.before.before.args.values.now) (literal c.before) ≡ true
+    → is_literal (length c.before.before.before.before.before.before.before.args.values.now) (literal c.before) ≡ true
 is-own c = and_left _ _ (agrees c)
 
 place-requires : tie.Need-place-requires invariant-loop decreases-loop

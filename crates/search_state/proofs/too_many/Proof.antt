@@ -1,4 +1,4 @@
--- `search_state::too_many` meets its contract: what is left of the limit after the steps done is less than those allowed exactly where
+-- `search_state::too_many_lem` meets its contract: what is left of the limit after the steps done is less than those allowed exactly where
 -- they pass it together.
 use mathlib.Core.Path.{◌≡◌, refl, sym, ◌∙◌}
 use mathlib.Core.Bool.{Bool, true, false}
@@ -9,20 +9,20 @@ use borrow.Author.Rules.{rules}
 use borrow.Author.Tests.{lt-ltb, le-ltb, ltb-true, ltb-false}
 use Rattle.search_rules.specs.declared.Steps.{Steps}
 use Rattle.search_rules.specs.Run.{total}
-use Rattle.search_rules.specs.Held.{steps_of, stepLimit, tooMany}
+use Rattle.search_rules.specs.Held.{steps_of, step_limit, too_many}
 use Rattle.search_state.proofs.too_many.Statement.{statement}
 use Rattle.search_state.proofs.too_many.Tie as tie
 
 module _ (done : Steps) (allowed : ℕ) where
-  passed : stepLimit < total done → true ≡ tooMany done allowed
-  passed h = sym (lt-ltb stepLimit (total done + allowed) (omega arith))
+  passed : step_limit < total done → true ≡ too_many done allowed
+  passed h = sym (lt-ltb step_limit (total done + allowed) (omega arith))
 
-  less-left : (left : ℕ) → left + total done ≡ stepLimit → ltb left allowed ≡ tooMany done allowed
+  less-left : (left : ℕ) → left + total done ≡ step_limit → ltb left allowed ≡ too_many done allowed
   less-left left e = by (ltb left allowed) refl
     where
-      by : (b : Bool) → ltb left allowed ≡ b → ltb left allowed ≡ tooMany done allowed
-      by true h = h ∙ sym (lt-ltb stepLimit (total done + allowed) (omega (arith, ltb-true left allowed h)))
-      by false h = h ∙ sym (le-ltb stepLimit (total done + allowed) (omega (arith, ltb-false left allowed h)))
+      by : (b : Bool) → ltb left allowed ≡ b → ltb left allowed ≡ too_many done allowed
+      by true h = h ∙ sym (lt-ltb step_limit (total done + allowed) (omega (arith, ltb-true left allowed h)))
+      by false h = h ∙ sym (le-ltb step_limit (total done + allowed) (omega (arith, ltb-false left allowed h)))
 
 sub-after-propagations : tie.Need-overflow-sub-after-propagations
 sub-after-propagations c = search rules

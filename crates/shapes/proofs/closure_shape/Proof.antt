@@ -1,6 +1,6 @@
 -- Case by case as the definition.
 use mathlib.Core.Path.{◌∙◌, sym, ap}
-use Rattle.shapes.specs.Shapes.{closureShape}
+use Rattle.shapes.specs.Shapes.{closure_shape}
 use borrow.Author.Rules.{rules}
 use Rattle.shapes.proofs.closure_shape.Statement.{statement}
 use Rattle.shapes.proofs.closure_shape.Tie as tie
@@ -30,7 +30,7 @@ returns-3 : tie.Need-returns-3
 returns-3 c = search rules
 
 returns-4 : tie.Need-returns-4
-returns-4 c = c.only.ensures ∙ sym (ap closureShape c.before.before.x.given.1)
+returns-4 c = c.only.ensures ∙ sym (ap closure_shape c.before.before.x.given.1)
 
 pub closure-shape-spec : {M : Type 1} → statement M
 closure-shape-spec =

@@ -1,6 +1,6 @@
 -- Case by case as the definition.
 use mathlib.Core.Path.{◌∙◌, sym, ap}
-use Rattle.shapes.specs.Shapes.{equalShape}
+use Rattle.shapes.specs.Shapes.{equal_shape}
 use borrow.Author.Rules.{rules}
 use Rattle.shapes.proofs.equal_shape.Statement.{statement}
 use Rattle.shapes.proofs.equal_shape.Tie as tie
@@ -31,11 +31,11 @@ returns-2 c = search rules
 
 returns-3 : tie.Need-returns-3
 returns-3 c =
-    c.is-set-of.ensures ∙ sym (ap (λ x. equalShape x c.before.before.before.before.args.y) c.before.before.x.given.1)
+    c.is-set-of.ensures ∙ sym (ap (λ x. equal_shape x c.before.before.before.before.args.y) c.before.before.x.given.1)
 
 returns-4 : tie.Need-returns-4
 returns-4 c =
-    c.is-relation-of.ensures ∙ sym (ap (λ x. equalShape x c.before.before.before.before.args.y) c.before.before.x2.given.1)
+    c.is-relation-of.ensures ∙ sym (ap (λ x. equal_shape x c.before.before.before.before.args.y) c.before.before.x2.given.1)
 
 pub equal-shape-spec : {M : Type 1} → statement M
 equal-shape-spec =

@@ -1,6 +1,6 @@
 -- Case by case as the definition.
 use mathlib.Core.Path.{sym, ap}
-use Rattle.shapes.specs.Shapes.{inverseShape}
+use Rattle.shapes.specs.Shapes.{inverse_shape}
 use borrow.Author.Rules.{rules}
 use Rattle.shapes.proofs.inverse_shape.Statement.{statement}
 use Rattle.shapes.proofs.inverse_shape.Tie as tie
@@ -27,7 +27,7 @@ returns-3 : tie.Need-returns-3
 returns-3 c = search rules
 
 returns-4 : tie.Need-returns-4
-returns-4 c = sym (ap inverseShape c.before.x.given.1)
+returns-4 c = sym (ap inverse_shape c.before.x.given.1)
 
 pub inverse-shape-spec : {M : Type 1} → statement M
 inverse-shape-spec =

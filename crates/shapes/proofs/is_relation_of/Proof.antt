@@ -1,6 +1,6 @@
 -- Case by case as the definition.
 use mathlib.Core.Path.{◌∙◌, sym, ap}
-use Rattle.shapes.specs.Shapes.{isRelationOf}
+use Rattle.shapes.specs.Shapes.{is_relation_of}
 use borrow.Author.Rules.{rules}
 use Rattle.shapes.proofs.is_relation_of.Statement.{statement}
 use Rattle.shapes.proofs.is_relation_of.Tie as tie
@@ -31,7 +31,7 @@ returns-3 c = search rules
 
 returns-4 : tie.Need-returns-4
 returns-4 c = c.both.ensures
-    ∙ sym (ap (isRelationOf c.before.before.before.before.args.s c.before.before.before.before.args.t)
+    ∙ sym (ap (is_relation_of c.before.before.before.before.args.s c.before.before.before.before.args.t)
     c.before.before.y.given.1)
 
 pub is-relation-of-spec : {M : Type 1} → statement M

@@ -1,6 +1,6 @@
 -- Case by case as the definition.
 use mathlib.Core.Path.{sym, ap}
-use Rattle.shapes.specs.Shapes.{isSetOf}
+use Rattle.shapes.specs.Shapes.{is_set_of}
 use borrow.Author.Rules.{rules}
 use Rattle.shapes.proofs.is_set_of.Statement.{statement}
 use Rattle.shapes.proofs.is_set_of.Tie as tie
@@ -24,7 +24,7 @@ returns-2 : tie.Need-returns-2
 returns-2 c = search rules
 
 returns-3 : tie.Need-returns-3
-returns-3 c = sym (ap (isSetOf c.before.before.before.args.s) c.before.y.given.1)
+returns-3 c = sym (ap (is_set_of c.before.before.before.args.s) c.before.y.given.1)
 
 returns-4 : tie.Need-returns-4
 returns-4 c = search rules

@@ -1,6 +1,6 @@
 -- Case by case as the definition.
 use mathlib.Core.Path.{◌∙◌, sym, ap}
-use Rattle.shapes.specs.Shapes.{joinRelation}
+use Rattle.shapes.specs.Shapes.{join_relation}
 use borrow.Author.Rules.{rules}
 use Rattle.shapes.proofs.join_relation.Statement.{statement}
 use Rattle.shapes.proofs.join_relation.Tie as tie
@@ -31,12 +31,12 @@ returns-2 c = search rules
 
 returns-3 : tie.Need-returns-3
 returns-3 c = c.only.ensures
-    ∙ sym (ap (joinRelation c.before.before.before.before.args.s c.before.before.before.before.args.t)
+    ∙ sym (ap (join_relation c.before.before.before.before.args.s c.before.before.before.before.args.t)
     c.before.before.y.given.1)
 
 returns-4 : tie.Need-returns-4
 returns-4 c = c.only2.ensures
-    ∙ sym (ap (joinRelation c.before.before.before.before.args.s c.before.before.before.before.args.t)
+    ∙ sym (ap (join_relation c.before.before.before.before.args.s c.before.before.before.before.args.t)
     c.before.before.y2.given.1)
 
 pub join-relation-spec : {M : Type 1} → statement M

@@ -1,6 +1,6 @@
 -- Case by case as the definition.
 use mathlib.Core.Path.{◌∙◌, sym, ap}
-use Rattle.shapes.specs.Shapes.{joinSet}
+use Rattle.shapes.specs.Shapes.{join_set}
 use borrow.Author.Rules.{rules}
 use Rattle.shapes.proofs.join_set.Statement.{statement}
 use Rattle.shapes.proofs.join_set.Tie as tie
@@ -30,7 +30,7 @@ returns-3 : tie.Need-returns-3
 returns-3 c = search rules
 
 returns-4 : tie.Need-returns-4
-returns-4 c = c.only.ensures ∙ sym (ap (joinSet c.before.before.before.before.args.s) c.before.before.y.given.1)
+returns-4 c = c.only.ensures ∙ sym (ap (join_set c.before.before.before.before.args.s) c.before.before.y.given.1)
 
 pub join-set-spec : {M : Type 1} → statement M
 join-set-spec =

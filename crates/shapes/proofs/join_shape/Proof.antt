@@ -1,6 +1,6 @@
 -- Case by case as the definition.
 use mathlib.Core.Path.{◌∙◌, sym, ap}
-use Rattle.shapes.specs.Shapes.{joinShape}
+use Rattle.shapes.specs.Shapes.{join_shape}
 use borrow.Author.Rules.{rules}
 use Rattle.shapes.proofs.join_shape.Statement.{statement}
 use Rattle.shapes.proofs.join_shape.Tie as tie
@@ -31,11 +31,11 @@ returns-2 c = search rules
 
 returns-3 : tie.Need-returns-3
 returns-3 c =
-    c.join-set.ensures ∙ sym (ap (λ x. joinShape x c.before.before.before.before.args.y) c.before.before.x.given.1)
+    c.join-set.ensures ∙ sym (ap (λ x. join_shape x c.before.before.before.before.args.y) c.before.before.x.given.1)
 
 returns-4 : tie.Need-returns-4
 returns-4 c =
-    c.join-relation.ensures ∙ sym (ap (λ x. joinShape x c.before.before.before.before.args.y) c.before.before.x2.given.1)
+    c.join-relation.ensures ∙ sym (ap (λ x. join_shape x c.before.before.before.before.args.y) c.before.before.x2.given.1)
 
 pub join-shape-spec : {M : Type 1} → statement M
 join-shape-spec =

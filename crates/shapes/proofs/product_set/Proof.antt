@@ -1,6 +1,6 @@
 -- Case by case as the definition.
 use mathlib.Core.Path.{sym, ap}
-use Rattle.shapes.specs.Shapes.{productSet}
+use Rattle.shapes.specs.Shapes.{product_set}
 use borrow.Author.Rules.{rules}
 use Rattle.shapes.proofs.product_set.Statement.{statement}
 use Rattle.shapes.proofs.product_set.Tie as tie
@@ -24,7 +24,7 @@ returns-2 : tie.Need-returns-2
 returns-2 c = search rules
 
 returns-3 : tie.Need-returns-3
-returns-3 c = sym (ap (productSet c.before.before.before.args.s) c.before.y.given.1)
+returns-3 c = sym (ap (product_set c.before.before.before.args.s) c.before.y.given.1)
 
 returns-4 : tie.Need-returns-4
 returns-4 c = search rules

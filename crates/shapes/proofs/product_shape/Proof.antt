@@ -1,6 +1,6 @@
 -- Case by case as the definition.
 use mathlib.Core.Path.{◌∙◌, sym, ap}
-use Rattle.shapes.specs.Shapes.{productShape}
+use Rattle.shapes.specs.Shapes.{product_shape}
 use borrow.Author.Rules.{rules}
 use Rattle.shapes.proofs.product_shape.Statement.{statement}
 use Rattle.shapes.proofs.product_shape.Tie as tie
@@ -28,7 +28,7 @@ returns-2 c = search rules
 
 returns-3 : tie.Need-returns-3
 returns-3 c =
-    c.product-set.ensures ∙ sym (ap (λ x. productShape x c.before.before.before.before.args.y) c.before.before.x.given.1)
+    c.product-set.ensures ∙ sym (ap (λ x. product_shape x c.before.before.before.before.args.y) c.before.before.x.given.1)
 
 returns-4 : tie.Need-returns-4
 returns-4 c = search rules

@@ -5,23 +5,23 @@ use mathlib.Core.List.{List}
 use Prim.Native.Nat.{ℕ}
 use lib.Dec.{eqb}
 use borrow.Author.Tests.{eq-eqb, ne_eqb}
-use Rattle.sheet_rules.specs.Blocks.{byte, blocksEnd}
-use Rattle.sheet_rules.specs.Reading.{reading, wholeJudged}
+use Rattle.sheet_rules.specs.Blocks.{byte, blocks_end}
+use Rattle.sheet_rules.specs.Reading.{reading, whole_judged}
 use Rattle.sheet.proofs.Parts.{end_is, parts_are}
 use Rattle.sheet.proofs.Verdicts.{refuse-false, pass-true}
 use borrow.Author.Rules.{rules}
 use Rattle.sheet.proofs.read.Statement.{statement}
 use Rattle.sheet.proofs.read.Tie as tie
 
-abbrev sheetAt : tie.Start → List ℕ
-sheetAt c = c.args.sheet.now
+abbrev sheet_at : tie.Start → List ℕ
+sheet_at c = c.args.sheet.now
 
-is-version : (c : tie.Else1) → eqb (byte (sheetAt c.before.before.before) 0) 1 ≡ true
+is-version : (c : tie.Else1) → eqb (byte (sheet_at c.before.before.before) 0) 1 ≡ true
 is-version c = eq-eqb _ 1 (sym c.before.byte.ensures.0 ∙ c.if1.false)
 
-is-end : (c : tie.After-after4) → c.after4.result ≡ blocksEnd (sheetAt c.before.before.before.before.before.before.before)
+is-end : (c : tie.After-after4) → c.after4.result ≡ blocks_end (sheet_at c.before.before.before.before.before.before.before)
 is-end c =
-    end_is (sheetAt c.before.before.before.before.before.before.before) c.before.before.before.after.result
+    end_is (sheet_at c.before.before.before.before.before.before.before) c.before.before.before.after.result
     c.before.before.after2.result c.before.after3.result c.after4.result
     c.before.before.before.after.ensures.0 c.before.before.after2.ensures.0 c.before.after3.ensures.0
     c.after4.ensures.0
@@ -106,7 +106,7 @@ returns-3 c =
     pass-true _ 1 _ _ (is-version c.before.before.before.before.before.before.before.before.before.before)
     (pass-true _ 2 _ _ (eq-eqb _ _ (sym (is-end e) ∙ c.before.before.before.before.before.if2.false))
     (c.judge-blocks.ensures
-    ∙ ap wholeJudged (parts_are (sheetAt e.before.before.before.before.before.before.before) _ _ _ _
+    ∙ ap whole_judged (parts_are (sheet_at e.before.before.before.before.before.before.before) _ _ _ _
     e.before.before.before.after.ensures.0 e.before.before.after2.ensures.0 e.before.after3.ensures.0
     e.after4.ensures.0)))
 

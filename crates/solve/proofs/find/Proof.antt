@@ -35,7 +35,7 @@ ensured : (s : tie.Start) (answer : Answer) (left : Slices) → Left s.args.shee
     → (answer ≡ (finding s.args.sheet.now (lent s) s.args.budget).answer)
     × ((left ≡ (finding s.args.sheet.now (lent s) s.args.budget).left)
     × Finds s.args.sheet.now (lent s) s.args.budget answer left)
-ensured s answer left l = (l.answer-is, (l.left_is, means s.args.sheet.now (lent s) s.args.budget answer left l))
+ensured s answer left l = (l.answer_is, (l.left_is, means s.args.sheet.now (lent s) s.args.budget answer left l))
 
 returns : tie.Need-returns
 returns c =

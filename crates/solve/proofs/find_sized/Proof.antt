@@ -2,8 +2,8 @@
 use Prim.Native.Nat.{◌≤◌}
 use native.Mathlib.Omega.{arith}
 use borrow.Author.Rules.{rules}
-use Rattle.sheet_rules.specs.Blocks.{sheetOf}
-use Rattle.relational.specs.Cells.{cellCount}
+use Rattle.sheet_rules.specs.Blocks.{sheet_of}
+use Rattle.relational.specs.Cells.{cell_count}
 use Rattle.search.specs.Answers.{refused}
 use Rattle.solve_rules.specs.Finding.{Slices, slices}
 use Rattle.solve.specs.Private.{Left}
@@ -24,7 +24,7 @@ returns c =
 
 -- some slice has no room
 declines : (s : tie.Start) → s.args.size.words ≤ 2147483647
-    → (Room s.args.size.words s.args.size.variables (cellCount (sheetOf s.args.sheet.now)) (lent s) → ⊥)
+    → (Room s.args.size.words s.args.size.variables (cell_count (sheet_of s.args.sheet.now)) (lent s) → ⊥)
     → Left s.args.sheet.now (lent s) s.args.budget (refused 13) (lent s)
 declines s h short =
     let z = s.args.size in

@@ -4,14 +4,14 @@ use borrow.Author.Rules.{rules}
 use Rattle.clauses.specs.declared.answer.Size.{Size}
 use Rattle.clauses.specs.declared.answer.Count.TheVariants.{Fits}
 use Rattle.clauses.specs.Answers as count
-use Rattle.clauses.specs.Answers.{countAnswer}
+use Rattle.clauses.specs.Answers.{count_answer}
 use Rattle.solve.proofs.ReadBacks.{refuses, counts-cells, room-for-cells, count-refused, count-sized}
 use Rattle.solve.proofs.read_accepted.Statement.{statement}
 use Rattle.solve.proofs.read_accepted.Tie as tie
 
 -- what counting answered
 sized : (c : tie.After-count) (z : Size) → c.count.result ≡ Fits z
-    → countAnswer c.before.before.before.before.args.sheet.now ≡ count.fits z.variables z.clauses z.words
+    → count_answer c.before.before.before.before.args.sheet.now ≡ count.fits z.variables z.clauses z.words
 sized c z e = count-sized c.before.before.before.before.args.sheet.now c.count.result z c.count.ensures e
 
 count-requires : tie.Need-count-requires

@@ -3,7 +3,7 @@ use mathlib.Core.List.{[], ◌∷◌, ◌++◌}
 use native.Mathlib.Omega.{arith}
 use Prim.Native.Nat.{◌≤◌}
 use lib.ListN.{length, length-append}
-use Rattle.text.specs.Texts.{decimal, endLine}
+use Rattle.text.specs.Texts.{decimal, end_line}
 use Rattle.text.specs.Puts.{Room}
 use Rattle.text.proofs.Decimals.{decimal-short}
 use Rattle.text.proofs.Puts.{put_byte, put-length, room-first, Left, left-all, left-room, left-put, left-last}
@@ -11,7 +11,7 @@ use Rattle.text.proofs.put_end.Statement.{statement}
 use Rattle.text.proofs.put_end.Tie as tie
 
 -- a word of 16 letters, 20 digits and the end of the line
-short : (s : tie.Start) → length (endLine s.args.word.now s.args.n) ≤ 37
+short : (s : tie.Start) → length (end_line s.args.word.now s.args.n) ≤ 37
 short s =
     let n = s.args.n in
     omega (
@@ -22,7 +22,7 @@ short s =
       decimal-short 19 n (omega (arith, s.ranges.n)),
     )
 
-room : (s : tie.Start) → Room s.args.text.now 0 (endLine s.args.word.now s.args.n)
+room : (s : tie.Start) → Room s.args.text.now 0 (end_line s.args.word.now s.args.n)
 room s = omega (arith, s.requires.0, short s)
 
 put-bytes-requires : tie.Need-put-bytes-requires
@@ -36,9 +36,9 @@ start c = c.before.before.before.before
 
 -- after the word, and after the number
 word-put : (c : tie.After-put-bytes)
-    → Left (start c).args.text.now 0 (endLine (start c).args.word.now (start c).args.n) c.put-bytes.new.0 c.put-bytes.result
+    → Left (start c).args.text.now 0 (end_line (start c).args.word.now (start c).args.n) c.put-bytes.new.0 c.put-bytes.result
     (decimal (start c).args.n ++ (10 ∷ []))
-word-put c = left-put (left-all (start c).args.text.now 0 (endLine (start c).args.word.now (start c).args.n)) c.put-bytes.ensures
+word-put c = left-put (left-all (start c).args.text.now 0 (end_line (start c).args.word.now (start c).args.n)) c.put-bytes.ensures
 
 put-decimal-requires : tie.Need-put-decimal-requires
 put-decimal-requires c κs =
@@ -48,7 +48,7 @@ put-decimal-requires c κs =
 
 number_put : (c : tie.After-put-decimal)
     → Left (start c.before.before.before.before).args.text.now 0
-    (endLine (start c.before.before.before.before).args.word.now (start c.before.before.before.before).args.n)
+    (end_line (start c.before.before.before.before).args.word.now (start c.before.before.before.before).args.n)
     c.put-decimal.new.0 c.put-decimal.result (10 ∷ [])
 number_put c = left-put (word-put c.before.before.before.before) c.put-decimal.ensures
 

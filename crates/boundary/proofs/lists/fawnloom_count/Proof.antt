@@ -1,5 +1,5 @@
 use mathlib.Core.Path.{◌∙◌, ap}
-use Rattle.boundary.specs.Numbers.{countNumbers}
+use Rattle.boundary.specs.Numbers.{count_numbers}
 use borrow.Author.Rules.{rules}
 use Rattle.boundary.proofs.lists.fawnloom_count.Statement.{statement}
 use Rattle.boundary.proofs.lists.fawnloom_count.Tie as tie
@@ -11,7 +11,7 @@ count-numbers-requires : tie.Need-count-numbers-requires
 count-numbers-requires c κs = search rules
 
 returns : tie.Need-returns
-returns c = c.count-numbers.ensures ∙ ap countNumbers c.before.count.ensures
+returns c = c.count-numbers.ensures ∙ ap count_numbers c.before.count.ensures
 
 pub fawnloom-count-spec : {M : Type 1} → statement M
 fawnloom-count-spec = tie.close (tie.spec count-requires count-numbers-requires returns)

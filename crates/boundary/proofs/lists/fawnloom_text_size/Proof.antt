@@ -1,5 +1,5 @@
 use mathlib.Core.Path.{◌∙◌, ap}
-use Rattle.boundary.specs.Numbers.{textNumbers}
+use Rattle.boundary.specs.Numbers.{text_numbers}
 use borrow.Author.Rules.{rules}
 use Rattle.boundary.proofs.lists.fawnloom_text_size.Statement.{statement}
 use Rattle.boundary.proofs.lists.fawnloom_text_size.Tie as tie
@@ -11,7 +11,7 @@ text-numbers-requires : tie.Need-text-numbers-requires
 text-numbers-requires c κs = search rules
 
 returns : tie.Need-returns
-returns c = c.text-numbers.ensures ∙ ap textNumbers c.before.size.ensures
+returns c = c.text-numbers.ensures ∙ ap text_numbers c.before.size.ensures
 
 pub fawnloom-text-size-spec : {M : Type 1} → statement M
 fawnloom-text-size-spec = tie.close (tie.spec size-requires text-numbers-requires returns)

@@ -1,5 +1,5 @@
 use mathlib.Core.Path.{◌∙◌, ap}
-use Rattle.boundary.specs.Numbers.{countNumbers}
+use Rattle.boundary.specs.Numbers.{count_numbers}
 use borrow.Author.Rules.{rules}
 use Rattle.boundary.proofs.lists.fawnloom_write.Statement.{statement}
 use Rattle.boundary.proofs.lists.fawnloom_write.Tie as tie
@@ -16,7 +16,7 @@ same_length c = search rules
 returns : tie.Need-returns
 returns c =
     let written = c.before.before.write.ensures in
-    (c.count-numbers.ensures ∙ ap countNumbers written.0, written.1)
+    (c.count-numbers.ensures ∙ ap count_numbers written.0, written.1)
 
 pub fawnloom-write-spec : {M : Type 1} → statement M
 fawnloom-write-spec =

@@ -1,6 +1,6 @@
 use mathlib.Core.Path.{◌∙◌, ap}
 use Rattle.search.specs.Answers.{answer_of}
-use Rattle.boundary.specs.Numbers.{searchNumbers}
+use Rattle.boundary.specs.Numbers.{search_numbers}
 use borrow.Author.Rules.{rules}
 use Rattle.boundary.proofs.runs.fawnloom_find.Statement.{statement}
 use Rattle.boundary.proofs.runs.fawnloom_find.Tie as tie
@@ -27,10 +27,10 @@ returns : tie.Need-returns
 returns c =
     let found = c.before.before.before.before.before.before.before.find in
     let numbers = c.search-numbers.ensures in (
-      numbers ∙ ap searchNumbers found.ensures.0,
+      numbers ∙ ap search_numbers found.ensures.0,
       (
         found.ensures.1.0,
-        record { answer = answer_of found.result; finds = found.ensures.1.1; in-numbers = numbers },
+        record { answer = answer_of found.result; finds = found.ensures.1.1; in_numbers = numbers },
       ),
     )
 

@@ -1,5 +1,5 @@
 use mathlib.Core.Path.{◌∙◌, ap}
-use Rattle.boundary.specs.Numbers.{copyNumbers}
+use Rattle.boundary.specs.Numbers.{copy_numbers}
 use borrow.Author.Rules.{rules}
 use Rattle.boundary.proofs.runs.fawnloom_read_back.Statement.{statement}
 use Rattle.boundary.proofs.runs.fawnloom_read_back.Tie as tie
@@ -16,7 +16,7 @@ same_length c = search rules
 returns : tie.Need-returns
 returns c =
     let read = c.before.before.before.read_back.ensures in
-    (c.copy-numbers.ensures ∙ ap copyNumbers read.0, read.1)
+    (c.copy-numbers.ensures ∙ ap copy_numbers read.0, read.1)
 
 pub fawnloom-read-back-spec : {M : Type 1} → statement M
 fawnloom-read-back-spec =

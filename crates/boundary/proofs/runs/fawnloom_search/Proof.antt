@@ -1,5 +1,5 @@
 use mathlib.Core.Path.{◌∙◌, ap}
-use Rattle.boundary.specs.Numbers.{searchNumbers}
+use Rattle.boundary.specs.Numbers.{search_numbers}
 use borrow.Author.Rules.{rules}
 use Rattle.boundary.proofs.runs.fawnloom_search.Statement.{statement}
 use Rattle.boundary.proofs.runs.fawnloom_search.Tie as tie
@@ -19,7 +19,7 @@ same-length-2 c = search rules
 returns : tie.Need-returns
 returns c =
     let searched = c.before.before.before.before.search.ensures in
-    (c.search-numbers.ensures ∙ ap searchNumbers searched.0, searched.1)
+    (c.search-numbers.ensures ∙ ap search_numbers searched.0, searched.1)
 
 pub fawnloom-search-spec : {M : Type 1} → statement M
 fawnloom-search-spec =

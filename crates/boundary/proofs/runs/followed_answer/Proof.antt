@@ -19,7 +19,7 @@ same-length-2 c = search rules
 returns : tie.Need-returns
 returns c =
     let k = c.before.before.before.before in
-    in_parts _ k.followed.result _ _ _ k.followed.ensures c.in-numbers.ensures
+    in_parts _ k.followed.result _ _ _ k.followed.ensures c.in_numbers.ensures
 
 pub followed-answer-spec : {M : Type 1} → statement M
 followed-answer-spec = tie.close (tie.spec followed-requires in-numbers-requires same_length same-length-2 returns)

@@ -19,7 +19,7 @@ same-length-2 c = search rules
 returns : tie.Need-returns
 returns c =
     let k = c.before.before.before.before in
-    in_parts _ k.resumed.result _ _ _ k.resumed.ensures c.in-numbers.ensures
+    in_parts _ k.resumed.result _ _ _ k.resumed.ensures c.in_numbers.ensures
 
 pub resumed-answer-spec : {M : Type 1} → statement M
 resumed-answer-spec = tie.close (tie.spec resumed-requires in-numbers-requires same_length same-length-2 returns)

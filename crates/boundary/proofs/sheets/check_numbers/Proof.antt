@@ -1,7 +1,7 @@
 -- Answer by answer.
 use mathlib.Core.Path.{ap, sym}
 use Rattle.instance.specs.Answers as checked
-use Rattle.boundary.specs.Numbers.{checkNumbers}
+use Rattle.boundary.specs.Numbers.{check_numbers}
 use borrow.Author.Rules.{rules}
 use Rattle.boundary.proofs.sheets.check_numbers.Statement.{statement}
 use Rattle.boundary.proofs.sheets.check_numbers.Tie as tie
@@ -19,10 +19,10 @@ number-requires : tie.Need-number-requires
 number-requires c κs = search rules
 
 returns : tie.Need-returns
-returns c = ap (λ a. checkNumbers (checked.answer_of a)) (sym c.enum_told.given.1)
+returns c = ap (λ a. check_numbers (checked.answer_of a)) (sym c.enum_told.given.1)
 
 returns-2 : tie.Need-returns-2
-returns-2 c = ap (λ a. checkNumbers (checked.answer_of a)) (sym c.enum-told2.given.1)
+returns-2 c = ap (λ a. check_numbers (checked.answer_of a)) (sym c.enum-told2.given.1)
 
 returns-3 : tie.Need-returns-3
 returns-3 c = cc

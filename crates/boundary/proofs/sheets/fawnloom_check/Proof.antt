@@ -1,6 +1,6 @@
 use mathlib.Core.Path.{◌∙◌, ap}
 use Rattle.instance.specs.Answers.{answer_of}
-use Rattle.boundary.specs.Numbers.{checkNumbers}
+use Rattle.boundary.specs.Numbers.{check_numbers}
 use borrow.Author.Rules.{rules}
 use Rattle.boundary.proofs.sheets.fawnloom_check.Statement.{statement}
 use Rattle.boundary.proofs.sheets.fawnloom_check.Tie as tie
@@ -16,9 +16,9 @@ returns c = (
   record {
     answer = answer_of c.before.check.result;
     answers = c.before.check.ensures.0;
-    in-numbers = c.check-numbers.ensures;
+    in_numbers = c.check-numbers.ensures;
   },
-  c.check-numbers.ensures ∙ ap checkNumbers c.before.check.ensures.1,
+  c.check-numbers.ensures ∙ ap check_numbers c.before.check.ensures.1,
 )
 
 pub fawnloom-check-spec : {M : Type 1} → statement M

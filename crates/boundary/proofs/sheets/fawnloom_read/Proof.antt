@@ -1,5 +1,5 @@
 use mathlib.Core.Path.{◌∙◌, ap}
-use Rattle.boundary.specs.Numbers.{readNumber}
+use Rattle.boundary.specs.Numbers.{read_number}
 use borrow.Author.Rules.{rules}
 use Rattle.boundary.proofs.sheets.fawnloom_read.Statement.{statement}
 use Rattle.boundary.proofs.sheets.fawnloom_read.Tie as tie
@@ -11,7 +11,7 @@ read-number-requires : tie.Need-read-number-requires
 read-number-requires c κs = search rules
 
 returns : tie.Need-returns
-returns c = c.read_number.ensures ∙ ap readNumber c.before.read.ensures
+returns c = c.read_number.ensures ∙ ap read_number c.before.read.ensures
 
 pub fawnloom-read-spec : {M : Type 1} → statement M
 fawnloom-read-spec = tie.close (tie.spec read-requires read-number-requires returns)

@@ -3,7 +3,7 @@ use borrow.Author.Rules.{rules}
 use Prim.Native.Nat.{◌-◌, ◌≤◌, ◌<◌}
 use native.Mathlib.Omega.{arith}
 use Rattle.literal.proofs.Signs.{back}
-use Rattle.relational.specs.Cells.{mostCells}
+use Rattle.relational.specs.Cells.{most_cells}
 use Rattle.clauses.specs.Translating.{CellWords}
 use Rattle.clauses.proofs.CellWords.{words-none, word-is, words_more, words-done}
 use Rattle.clauses.proofs.whole.cell_words.Statement.{statement}
@@ -42,7 +42,7 @@ loop-less c = omega arith
 loop-again : tie.Need-loop-preserved invariant-loop decreases-loop
 loop-again c =
     let i = c.before.before.loop.i in
-    let h : i < mostCells = omega (arith, c.before.before.before.requires, c.before.loop-test.true) in
+    let h : i < most_cells = omega (arith, c.before.before.before.requires, c.before.loop-test.true) in
     let w = c.positive.result in
     let more = words_more w c.before.before.loop.invariant.1 h (word-is i w h c.positive.ensures) in
     (omega arith, rw (back w (record { sfits = c.positive.type-inv })) more)

@@ -7,12 +7,12 @@ use Prim.Native.Nat.{ℕ, ◌+◌, ◌-◌}
 use native.Mathlib.Omega.{arith}
 use lib.ListN.{take, length}
 use lib.Seq.{length-take-le}
-use Rattle.literal.specs.Words.{literalOf}
+use Rattle.literal.specs.Words.{literal_of}
 use Rattle.literal.proofs.Signs.{read, back}
-use Rattle.sheet_rules.specs.Blocks.{sheetOf, root}
+use Rattle.sheet_rules.specs.Blocks.{sheet_of, root}
 use Rattle.sheet_rules.proofs.Acceptance.{accepted-facts}
 use Rattle.cells.proofs.Parts.{nodes-counted}
-use Rattle.clauses_rules.specs.Whole.{firstGate}
+use Rattle.clauses_rules.specs.Whole.{first_gate}
 use Rattle.clauses_emission.proofs.Writes.{appends-as}
 use Rattle.clauses.proofs.Translation.{Translatable, translatable, root_is, marks-given, first_small}
 use Rattle.clauses.proofs.Translation.{inner-small}
@@ -35,10 +35,10 @@ module _ (w : tie.After-cell-words) where
       w.before.before.first-cells.result.starts
   ready = translatable start.pre w.before.before.first-cells.ensures w.cell-words.ensures
 
-  next-is : 2 + count ≡ firstGate (sheetOf start.args.sheet.now)
+  next-is : 2 + count ≡ first_gate (sheet_of start.args.sheet.now)
   next-is = ap (λ n. 2 + n) w.before.before.first-cells.ensures.0
 
-  root-at : start.args.layout.nodes.count - 1 ≡ root (sheetOf start.args.sheet.now)
+  root-at : start.args.layout.nodes.count - 1 ≡ root (sheet_of start.args.sheet.now)
   root-at = ap (λ n. n - 1) (nodes-counted _ _ start.pre)
 
 first-cells-requires : tie.Need-first-cells-requires
@@ -95,7 +95,7 @@ sub-root : tie.Need-overflow-sub-root
 sub-root c =
     let s = start
     c.before.before.before.before.before.before.before.before.before.before.before.before.before.before.before.before in
-    omega (arith, nodes-counted _ _ s.pre, (accepted-facts _ _ s.pre).counts.some-nodes)
+    omega (arith, nodes-counted _ _ s.pre, (accepted-facts _ _ s.pre).counts.some_nodes)
 
 array-share-prefix-words-4 : tie.Need-array-share-prefix-words-4
 array-share-prefix-words-4 c =
@@ -146,7 +146,7 @@ returns : tie.Need-returns
 returns c =
     let f = c.before.before.before.before.before.before.before in
     let made = f.formula.result in
-    let e : literalOf (read made.literal) ≡ literalOf made.literal = ap literalOf (back made.literal (search rules)) in
+    let e : literal_of (read made.literal) ≡ literal_of made.literal = ap literal_of (back made.literal (search rules)) in
     let q = f.before.before.before.before.before.before.before in
     let o = q.before.before.before.before.before in
     let p = o.before.before.before.before.before in

@@ -1,20 +1,20 @@
 -- `gates::apart` meets its contract.
 use mathlib.Core.Path.{◌≡◌}
 use Rattle.literal.specs.Literals.{opposite}
-use Rattle.literal.specs.Words.{literalOf}
+use Rattle.literal.specs.Words.{literal_of}
 use Rattle.literal.proofs.Signs.{read}
 use Rattle.clauses_emission.proofs.Ranges.{opposite-read, inside-opposite}
 use borrow.Author.Rules.{rules}
 use Rattle.clauses_emission.proofs.gates.apart.Statement.{statement}
 use Rattle.clauses_emission.proofs.gates.apart.Tie as tie
 
-turned-p : (c : tie.After-opposite) → literalOf (read c.opposite.result) ≡ opposite (literalOf c.before.before.args.p)
+turned-p : (c : tie.After-opposite) → literal_of (read c.opposite.result) ≡ opposite (literal_of c.before.before.args.p)
 turned-p c =
     let start = c.before.before in
     opposite-read start.args.tape.next start.args.p c.opposite.result start.requires.0.last
     start.ranges.p start.requires.1.0 c.opposite.ensures (record { sfits = c.opposite.type-inv })
 
-turned-q : (c : tie.After-opposite2) → literalOf (read c.opposite2.result) ≡ opposite (literalOf c.before.before.before.args.q)
+turned-q : (c : tie.After-opposite2) → literal_of (read c.opposite2.result) ≡ opposite (literal_of c.before.before.before.args.q)
 turned-q c =
     let start = c.before.before.before in
     opposite-read start.args.tape.next start.args.q c.opposite2.result start.requires.0.last
@@ -31,8 +31,8 @@ either-requires c κs =
     let start = c.before.before.before in (
       start.requires.0,
       (
-        rw (turned-p c.before) (inside-opposite (literalOf start.args.p) start.requires.1.0),
-        rw (turned-q c) (inside-opposite (literalOf start.args.q) start.requires.1.1),
+        rw (turned-p c.before) (inside-opposite (literal_of start.args.p) start.requires.1.0),
+        rw (turned-q c) (inside-opposite (literal_of start.args.q) start.requires.1.1),
       ),
     )
 

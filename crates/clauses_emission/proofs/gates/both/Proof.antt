@@ -1,5 +1,5 @@
 -- `gates::both` meets its contract.
-use Rattle.literal.specs.Words.{literalOf}
+use Rattle.literal.specs.Words.{literal_of}
 use Rattle.literal.proofs.Signs.{back}
 use Rattle.clauses_rules.specs.Translation as two
 use Rattle.clauses_emission.proofs.Ors.{emits-negated}
@@ -22,7 +22,7 @@ returns c =
     let p = start.args.p in
     let q = start.args.q in
     let call = c.before.before.apart in
-    emits-negated (two.apart (literalOf p, literalOf q)) call.result c.negate.result
+    emits-negated (two.apart (literal_of p, literal_of q)) call.result c.negate.result
     (rw (back p start.ranges.p, back q start.ranges.q) at call.ensures) c.negate.ensures
 
 pub both-spec : {M : Type 1} → statement M

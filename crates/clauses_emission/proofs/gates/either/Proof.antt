@@ -3,7 +3,7 @@ use mathlib.Core.Path.{refl, ap}
 use native.Mathlib.Omega.{arith}
 use mir.Syntax.{w32}
 use mir.Val.{SFits, of_z}
-use Rattle.literal.specs.Words.{literalOf}
+use Rattle.literal.specs.Words.{literal_of}
 use Rattle.literal.proofs.Signs.{back, same-as}
 use Rattle.clauses_rules.specs.Translation.{either}
 use Rattle.clauses_emission.specs.Settling.{Tells}
@@ -38,8 +38,8 @@ slice-aggregate-gate c = search rules
 gate-requires : tie.Need-gate-requires
 gate-requires c κs =
     let start = c.before.before.before.before in
-    let p = ap literalOf (back start.args.p start.ranges.p) in
-    let q = ap literalOf (back start.args.q start.ranges.q) in (
+    let p = ap literal_of (back start.args.p start.ranges.p) in
+    let q = ap literal_of (back start.args.q start.ranges.q) in (
       start.requires.0,
       record {
         few = omega arith;
@@ -58,7 +58,7 @@ returns-2 c =
     let q = start.args.q in
     let f : SFits w32 at.told.result = record { sfits = at.told.type-inv } in
     emits-as
-    (or-gate (literalOf p) (literalOf q) start.args.tape.next
+    (or-gate (literal_of p) (literal_of q) start.args.tape.next
     ((tells at).gate (same-as at.told.result f c.before.before.before.before.if1.false)))
     refl
     (rw (back p start.ranges.p, back q start.ranges.q) at c.before.gate.ensures)

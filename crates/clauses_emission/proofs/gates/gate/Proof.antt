@@ -5,11 +5,11 @@ use Prim.Native.Nat.{suc}
 use native.Mathlib.Omega.{arith}
 use lib.IntN.{pos}
 use Rattle.literal.specs.Literals.{Literal, positive, negative, opposite}
-use Rattle.literal.specs.Words.{literalOf}
+use Rattle.literal.specs.Words.{literal_of}
 use Rattle.literal.proofs.Signs.{read, back}
 use Rattle.literal.proofs.Words.{positive-is}
-use Rattle.clauses_rules.specs.Gates.{Clause, gateOf}
-use Rattle.clauses_emission.specs.Emission.{literalsOf, Inside, Within}
+use Rattle.clauses_rules.specs.Gates.{Clause, gate_of}
+use Rattle.clauses_emission.specs.Emission.{literals_of, Inside, Within}
 use Rattle.clauses_emission.proofs.Writes.{appends-as}
 use Rattle.clauses_emission.proofs.Ranges.{opposite-read}
 use Rattle.clauses_emission.proofs.Steps.{given-up, emits-literal}
@@ -29,8 +29,8 @@ the_word c =
 returns : tie.Need-returns
 returns c =
     let start = c.before.before in
-    given-up (gateOf (literalsOf start.args.inputs.now)) (positive 1) start.args.list.now start.args.tape
-    (regular-gate (literalsOf start.args.inputs.now)) start.requires.0 c.if1.true
+    given-up (gate_of (literals_of start.args.inputs.now)) (positive 1) start.args.list.now start.args.tape
+    (regular-gate (literals_of start.args.inputs.now)) start.requires.0 c.if1.true
     (record { low = omega arith; high = omega (arith, start.requires.0.first) })
 
 cast-positive : tie.Need-overflow-cast-positive
@@ -51,7 +51,7 @@ emit-clause-requires : tie.Need-emit-clause-requires
 emit-clause-requires c κs =
     let start = c.before.before.before.before.before.before.before.before.before in
     let ws = start.args.inputs.now in
-    inputs-room start.args.tape (literalsOf ws) ws start.requires.0 (omega (arith, length-literals ws, start.requires.1.few))
+    inputs-room start.args.tape (literals_of ws) ws start.requires.0 (omega (arith, length-literals ws, start.requires.1.few))
     start.requires.1.few c.before.before.before.gate-inputs.ensures
 
 add-t14 : tie.Need-overflow-add-t14
@@ -69,19 +69,19 @@ returns-2 c =
     let made = c.before.before.before.before.before.before.before.before.positive in
     let turned = c.before.before.before.opposite in
     let within : Within tape.next = c.before.before.before.before.before.before.before.before.before.before.if1.false in
-    let l : literalOf made.result ≡ positive tape.next = ap literalOf (sym (back made.result (record { sfits = made.type-inv })) ∙ word) in
-    let i : Inside (suc tape.next) (literalOf made.result) =
+    let l : literal_of made.result ≡ positive tape.next = ap literal_of (sym (back made.result (record { sfits = made.type-inv })) ∙ word) in
+    let i : Inside (suc tape.next) (literal_of made.result) =
     rw l (record { low = omega (arith, start.requires.0.first); high = omega arith })
     in
-    let o : literalOf (read turned.result) ≡ opposite (literalOf made.result) =
+    let o : literal_of (read turned.result) ≡ opposite (literal_of made.result) =
     opposite-read (suc tape.next) made.result turned.result (omega (arith, within))
     (record { sfits = made.type-inv }) i turned.ensures (record { sfits = turned.type-inv })
     in
-    let e : ◌≡◌ {A = List Clause} ((literalOf (read turned.result) ∷ literalsOf ws) ∷ []) ((negative tape.next ∷ literalsOf ws) ∷ []) =
-    ap (λ (k : Literal). (k ∷ literalsOf ws) ∷ []) (o ∙ ap opposite l)
+    let e : ◌≡◌ {A = List Clause} ((literal_of (read turned.result) ∷ literals_of ws) ∷ []) ((negative tape.next ∷ literals_of ws) ∷ []) =
+    ap (λ (k : Literal). (k ∷ literals_of ws) ∷ []) (o ∙ ap opposite l)
     in
-    emits-literal (sym (ap literalOf word))
-    (gate-emits tape (literalsOf ws) start.requires.0 within (omega (arith, length-literals ws, start.requires.1.few))
+    emits-literal (sym (ap literal_of word))
+    (gate-emits tape (literals_of ws) start.requires.0 within (omega (arith, length-literals ws, start.requires.1.few))
     c.before.before.before.before.before.before.gate-inputs.ensures
     (appends-as e c.before.before.emit-clause.ensures)
     refl refl refl)

@@ -9,10 +9,10 @@ use lib.IntN.{pos}
 use lib.ListN.{length, get_or, take, length-take}
 use lib.Seq.{take_all}
 use Rattle.literal.specs.Literals.{positive, opposite}
-use Rattle.literal.specs.Words.{literalOf}
+use Rattle.literal.specs.Words.{literal_of}
 use Rattle.literal.proofs.Signs.{read, back}
-use Rattle.clauses_rules.specs.Gates.{Clause, inputClauses}
-use Rattle.clauses_emission.specs.Emission.{literalsOf, Appends, Inside}
+use Rattle.clauses_rules.specs.Gates.{Clause, input_clauses}
+use Rattle.clauses_emission.specs.Emission.{literals_of, Appends, Inside}
 use Rattle.clauses_emission.proofs.Writes.{appends-none, appends-then, appends-as, writes-length}
 use Rattle.clauses_emission.proofs.Ranges.{opposite-read, literal-at}
 use Rattle.clauses_emission.proofs.Ors.{inputs-next, inputs-room, length-literals}
@@ -21,13 +21,13 @@ use Rattle.clauses_emission.proofs.gates.gate_inputs.Tie as tie
 
 abbrev invariant-loop : tie.invariant-loop
 invariant-loop list₀ g inputs after₀ k₀ list after k =
-    (k ≤ length inputs) × Appends (inputClauses after₀.next (literalsOf (take k inputs))) list₀ after₀ list after
+    (k ≤ length inputs) × Appends (input_clauses after₀.next (literals_of (take k inputs))) list₀ after₀ list after
 
 abbrev decreases-loop : tie.decreases-loop
 decreases-loop list₀ g inputs after₀ k₀ list after k = length inputs - k
 
 loop-holds : tie.Need-loop-init invariant-loop decreases-loop
-unfolding inputClauses
+unfolding input_clauses
 loop-holds c = (omega arith, appends-none c.args.list.now c.args.tape)
 
 mul-l : tie.Need-overflow-mul-l invariant-loop decreases-loop
@@ -47,7 +47,7 @@ emit-clause-requires c κs =
     let start = c.before.before.before.before.before.before in
     let loop = c.before.before.before.before.before.loop in
     let ws = start.args.inputs.now in
-    inputs-room start.args.tape (literalsOf (take loop.k ws)) _ start.requires.0
+    inputs-room start.args.tape (literals_of (take loop.k ws)) _ start.requires.0
     (omega (arith, length-literals (take loop.k ws), length-take loop.k ws, start.requires.1.1.0.few))
     (omega arith) loop.invariant.1
 
@@ -66,20 +66,20 @@ loop-again c =
     let w = get_or ws k (pos 0) in
     let h = c.before.before.before.before.before.before.loop-test.true in
     let call = c.before.before.before.before.opposite in
-    let i : Inside start.args.tape.next (literalOf w) = rw (literal-at ws k h) at (start.requires.1.1.0.inside k) in
-    let o : literalOf (read call.result) ≡ opposite (literalOf w) =
+    let i : Inside start.args.tape.next (literal_of w) = rw (literal-at ws k h) at (start.requires.1.1.0.inside k) in
+    let o : literal_of (read call.result) ≡ opposite (literal_of w) =
     opposite-read start.args.tape.next w call.result start.requires.0.last
     (record { sfits = c.before.before.before.before.before.l.given }) i call.ensures (record { sfits = call.type-inv })
     in
-    let g : literalOf (read start.args.g) ≡ positive start.args.tape.next =
-    ap literalOf (back start.args.g start.ranges.g ∙ start.requires.1.1.1)
+    let g : literal_of (read start.args.g) ≡ positive start.args.tape.next =
+    ap literal_of (back start.args.g start.ranges.g ∙ start.requires.1.1.1)
     in
     let n = start.args.tape.next in
-    let e : ◌≡◌ {A = List Clause} ((literalOf (read start.args.g) ∷ literalOf (read call.result) ∷ []) ∷ [])
-    ((positive n ∷ opposite (literalOf w) ∷ []) ∷ []) = rw (g, o)
+    let e : ◌≡◌ {A = List Clause} ((literal_of (read start.args.g) ∷ literal_of (read call.result) ∷ []) ∷ [])
+    ((positive n ∷ opposite (literal_of w) ∷ []) ∷ []) = rw (g, o)
     in (
       omega arith,
-      appends-as (inputs-next n ws k h ∙ ap (λ j. inputClauses n (literalsOf (take j ws))) (sym (add-one k)))
+      appends-as (inputs-next n ws k h ∙ ap (λ j. input_clauses n (literals_of (take j ws))) (sym (add-one k)))
           (appends-then loop.invariant.1 (appends-as e c.before.emit-clause.ensures)),
     )
 
@@ -90,7 +90,7 @@ returns : tie.Need-returns invariant-loop decreases-loop
 returns c =
     let ws = c.before.before.args.inputs.now in
     let n = c.before.before.args.tape.next in
-    appends-as (ap (λ t. inputClauses n (literalsOf t)) (take_all c.before.loop.k ws c.loop-test.false)) c.before.loop.invariant.1
+    appends-as (ap (λ t. input_clauses n (literals_of t)) (take_all c.before.loop.k ws c.loop-test.false)) c.before.loop.invariant.1
 
 pub gate-inputs-spec : {M : Type 1} → statement M
 gate-inputs-spec =

@@ -1,14 +1,14 @@
 -- `gates::implies` meets its contract.
 use mathlib.Core.Path.{◌≡◌}
 use Rattle.literal.specs.Literals.{opposite}
-use Rattle.literal.specs.Words.{literalOf}
+use Rattle.literal.specs.Words.{literal_of}
 use Rattle.literal.proofs.Signs.{read, back}
 use Rattle.clauses_emission.proofs.Ranges.{opposite-read, inside-opposite}
 use borrow.Author.Rules.{rules}
 use Rattle.clauses_emission.proofs.gates.implies.Statement.{statement}
 use Rattle.clauses_emission.proofs.gates.implies.Tie as tie
 
-turned : (c : tie.After-opposite) → literalOf (read c.opposite.result) ≡ opposite (literalOf c.before.before.args.p)
+turned : (c : tie.After-opposite) → literal_of (read c.opposite.result) ≡ opposite (literal_of c.before.before.args.p)
 turned c =
     let start = c.before.before in
     opposite-read start.args.tape.next start.args.p c.opposite.result start.requires.0.last
@@ -22,7 +22,7 @@ either-requires c κs =
     let start = c.before.before in (
       start.requires.0,
       (
-        rw (turned c) (inside-opposite (literalOf start.args.p) start.requires.1.0),
+        rw (turned c) (inside-opposite (literal_of start.args.p) start.requires.1.0),
         rw (back start.args.q start.ranges.q)
             start.requires.1.1,
       ),

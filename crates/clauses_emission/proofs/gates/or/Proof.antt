@@ -6,10 +6,10 @@ use lib.IntN.{ℤ, pos}
 use lib.ListN.{length, get_or, take}
 use lib.Seq.{length-take-le, get_or-take}
 use Rattle.literal.specs.Literals.{negative}
-use Rattle.literal.specs.Words.{literalOf}
+use Rattle.literal.specs.Words.{literal_of}
 use Rattle.literal.proofs.Signs.{back}
 use Rattle.clauses_rules.specs.Gates.{or_of, or}
-use Rattle.clauses_emission.specs.Emission.{literalsOf, Inside, Inputs}
+use Rattle.clauses_emission.specs.Emission.{literals_of, Inside, Inputs}
 use Rattle.clauses_emission.proofs.Ranges.{inside-absent, all-grows, literal-at}
 use Rattle.clauses_emission.proofs.Steps.{emits-return, emits-as, emits-literal}
 use Rattle.clauses_emission.proofs.Ors.{or-none, or-one, or-many}
@@ -19,7 +19,7 @@ use Rattle.clauses_emission.proofs.gates.or.Statement.{statement}
 use Rattle.clauses_emission.proofs.gates.or.Tie as tie
 
 settle-requires : tie.Need-settle-requires
-settle-requires c κs = all-grows (literalsOf c.before.args.inputs.now) c.before.requires.0.last c.before.requires.1.inside
+settle-requires c κs = all-grows (literals_of c.before.args.inputs.now) c.before.requires.0.last c.before.requires.1.inside
 
 -- the words that are left
 abbrev left : tie.After-settle → List ℤ
@@ -28,8 +28,8 @@ left c = take c.settle.result c.settle.new.0
 left-count : (c : tie.After-settle) → length (left c) ≡ c.settle.result
 left-count c = length-take-le c.settle.result c.settle.new.0 (search rules)
 
-left_or : (c : tie.After-settle) → or_of (literalsOf (left c)) c.before.before.args.tape.next
-    ≡ or (literalsOf c.before.before.args.inputs.now) c.before.before.args.tape.next
+left_or : (c : tie.After-settle) → or_of (literals_of (left c)) c.before.before.args.tape.next
+    ≡ or (literals_of c.before.before.args.inputs.now) c.before.before.args.tape.next
 left_or c =
     settled-or c.before.before.args.inputs.now c.settle.new.0 c.settle.result c.settle.ensures
     c.before.before.args.tape.next
@@ -63,10 +63,10 @@ returns-2 c =
     let at = c.before.before.before.before in
     let one = left-count at ∙ c.before.if2.true in
     let w = get_or (left at) 0 (pos 0) in
-    let i : Inside a.tape.next (literalOf w) = rw (literal-at (left at) 0 (omega (arith, one))) at ((left-inputs at).inside 0) in
+    let i : Inside a.tape.next (literal_of w) = rw (literal-at (left at) 0 (omega (arith, one))) at ((left-inputs at).inside 0) in
     let e = get_or-take at.settle.result at.settle.new.0 0 (pos 0) (omega (arith, c.before.if2.true)) in
-    emits-literal (ap literalOf (e ∙ sym (back (get_or at.settle.new.0 0 (pos 0)) (record { sfits = c.l.given }))))
-    (emits-as (or-one (left at) a.tape.next one ∙ left_or at) refl (emits-return (literalOf w) a.list.now a.tape start.requires.0 i))
+    emits-literal (ap literal_of (e ∙ sym (back (get_or at.settle.new.0 0 (pos 0)) (record { sfits = c.l.given }))))
+    (emits-as (or-one (left at) a.tape.next one ∙ left_or at) refl (emits-return (literal_of w) a.list.now a.tape start.requires.0 i))
 
 slice-reshare-prefix-gate : tie.Need-slice-reshare-prefix-gate
 slice-reshare-prefix-gate c = search rules

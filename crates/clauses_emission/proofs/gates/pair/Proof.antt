@@ -4,7 +4,7 @@ use mathlib.Core.List.{List}
 use Prim.Native.Nat.{ℕ}
 use lib.IntN.{ℤ}
 use Rattle.literal.specs.Literals.{Literal}
-use Rattle.literal.specs.Words.{literalOf}
+use Rattle.literal.specs.Words.{literal_of}
 use Rattle.literal.proofs.Signs.{back}
 use Rattle.clauses_rules.specs.Translation.{Two}
 use Rattle.clauses_emission.specs.declared.Tape.{Tape}
@@ -64,7 +64,7 @@ returns c =
     let start = c.before.before.before.before.before in
     let p = start.args.p in
     let q = start.args.q in
-    by_kind start.args.kind Either (literalOf p, literalOf q) c.before.before.before.enum_told.given.1
+    by_kind start.args.kind Either (literal_of p, literal_of q) c.before.before.before.enum_told.given.1
     (rw (back p start.ranges.p, back q start.ranges.q) at c.before.either.ensures)
 
 same-length-2 : tie.Need-same-length-2
@@ -75,7 +75,7 @@ returns-2 c =
     let start = c.before.before.before.before.before in
     let p = start.args.p in
     let q = start.args.q in
-    by_kind start.args.kind Both (literalOf p, literalOf q) c.before.before.before.enum-told2.given.1
+    by_kind start.args.kind Both (literal_of p, literal_of q) c.before.before.before.enum-told2.given.1
     (rw (back p start.ranges.p, back q start.ranges.q) at c.before.both.ensures)
 
 same-length-3 : tie.Need-same-length-3
@@ -86,7 +86,7 @@ returns-3 c =
     let start = c.before.before.before.before.before in
     let p = start.args.p in
     let q = start.args.q in
-    by_kind start.args.kind Without (literalOf p, literalOf q) c.before.before.before.enum-told3.given.1
+    by_kind start.args.kind Without (literal_of p, literal_of q) c.before.before.before.enum-told3.given.1
     (rw (back p start.ranges.p, back q start.ranges.q) at c.before.without.ensures)
 
 same-length-4 : tie.Need-same-length-4
@@ -97,7 +97,7 @@ returns-4 c =
     let start = c.before.before.before.before.before in
     let p = start.args.p in
     let q = start.args.q in
-    by_kind start.args.kind Implies (literalOf p, literalOf q) c.before.before.before.enum-told4.given.1
+    by_kind start.args.kind Implies (literal_of p, literal_of q) c.before.before.before.enum-told4.given.1
     (rw (back p start.ranges.p, back q start.ranges.q) at c.before.implies.ensures)
 
 same-length-5 : tie.Need-same-length-5
@@ -108,7 +108,7 @@ returns-5 c =
     let start = c.before.before.before.before.before in
     let p = start.args.p in
     let q = start.args.q in
-    by_kind start.args.kind Same (literalOf p, literalOf q) c.before.before.before.enum-told5.given.1
+    by_kind start.args.kind Same (literal_of p, literal_of q) c.before.before.before.enum-told5.given.1
     (rw (back p start.ranges.p, back q start.ranges.q) at c.before.same.ensures)
 
 same-length-6 : tie.Need-same-length-6
@@ -119,7 +119,7 @@ returns-6 c =
     let start = c.before.before.before.before.before in
     let p = start.args.p in
     let q = start.args.q in
-    by_kind start.args.kind Apart (literalOf p, literalOf q) c.before.before.before.enum-told6.given.1
+    by_kind start.args.kind Apart (literal_of p, literal_of q) c.before.before.before.enum-told6.given.1
     (rw (back p start.ranges.p, back q start.ranges.q) at c.before.apart.ensures)
 
 pub pair_spec : {M : Type 1} → statement M

@@ -1,6 +1,6 @@
 -- `gates::same` meets its contract.
 use mathlib.Core.List.{[], ◌∷◌}
-use Rattle.literal.specs.Words.{literalOf}
+use Rattle.literal.specs.Words.{literal_of}
 use Rattle.literal.proofs.Signs.{back}
 use Rattle.clauses_rules.specs.Builder.{◌>>=◌}
 use Rattle.clauses_rules.specs.Translation as two
@@ -46,11 +46,11 @@ returns c =
     let ey = back y.result.literal (search rules) in
     let ep = back p start.ranges.p in
     let eq = back q start.ranges.q in
-    emits-bind (two.implies (literalOf p, literalOf q)) (λ l. two.implies (literalOf q, literalOf p) >>= λ m. two.both (l, m))
-    (regular-or _) (λ l. regular-bind (two.implies (literalOf q, literalOf p)) (λ m. two.both (l, m)) (regular-or _) (λ m. regular-and (l ∷ m ∷ [])))
+    emits-bind (two.implies (literal_of p, literal_of q)) (λ l. two.implies (literal_of q, literal_of p) >>= λ m. two.both (l, m))
+    (regular-or _) (λ l. regular-bind (two.implies (literal_of q, literal_of p)) (λ m. two.both (l, m)) (regular-or _) (λ m. regular-and (l ∷ m ∷ [])))
     (rw (ep, eq) at x.ensures)
-    (emits-bind (two.implies (literalOf q, literalOf p)) (λ m. two.both (literalOf x.result.literal, m))
-    (regular-or _) (λ m. regular-and (literalOf x.result.literal ∷ m ∷ []))
+    (emits-bind (two.implies (literal_of q, literal_of p)) (λ m. two.both (literal_of x.result.literal, m))
+    (regular-or _) (λ m. regular-and (literal_of x.result.literal ∷ m ∷ []))
     (rw (eq, ep) at y.ensures)
     (rw (ex, ey) at c.before.both.ensures))
 

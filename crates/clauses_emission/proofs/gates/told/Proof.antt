@@ -7,7 +7,7 @@ use lib.IntN.{ℤ, pos, negsuc}
 use mir.Syntax.{w32}
 use mir.Val.{SFits, of_z}
 use Rattle.literal.specs.Literals.{positive, opposite}
-use Rattle.literal.specs.Words.{variable, literalOf}
+use Rattle.literal.specs.Words.{variable, literal_of}
 use Rattle.literal.proofs.Signs.{read, back, same-as, same_word}
 use Rattle.literal.proofs.Same.{one_word}
 use Rattle.clauses_rules.specs.Builder.{return}
@@ -22,8 +22,8 @@ use Rattle.clauses_emission.proofs.gates.told.Statement.{statement}
 use Rattle.clauses_emission.proofs.gates.told.Tie as tie
 
 -- a literal is not 0
-not-zero : (w : ℤ) → Inside 16002 (literalOf w) → w ≡ pos 0 → ⊥
-not-zero w i e = omega (arith, i.low, ap (λ (z : ℤ). variable (literalOf z)) e)
+not-zero : (w : ℤ) → Inside 16002 (literal_of w) → w ≡ pos 0 → ⊥
+not-zero w i e = omega (arith, i.low, ap (λ (z : ℤ). variable (literal_of z)) e)
 
 -- what OR gives is the first, the second, or 1
 module _ (c : tie.Start) where
@@ -34,7 +34,7 @@ module _ (c : tie.Start) where
   q = c.args.q
 
   abbrev Gives : ℤ → Type 0
-  Gives w = (g : ℕ) → return (literalOf w) g ≡ or (literalOf p ∷ literalOf q ∷ []) g
+  Gives w = (g : ℕ) → return (literal_of w) g ≡ or (literal_of p ∷ literal_of q ∷ []) g
 
   gives-first : Gives p → Tells p q (read p)
   gives-first e =
@@ -59,10 +59,10 @@ module _ (c : tie.Start) where
   }
 
 -- a word that is no constant
-not-absent : (w : ℤ) → (of_z w32 w ≡ 4294967295 → ⊥) → literalOf w ≡ absent → ⊥
+not-absent : (w : ℤ) → (of_z w32 w ≡ 4294967295 → ⊥) → literal_of w ≡ absent → ⊥
 not-absent w n e = n (ap (of_z w32) (one_word w (negsuc 0) e))
 
-not-one : (w : ℤ) → (of_z w32 w ≡ 1 → ⊥) → literalOf w ≡ positive 1 → ⊥
+not-one : (w : ℤ) → (of_z w32 w ≡ 1 → ⊥) → literal_of w ≡ positive 1 → ⊥
 not-one w n e = n (ap (of_z w32) (one_word w (pos 1) e))
 
 returns : tie.Need-returns
@@ -70,7 +70,7 @@ returns c =
     let start = c.before in
     let a = start.args in
     gives-second start
-    (λ g. or-absent-first (literalOf a.p) (literalOf a.q) g (ap literalOf (same-as a.p start.ranges.p c.if1.true)))
+    (λ g. or-absent-first (literal_of a.p) (literal_of a.q) g (ap literal_of (same-as a.p start.ranges.p c.if1.true)))
 
 returns-2 : tie.Need-returns-2
 returns-2 c =
@@ -78,8 +78,8 @@ returns-2 c =
     let a = start.args in
     gives-first start
     (λ g.
-    or-absent-second (literalOf a.p) (literalOf a.q) g (not-absent a.p c.before.if1.false)
-    (ap literalOf (same-as a.q start.ranges.q c.if2.true)))
+    or-absent-second (literal_of a.p) (literal_of a.q) g (not-absent a.p c.before.if1.false)
+    (ap literal_of (same-as a.q start.ranges.q c.if2.true)))
 
 returns-3 : tie.Need-returns-3
 returns-3 c =
@@ -87,33 +87,33 @@ returns-3 c =
     let a = start.args in
     gives-first start
     (λ g.
-    or-repeat (literalOf a.p) (literalOf a.q) g (not-absent a.p c.before.before.if1.false)
-    (not-absent a.q c.before.if2.false) (ap literalOf (same_word a.p a.q start.ranges.p start.ranges.q c.if3.true)))
+    or-repeat (literal_of a.p) (literal_of a.q) g (not-absent a.p c.before.before.if1.false)
+    (not-absent a.q c.before.if2.false) (ap literal_of (same_word a.p a.q start.ranges.p start.ranges.q c.if3.true)))
 
 returns-4 : tie.Need-returns-4
 returns-4 c =
     let start = c.before.before.before.before in
     let a = start.args in
     gives_one start
-    (λ g. or-one-first (literalOf a.p) (literalOf a.q) g (ap literalOf (same-as a.p start.ranges.p c.if4.true)))
+    (λ g. or-one-first (literal_of a.p) (literal_of a.q) g (ap literal_of (same-as a.p start.ranges.p c.if4.true)))
 
 returns-5 : tie.Need-returns-5
 returns-5 c =
     let start = c.before.before.before.before.before in
     let a = start.args in
     gives_one start
-    (λ g. or-one-second (literalOf a.p) (literalOf a.q) g (ap literalOf (same-as a.q start.ranges.q c.if5.true)))
+    (λ g. or-one-second (literal_of a.p) (literal_of a.q) g (ap literal_of (same-as a.q start.ranges.q c.if5.true)))
 
 opposite-requires : tie.Need-opposite-requires
 opposite-requires c κs = search rules
 
 -- the word of the opposite of q
 turned : (c : tie.After-opposite)
-    → literalOf c.opposite.result ≡ opposite (literalOf c.before.before.before.before.before.before.args.q)
+    → literal_of c.opposite.result ≡ opposite (literal_of c.before.before.before.before.before.before.args.q)
 turned c =
     let start = c.before.before.before.before.before.before in
     let f : SFits w32 c.opposite.result = record { sfits = c.opposite.type-inv } in
-    ap literalOf (sym (back c.opposite.result f))
+    ap literal_of (sym (back c.opposite.result f))
     ∙ opposite-read 16002 start.args.q c.opposite.result (omega arith) start.ranges.q start.requires.1 c.opposite.ensures f
 
 returns-6 : tie.Need-returns-6
@@ -123,8 +123,8 @@ returns-6 c =
     let r = c.before.opposite in
     gives_one start
     (λ g.
-    or-opposites (literalOf a.p) (literalOf a.q) g
-    (ap literalOf (same_word a.p r.result start.ranges.p (record { sfits = r.type-inv }) c.if6.true) ∙ turned c.before))
+    or-opposites (literal_of a.p) (literal_of a.q) g
+    (ap literal_of (same_word a.p r.result start.ranges.p (record { sfits = r.type-inv }) c.if6.true) ∙ turned c.before))
 
 returns-7 : tie.Need-returns-7
 returns-7 c =
@@ -135,10 +135,10 @@ returns-7 c =
     record {
       gate = λ z. record {
         first_absent = not-absent p at.before.before.before.before.before.if1.false;
-        second-absent = not-absent q at.before.before.before.before.if2.false;
+        second_absent = not-absent q at.before.before.before.before.if2.false;
         repeat = λ e. at.before.before.before.if3.false (ap (of_z w32) (one_word p q e));
         first_one = not-one p at.before.before.if4.false;
-        second-one = not-one q at.before.if5.false;
+        second_one = not-one q at.before.if5.false;
         opposites = λ e. c.if6.false (ap (of_z w32) (one_word p at.opposite.result (e ∙ sym (turned at))));
       };
       told = λ n. absurd (n refl);

@@ -1,7 +1,7 @@
 -- `gates::without` meets its contract.
 use mathlib.Core.List.{[], ◌∷◌}
 use Rattle.literal.specs.Literals.{opposite}
-use Rattle.literal.specs.Words.{literalOf}
+use Rattle.literal.specs.Words.{literal_of}
 use Rattle.literal.proofs.Signs.{back}
 use Rattle.clauses_rules.specs.Gates.{or}
 use Rattle.literal.proofs.Same.{opposite-twice}
@@ -25,8 +25,8 @@ returns c =
     let p = start.args.p in
     let q = start.args.q in
     let call = c.before.before.implies in
-    emits-negated (or (opposite (literalOf p) ∷ opposite (opposite (literalOf q)) ∷ [])) call.result c.negate.result
-    (rw (opposite-twice (literalOf q)) (rw (back p start.ranges.p, back q start.ranges.q) at call.ensures)) c.negate.ensures
+    emits-negated (or (opposite (literal_of p) ∷ opposite (opposite (literal_of q)) ∷ [])) call.result c.negate.result
+    (rw (opposite-twice (literal_of q)) (rw (back p start.ranges.p, back q start.ranges.q) at call.ensures)) c.negate.ensures
 
 pub without-spec : {M : Type 1} → statement M
 without-spec = tie.close (tie.spec implies-requires negate-requires same_length returns)

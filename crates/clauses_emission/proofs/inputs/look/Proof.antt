@@ -10,12 +10,12 @@ use lib.ListN.{length, get_or, drop}
 use mir.Syntax.{w32}
 use mir.Val.{to_z, of_z}
 use Rattle.literal.specs.Literals.{opposite}
-use Rattle.literal.specs.Words.{literalOf}
+use Rattle.literal.specs.Words.{literal_of}
 use Rattle.literal.proofs.Signs.{back, same_word, same-as}
 use Rattle.literal.proofs.Same.{one_word}
 use Rattle.clauses_rules.specs.Translation.{absent}
-use Rattle.clauses_emission.specs.Emission.{literalsOf}
-use Rattle.clauses_emission.specs.Settling.{seenIn}
+use Rattle.clauses_emission.specs.Emission.{literals_of}
+use Rattle.clauses_emission.specs.Settling.{seen_in}
 use Rattle.clauses_emission.proofs.Ranges.{opposite-read}
 use Rattle.clauses_emission.proofs.Looks.{look-itself, look-opposite, look-past, look-end, look-absent, look_one, look-further}
 use Rattle.clauses_emission.proofs.inputs.look.Statement.{statement}
@@ -24,17 +24,17 @@ use Rattle.clauses_emission.proofs.inputs.look.Tie as tie
 abbrev invariant-loop : tie.invariant-loop
 invariant-loop kept l other k₀ k =
     (k ≤ length kept)
-    × (seenIn (literalsOf (drop k kept)) (literalOf (to_z w32 l)) ≡ seenIn (absent ∷ literalsOf kept) (literalOf (to_z w32 l)))
+    × (seen_in (literals_of (drop k kept)) (literal_of (to_z w32 l)) ≡ seen_in (absent ∷ literals_of kept) (literal_of (to_z w32 l)))
 
 abbrev decreases-loop : tie.decreases-loop
 decreases-loop kept l other k₀ k = length kept - k
 
 -- the word of the opposite literal
 turned : (c : tie.After-opposite invariant-loop decreases-loop)
-    → literalOf c.opposite.result ≡ opposite (literalOf c.before.before.before.args.l)
+    → literal_of c.opposite.result ≡ opposite (literal_of c.before.before.before.args.l)
 turned c =
     let start = c.before.before.before in
-    ap literalOf (sym (back c.opposite.result (record { sfits = c.opposite.type-inv })))
+    ap literal_of (sym (back c.opposite.result (record { sfits = c.opposite.type-inv })))
     ∙ opposite-read 16002 start.args.l c.opposite.result (omega arith) start.ranges.l start.requires
     c.opposite.ensures (record { sfits = c.opposite.type-inv })
 
@@ -84,7 +84,7 @@ returns-4 c =
     let e = same_word w other.result (record { sfits = c.before.before.m.given }) (record { sfits = other.type-inv }) c.if4.true in
     sym
     (look-opposite ws loop.k c.before.before.before.loop-test.true l (λ f. c.before.if3.false (ap (of_z w32) f))
-    (ap literalOf e ∙ turned c.before.before.before.before.before))
+    (ap literal_of e ∙ turned c.before.before.before.before.before))
     ∙ (rw (back l start.ranges.l) at loop.invariant.1)
 
 add-k : tie.Need-overflow-add-k invariant-loop decreases-loop
@@ -112,7 +112,7 @@ returns-5 c =
     let start = c.before.before.before.before.before in
     let loop = c.before.loop in
     let l = start.args.l in
-    sym (look-end start.args.kept.now loop.k (literalOf l) (omega (arith, c.loop-test.false)))
+    sym (look-end start.args.kept.now loop.k (literal_of l) (omega (arith, c.loop-test.false)))
     ∙ (rw (back l start.ranges.l) at loop.invariant.1)
 
 pub look_spec : {M : Type 1} → statement M

@@ -8,11 +8,11 @@ use native.Mathlib.Omega.{arith}
 use lib.IntN.{pos}
 use lib.ListN.{length, get_or, take, length-set}
 use lib.Seq.{length-take-le}
-use Rattle.literal.specs.Words.{literalOf}
+use Rattle.literal.specs.Words.{literal_of}
 use Rattle.literal.proofs.Signs.{back}
 use Rattle.clauses_rules.specs.Translation.{absent}
-use Rattle.clauses_emission.specs.Emission.{literalsOf}
-use Rattle.clauses_emission.specs.Settling.{seenIn}
+use Rattle.clauses_emission.specs.Emission.{literals_of}
+use Rattle.clauses_emission.specs.Settling.{seen_in}
 use Rattle.clauses_emission.proofs.Ranges.{literal-at}
 use Rattle.clauses_emission.proofs.Rests.{rest_at}
 use Rattle.clauses_emission.proofs.InPlace.{Settling, settling-start, settling-new, settling-old, settling-true, settling-done}
@@ -55,8 +55,8 @@ look-requires c κs =
 -- what is seen of the next input
 saw : (c : tie.After-look invariant-loop decreases-loop)
     → c.look.result
-    ≡ seenIn (absent ∷ literalsOf (take c.before.before.before.before.loop.n c.before.before.before.before.loop.inputs))
-    (literalOf (get_or c.before.before.before.before.loop.inputs c.before.before.before.before.loop.k (pos 0)))
+    ≡ seen_in (absent ∷ literals_of (take c.before.before.before.before.loop.n c.before.before.before.before.loop.inputs))
+    (literal_of (get_or c.before.before.before.before.loop.inputs c.before.before.before.before.loop.k (pos 0)))
 saw c =
     let loop = c.before.before.before.before.loop in
     rw (back (get_or loop.inputs loop.k (pos 0)) (record { sfits = c.before.before.l.given })) at c.look.ensures

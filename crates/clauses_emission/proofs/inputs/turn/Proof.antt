@@ -8,9 +8,9 @@ use native.Mathlib.Omega.{arith}
 use lib.IntN.{pos}
 use lib.ListN.{length, get_or, take, drop, length-set}
 use Rattle.literal.specs.Literals.{opposite}
-use Rattle.literal.specs.Words.{literalOf}
+use Rattle.literal.specs.Words.{literal_of}
 use Rattle.literal.proofs.Signs.{read}
-use Rattle.clauses_emission.specs.Emission.{literalsOf, Inside}
+use Rattle.clauses_emission.specs.Emission.{literals_of, Inside}
 use Rattle.clauses_emission.proofs.Ranges.{opposite-read, literal-at}
 use Rattle.clauses_emission.proofs.Rests.{rest_at, rest-set}
 use Rattle.clauses_emission.proofs.Ors.{opposites-next, opposites-all}
@@ -21,7 +21,7 @@ abbrev invariant-loop : tie.invariant-loop
 invariant-loop inputs₀ k₀ inputs k =
     (k ≤ length inputs₀)
     × (length inputs ≡ length inputs₀)
-    × (literalsOf (take k inputs) ≡ map opposite (literalsOf (take k inputs₀)))
+    × (literals_of (take k inputs) ≡ map opposite (literals_of (take k inputs₀)))
     × (drop k inputs ≡ drop k inputs₀)
 
 abbrev decreases-loop : tie.decreases-loop
@@ -59,11 +59,11 @@ loop-again c =
     let k = loop.k in
     let h : k < length ws = omega (arith, c.before.before.loop-test.true, loop.invariant.1) in
     let e = rest_at loop.inputs ws k loop.invariant.3 in
-    let i : Inside 16002 (literalOf (get_or loop.inputs k (pos 0))) = rw (e, ← literal-at ws k h) (start.requires k) in
-    let o : literalOf (read c.opposite.result) ≡ opposite (literalOf (get_or ws k (pos 0))) =
+    let i : Inside 16002 (literal_of (get_or loop.inputs k (pos 0))) = rw (e, ← literal-at ws k h) (start.requires k) in
+    let o : literal_of (read c.opposite.result) ≡ opposite (literal_of (get_or ws k (pos 0))) =
     opposite-read 16002 (get_or loop.inputs k (pos 0)) c.opposite.result (omega arith)
     (record { sfits = c.before.l.given }) i c.opposite.ensures (record { sfits = c.opposite.type-inv })
-    ∙ ap (λ w. opposite (literalOf w)) e
+    ∙ ap (λ w. opposite (literal_of w)) e
     in (
       omega arith,
       simp length-set loop.invariant.1,

@@ -3,9 +3,9 @@ use mathlib.Core.Path.{ap, refl}
 use Rattle.literal.specs.Literals.{Literal}
 use Rattle.relational.specs.Trees.{intersection}
 use Rattle.relational.specs.Matrices.{Matrix}
-use Rattle.clauses_rules.specs.Translation.{translateBinary}
+use Rattle.clauses_rules.specs.Translation.{translate_binary}
 use Rattle.clauses_emission.proofs.Steps.{emits-as}
-use Rattle.clauses_matrix.specs.Matrices.{matrixOf}
+use Rattle.clauses_matrix.specs.Matrices.{matrix_of}
 use borrow.Author.Rules.{rules}
 use Rattle.clauses_kinds.proofs.apply.comprehend.Statement.{statement}
 use Rattle.clauses_kinds.proofs.apply.comprehend.Tie as tie
@@ -25,7 +25,7 @@ returns : tie.Need-returns
 returns c env =
     let p = c.before.before.before.before.before.before.before.args.p in
     emits-as
-    (ap (λ (m : Matrix Literal). translateBinary intersection m (matrixOf p.matrix) p.tape.next)
+    (ap (λ (m : Matrix Literal). translate_binary intersection m (matrix_of p.matrix) p.tape.next)
     (c.before.before.before.before.before.range.ensures env).matrix)
     refl c.before.matched.ensures
 

@@ -2,9 +2,9 @@
 use mathlib.Core.Path.{ap, refl}
 use Rattle.literal.specs.Literals.{Literal}
 use Rattle.relational.specs.Matrices.{Matrix}
-use Rattle.clauses_rules.specs.Translation.{translateQuantifier}
+use Rattle.clauses_rules.specs.Translation.{translate_quantifier}
 use Rattle.clauses_emission.proofs.Steps.{emits-as}
-use Rattle.clauses_matrix.specs.Matrices.{matrixOf}
+use Rattle.clauses_matrix.specs.Matrices.{matrix_of}
 use borrow.Author.Rules.{rules}
 use Rattle.clauses_kinds.proofs.apply.quantify_over.Statement.{statement}
 use Rattle.clauses_kinds.proofs.apply.quantify_over.Tie as tie
@@ -24,7 +24,7 @@ returns : tie.Need-returns
 returns c env o e =
     let p = c.before.before.before.before.before.args.p in
     emits-as
-    (ap (λ (m : Matrix Literal). translateQuantifier o m (matrixOf p.matrix) p.tape.next)
+    (ap (λ (m : Matrix Literal). translate_quantifier o m (matrix_of p.matrix) p.tape.next)
     (c.before.before.before.range.ensures env).matrix)
     refl (c.before.quantify.ensures o e)
 

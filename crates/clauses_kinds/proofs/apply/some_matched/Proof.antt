@@ -1,8 +1,8 @@
 -- `some_matched` meets its contract: the intersection, then some.
 use Rattle.relational.specs.Trees.{intersection, some}
-use Rattle.clauses_rules.specs.Translation.{translateBinary, translateTest}
+use Rattle.clauses_rules.specs.Translation.{translate_binary, translate_test}
 use Rattle.clauses_emission.proofs.Steps.{emits-bind}
-use Rattle.clauses_matrix.specs.Matrices.{matrixOf}
+use Rattle.clauses_matrix.specs.Matrices.{matrix_of}
 use Rattle.clauses_matrix.proofs.Regulars.{regular-binary, regular-test}
 use borrow.Author.Rules.{rules}
 use Rattle.clauses_kinds.proofs.apply.some_matched.Statement.{statement}
@@ -20,9 +20,9 @@ same_length c = search rules
 returns : tie.Need-returns
 returns c =
     let s = c.before.before.before.before.before.before.before.before in
-    let p = matrixOf s.args.p in
-    let q = matrixOf s.args.q in
-    emits-bind (translateBinary intersection p q) (λ m. translateTest some m.cells) (regular-binary intersection p q)
+    let p = matrix_of s.args.p in
+    let q = matrix_of s.args.q in
+    emits-bind (translate_binary intersection p q) (λ m. translate_test some m.cells) (regular-binary intersection p q)
     (λ m. regular-test some m.cells) c.before.before.before.before.before.before.matched.ensures
     c.before.some.ensures
 

@@ -1,9 +1,9 @@
 -- `atoms` meets its contract: of a bounded sort its cells, of another all atoms.
 use mathlib.Core.Path.{sym, ◌∙◌}
 use native.Mathlib.Omega.{arith}
-use Rattle.sheet_rules.specs.Blocks.{sheetOf}
-use Rattle.clauses_rules.specs.Translation.{constant, literalAt}
-use Rattle.clauses_emission.specs.Emission.{literalsOf}
+use Rattle.sheet_rules.specs.Blocks.{sheet_of}
+use Rattle.clauses_rules.specs.Translation.{constant, literal_at}
+use Rattle.clauses_emission.specs.Emission.{literals_of}
 use Rattle.cells.proofs.Layouts.{sort-low}
 use Rattle.cells.proofs.Members.{full-atoms}
 use Rattle.clauses_kinds.proofs.LeafMatrices.{members-from, constant-leaf}
@@ -48,9 +48,9 @@ full-requires c κs = search rules
 returns-2 : tie.Need-returns-2
 returns-2 c env =
     let s = c.before.before.before.before.before in
-    let sheet = sheetOf s.args.sheet.now in
+    let sheet = sheet_of s.args.sheet.now in
     constant-leaf c.full.ensures
-    (full-atoms sheet (literalAt sheet (literalsOf s.args.given.now)) constant s.args.sort env
+    (full-atoms sheet (literal_at sheet (literals_of s.args.given.now)) constant s.args.sort env
     c.before.before.before.scope.ensures.0
     (sym c.before.before.is-bounded.ensures ∙ c.before.if1.false))
 

@@ -1,10 +1,10 @@
 -- `copied` meets its contract.
 use mathlib.Core.Path.{ap, ◌∙◌}
-use Rattle.clauses_kinds.specs.Leaves.{Filled, cellFrom}
+use Rattle.clauses_kinds.specs.Leaves.{Filled, cell_from}
 use borrow.Author.Rules.{rules}
 use Prim.Native.Nat.{◌≤◌, ◌-◌}
 use native.Mathlib.Omega.{arith}
-use Rattle.literal.specs.Words.{literalOf}
+use Rattle.literal.specs.Words.{literal_of}
 use Rattle.literal.proofs.Signs.{back}
 use Rattle.clauses_emission.proofs.Ranges.{literal-of}
 use Rattle.clauses_kinds.proofs.Lists.{filled_none, filled_more, filled_at}
@@ -12,13 +12,13 @@ use Rattle.clauses_kinds.proofs.leaves.copied.Statement.{statement}
 use Rattle.clauses_kinds.proofs.leaves.copied.Tie as tie
 
 abbrev invariant-loop : tie.invariant-loop
-invariant-loop given first size cells₀ k₀ cells k = (k ≤ size) × Filled (cellFrom given first) k cells
+invariant-loop given first size cells₀ k₀ cells k = (k ≤ size) × Filled (cell_from given first) k cells
 
 abbrev decreases-loop : tie.decreases-loop
 decreases-loop given first size cells₀ k₀ cells k = size - k
 
 loop-holds : tie.Need-loop-init invariant-loop decreases-loop
-loop-holds c = (omega arith, filled_none (cellFrom c.args.given.now c.args.first))
+loop-holds c = (omega arith, filled_none (cell_from c.args.given.now c.args.first))
 
 add-word-at : tie.Need-overflow-add-word-at invariant-loop decreases-loop
 add-word-at c = search rules
@@ -43,13 +43,13 @@ loop-again c =
     let a = c.before.before.before.args in
     let l = c.before.before.loop.invariant.1 in
     let word = back _ (record { sfits = c.word_at.type-inv }) ∙ c.word_at.ensures in
-    (omega arith, filled_more (cellFrom a.given.now a.first) _ l (omega arith) (ap literalOf word ∙ literal-of a.given.now _))
+    (omega arith, filled_more (cell_from a.given.now a.first) _ l (omega arith) (ap literal_of word ∙ literal-of a.given.now _))
 
 returns : tie.Need-returns invariant-loop decreases-loop
 returns c =
     let a = c.before.before.args in
     let l = c.before.loop.invariant in
-    filled_at (cellFrom a.given.now a.first) l.1 _ c.loop-test.false l.0
+    filled_at (cell_from a.given.now a.first) l.1 _ c.loop-test.false l.0
 
 pub copied-spec : {M : Type 1} → statement M
 copied-spec =

@@ -5,7 +5,7 @@ use native.Mathlib.Omega.{arith}
 use lib.Dec.{eqb}
 use lib.IntN.{ℤ}
 use mathlib.Core.Bool.{cond}
-use Rattle.literal.specs.Words.{literalOf}
+use Rattle.literal.specs.Words.{literal_of}
 use Rattle.clauses_rules.specs.Translation.{absent}
 use Rattle.relational.proofs.Places.{square, some-column, row_below}
 use Rattle.literal.proofs.Signs.{back}
@@ -85,8 +85,8 @@ loop-again c =
     let l = c.before.before.before.loop in
     let word = read_word p (l.k / n) (omega (arith, row c.before.before)) s.requires.1
     (back _ (record { sfits = c.before.kept-arg.given })) in
-    let e = ap literalOf (back c.kept.result (record { sfits = c.kept.type-inv })) ∙ c.kept.ensures
-    ∙ ap (λ (w : ℤ). cond (eqb (l.k / n) (l.k % n)) (literalOf w) absent) word in
+    let e = ap literal_of (back c.kept.result (record { sfits = c.kept.type-inv })) ∙ c.kept.ensures
+    ∙ ap (λ (w : ℤ). cond (eqb (l.k / n) (l.k % n)) (literal_of w) absent) word in
     (omega arith, filled_more (diagonal p) _ l.invariant.1 (omega arith) e)
 
 returns : tie.Need-returns invariant-loop decreases-loop

@@ -36,7 +36,7 @@ identity-requires c κs =
     let s = c.before.before.before.before in
     let h = c.atoms2.ensures (λ x. 0) in
     let wide = ap (λ (m : Matrix Literal). m.columns) h.matrix in
-    (omega (arith, wide, (accepted-facts _ _ s.requires.0.taken).scope-few s.args.a), h.room)
+    (omega (arith, wide, (accepted-facts _ _ s.requires.0.taken).scope_few s.args.a), h.room)
 
 returns : tie.Need-returns
 returns c l s =

@@ -9,8 +9,8 @@ use Rattle.clauses_kinds.proofs.leaves.nothing.Tie as tie
 returns : tie.Need-returns
 returns c n two =
     record {
-      arity-low = omega arith;
-      arity-high = omega arith;
+      arity_low = omega arith;
+      arity_high = omega arith;
       set = λ e. refl;
       rows = omega arith;
       columns = omega arith;

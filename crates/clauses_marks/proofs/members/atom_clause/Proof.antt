@@ -3,16 +3,16 @@ use mathlib.Core.Path.{◌≡◌, sym, ap, ◌∙◌}
 use mathlib.Core.List.{List, [], ◌∷◌}
 use native.Mathlib.Omega.{arith}
 use Rattle.literal.specs.Literals.{opposite}
-use Rattle.literal.specs.Words.{literalOf}
+use Rattle.literal.specs.Words.{literal_of}
 use Rattle.literal.proofs.Signs.{read, back}
-use Rattle.sheet_rules.specs.Blocks.{sheetOf}
-use Rattle.relational.specs.Cells.{memberCell}
+use Rattle.sheet_rules.specs.Blocks.{sheet_of}
+use Rattle.relational.specs.Cells.{member_cell}
 use Rattle.cells.proofs.Layouts.{sort-low}
 use Rattle.clauses_rules.specs.Gates.{Clause}
-use Rattle.clauses_rules.specs.Translation.{literalAt}
-use Rattle.clauses_emission.specs.Emission.{literalsOf}
+use Rattle.clauses_rules.specs.Translation.{literal_at}
+use Rattle.clauses_emission.specs.Emission.{literals_of}
 use Rattle.clauses_emission.proofs.Ranges.{opposite-read}
-use Rattle.clauses_marks.specs.Marking.{memberClause}
+use Rattle.clauses_marks.specs.Marking.{member_clause}
 use Rattle.clauses_marks.proofs.Adding.{adds_none, adds-as, adds-most, adds_one}
 use Rattle.clauses_marks.proofs.Guards.{bounded-atom, full-atom}
 use borrow.Author.Rules.{rules}
@@ -49,23 +49,23 @@ returns : tie.Need-returns
 returns c =
     let s = c.before.before.before.before.before.before.before.before.before in
     let a = s.args in
-    let sheet = sheetOf a.sheet.now in
-    let cells = literalsOf a.given.now in
+    let sheet = sheet_of a.sheet.now in
+    let cells = literals_of a.given.now in
     let opp = c.before.before.before.opposite in
     let mem = c.before.before.before.before.before.member in
-    let e : literalOf (read opp.result) ≡ opposite (literalOf a.cell) =
+    let e : literal_of (read opp.result) ≡ opposite (literal_of a.cell) =
     opposite-read 16002 a.cell opp.result (omega arith) s.ranges.cell s.requires.1.1.0 opp.ensures
     (record { sfits = opp.type-inv })
     in
-    let f : literalOf (read mem.result) ≡ literalAt sheet cells (memberCell sheet a.sort a.i) =
-    ap literalOf (back mem.result (record { sfits = mem.type-inv })) ∙ mem.ensures
+    let f : literal_of (read mem.result) ≡ literal_at sheet cells (member_cell sheet a.sort a.i) =
+    ap literal_of (back mem.result (record { sfits = mem.type-inv })) ∙ mem.ensures
     in
-    let g : ◌≡◌ {A = List Clause} ((literalOf (read opp.result) ∷ literalOf (read mem.result) ∷ []) ∷ [])
-    (memberClause (literalOf a.cell) (literalAt sheet cells (memberCell sheet a.sort a.i)) ∷ []) = rw (e, f)
+    let g : ◌≡◌ {A = List Clause} ((literal_of (read opp.result) ∷ literal_of (read mem.result) ∷ []) ∷ [])
+    (member_clause (literal_of a.cell) (literal_at sheet cells (member_cell sheet a.sort a.i)) ∷ []) = rw (e, f)
     in
     adds-most
     (adds-as (adds_one (read opp.result) (read mem.result ∷ []) c.before.emit-clause.ensures)
-    (g ∙ bounded-atom sheet cells (literalOf a.cell) a.sort a.i
+    (g ∙ bounded-atom sheet cells (literal_of a.cell) a.sort a.i
     (sym c.before.before.before.before.before.before.before.is-bounded.ensures
     ∙ c.before.before.before.before.before.before.if1.true)))
     (omega arith)
@@ -75,7 +75,7 @@ returns-2 c =
     let a = c.before.before.before.args in
     adds-most
     (adds-as (adds_none a.list.now a.tape)
-    (full-atom (sheetOf a.sheet.now) (literalsOf a.given.now) (literalOf a.cell) a.sort a.i
+    (full-atom (sheet_of a.sheet.now) (literals_of a.given.now) (literal_of a.cell) a.sort a.i
     (sym c.before.is-bounded.ensures ∙ c.if1.false)))
     (omega arith)
 

@@ -3,11 +3,11 @@ use mathlib.Core.Path.{ap, ◌∙◌}
 use mathlib.Core.List.{◌++◌}
 use native.Mathlib.Omega.{arith}
 use lib.IntN.{ℤ}
-use Rattle.literal.specs.Words.{literalOf}
+use Rattle.literal.specs.Words.{literal_of}
 use Rattle.literal.proofs.Signs.{back}
-use Rattle.sheet_rules.specs.Blocks.{sheetOf}
-use Rattle.clauses_emission.specs.Emission.{literalsOf}
-use Rattle.clauses_marks.specs.Marking.{atomClauses}
+use Rattle.sheet_rules.specs.Blocks.{sheet_of}
+use Rattle.clauses_emission.specs.Emission.{literals_of}
+use Rattle.clauses_marks.specs.Marking.{atom_clauses}
 use Rattle.clauses_marks.proofs.Adding.{adds-as, adds-most, adds-small, adds_then, small-most}
 use Rattle.clauses_marks.proofs.Guards.{set-columns, relation-columns}
 use borrow.Author.Rules.{rules}
@@ -33,13 +33,13 @@ returns : tie.Need-returns
 returns c =
     let s = c.before.before.before.before.before.before.before in
     let a = s.args in
-    let sheet = sheetOf a.sheet.now in
-    let cells = literalsOf a.given.now in
-    let first = c.before.before.before.before.before.first-sort in
+    let sheet = sheet_of a.sheet.now in
+    let cells = literals_of a.given.now in
+    let first = c.before.before.before.before.before.first_sort_ok in
     adds-most
     (adds-as c.before.atom-clause.ensures
-    (ap (λ (w : ℤ). atomClauses sheet cells (literalOf w) first.result a.j) (back a.cell s.ranges.cell)
-    ∙ set-columns sheet cells (literalOf a.cell) a.r a.i a.j
+    (ap (λ (w : ℤ). atom_clauses sheet cells (literal_of w) first.result a.j) (back a.cell s.ranges.cell)
+    ∙ set-columns sheet cells (literal_of a.cell) a.r a.i a.j
     c.before.before.before.before.arity.ensures first.ensures c.before.before.before.if1.true))
     (omega arith)
 
@@ -67,17 +67,17 @@ returns-2 : tie.Need-returns-2
 returns-2 c =
     let s = c.before.before.before.before.before.before.before.before.before.before.before in
     let a = s.args in
-    let sheet = sheetOf a.sheet.now in
-    let cells = literalsOf a.given.now in
-    let first = c.before.before.before.before.before.before.before.before.before.first-sort in
-    let second = c.before.before.before.second-sort in
+    let sheet = sheet_of a.sheet.now in
+    let cells = literals_of a.given.now in
+    let first = c.before.before.before.before.before.before.before.before.before.first_sort_ok in
+    let second = c.before.before.before.second_sort_ok in
     adds-most
     (adds-as (adds_then c.before.before.before.before.before.atom-clause2.ensures
     c.before.atom-clause3.ensures)
-    (ap (λ (w : ℤ). atomClauses sheet cells (literalOf w) first.result a.i ++ atomClauses sheet cells
-    (literalOf w) second.result a.j)
+    (ap (λ (w : ℤ). atom_clauses sheet cells (literal_of w) first.result a.i ++ atom_clauses sheet cells
+    (literal_of w) second.result a.j)
     (back a.cell s.ranges.cell)
-    ∙ relation-columns sheet cells (literalOf a.cell) a.r a.i a.j
+    ∙ relation-columns sheet cells (literal_of a.cell) a.r a.i a.j
     c.before.before.before.before.before.before.before.before.arity.ensures first.ensures
     c.before.before.before.before.before.before.before.if1.false
     second.ensures))

@@ -5,15 +5,15 @@ use mathlib.Core.List.{List, []}
 use Prim.Native.Nat.{ℕ, zero, suc}
 use native.Mathlib.Omega.{arith}
 use Rattle.literal.specs.Literals.{Literal}
-use Rattle.sheet_rules.specs.Blocks.{Sheet, sheetOf, isBounded, firstSort, secondSort}
+use Rattle.sheet_rules.specs.Blocks.{Sheet, sheet_of, is_bounded, first_sort, second_sort}
 use Rattle.sheet_rules.proofs.Acceptance.{accepted-facts}
-use Rattle.relational.specs.Cells.{is_set, rowCount, rowLength}
+use Rattle.relational.specs.Cells.{is_set, row_count, row_length}
 use Rattle.cells.proofs.Members.{full-first, full-second}
 use Rattle.clauses_rules.specs.Gates.{Clause}
-use Rattle.clauses_rules.specs.Whole.{series, cellMembers, cellClauses}
-use Rattle.clauses_emission.specs.Emission.{literalsOf}
+use Rattle.clauses_rules.specs.Whole.{series, cell_members, cell_clauses}
+use Rattle.clauses_emission.specs.Emission.{literals_of}
 use borrow.Author.Rules.{rules}
-use Rattle.clauses_marks.specs.Marking.{rowInside, relationInside}
+use Rattle.clauses_marks.specs.Marking.{row_inside, relation_inside}
 use Rattle.clauses_marks.proofs.Adding.{adds_none, adds-as, adds-most}
 use Rattle.clauses_marks.proofs.members.relation_inside.Statement.{statement}
 use Rattle.clauses_marks.proofs.members.relation_inside.Tie as tie
@@ -23,28 +23,28 @@ unfolding series
 series-none zero f h = refl
 series-none (suc n) f h = rw (series-none n f h, h n) refl
 
-module _ (sheet : Sheet) (cells : List Literal) (r : ℕ) (e : isBounded sheet (firstSort sheet r) ≡ false)
-    (f : isBounded sheet (secondSort sheet r) ≡ false) where
+module _ (sheet : Sheet) (cells : List Literal) (r : ℕ) (e : is_bounded sheet (first_sort sheet r) ≡ false)
+    (f : is_bounded sheet (second_sort sheet r) ≡ false) where
   either_way : (b : Bool) → cond {A = List Literal} b [] [] ≡ []
   either_way true = refl
   either_way false = refl
 
-  no-members : (i j : ℕ) → cellMembers sheet cells r i j ≡ []
+  no-members : (i j : ℕ) → cell_members sheet cells r i j ≡ []
   no-members i j = rw (e, f) (either_way (is_set sheet r))
 
-  no-clause : (i j : ℕ) → cellClauses sheet cells r i j ≡ []
+  no-clause : (i j : ℕ) → cell_clauses sheet cells r i j ≡ []
   no-clause i j = rw (no-members i j) refl
 
-  none_inside : relationInside sheet cells r ≡ []
+  none_inside : relation_inside sheet cells r ≡ []
   none_inside =
-      series-none (rowCount sheet r) (rowInside sheet cells r) λ i.
-      series-none (rowLength sheet r) (cellClauses sheet cells r i) (no-clause i)
+      series-none (row_count sheet r) (row_inside sheet cells r) λ i.
+      series-none (row_length sheet r) (cell_clauses sheet cells r i) (no-clause i)
 
 over-bounded-requires : tie.Need-over-bounded-requires
 over-bounded-requires c κs =
     let g = c.before.before.requires.1 in
     let facts = accepted-facts _ _ g.0.located.taken in
-    (g.0.located.taken, omega (arith, g.1, facts.counts.few-relations))
+    (g.0.located.taken, omega (arith, g.1, facts.counts.few_relations))
 
 rows-inside-requires : tie.Need-rows-inside-requires
 rows-inside-requires c κs = search rules
@@ -58,9 +58,9 @@ returns c = search rules
 returns-2 : tie.Need-returns-2
 returns-2 c =
     let a = c.before.before.before.before.args in
-    let sheet = sheetOf a.sheet.now in
+    let sheet = sheet_of a.sheet.now in
     let e = c.before.over-bounded.ensures in
-    let none = none_inside sheet (literalsOf a.given.now) a.r (full-first sheet a.r e c.if1.false)
+    let none = none_inside sheet (literals_of a.given.now) a.r (full-first sheet a.r e c.if1.false)
     (full-second sheet a.r e c.if1.false) in
     adds-as (adds-most (adds_none a.list.now a.tape) (omega arith)) (sym none)
 

@@ -4,15 +4,15 @@ use Prim.Native.Nat.{ℕ, ◌+◌, ◌-◌, ◌*◌, ◌≤◌, ◌<◌}
 use native.Mathlib.Omega.{arith}
 use lib.ListN.{get_or}
 use Rattle.literal.specs.Literals.{Literal}
-use Rattle.literal.specs.Words.{literalOf}
+use Rattle.literal.specs.Words.{literal_of}
 use Rattle.literal.proofs.Signs.{read, back}
-use Rattle.sheet_rules.specs.Blocks.{sheetOf}
+use Rattle.sheet_rules.specs.Blocks.{sheet_of}
 use Rattle.relational.specs.Cells.{cell}
-use Rattle.clauses_rules.specs.Translation.{absent, literalAt}
-use Rattle.clauses_rules.specs.Whole.{series, cellClauses}
-use Rattle.clauses_emission.specs.Emission.{literalsOf}
+use Rattle.clauses_rules.specs.Translation.{absent, literal_at}
+use Rattle.clauses_rules.specs.Whole.{series, cell_clauses}
+use Rattle.clauses_emission.specs.Emission.{literals_of}
 use Rattle.clauses_emission.proofs.Ranges.{literal-of}
-use Rattle.clauses_marks.specs.Marking.{Adds, columnClauses}
+use Rattle.clauses_marks.specs.Marking.{Adds, column_clauses}
 use Rattle.clauses_marks.proofs.Adding.{adds_none, adds-as, adds-most, adds-length, adds-small, adds_then}
 use Rattle.clauses_marks.proofs.Relations.{series-none, series-more, series-done}
 use borrow.Author.Rules.{rules}
@@ -21,7 +21,7 @@ use Rattle.clauses_marks.proofs.members.row_inside.Tie as tie
 
 abbrev invariant-loop : tie.invariant-loop
 invariant-loop list₀ sheet layout given r i first columns after₀ j₀ list after j =
-    (j ≤ columns) × Adds (6 * j) (series j (cellClauses (sheetOf sheet) (literalsOf given) r i)) list₀ after₀ list after
+    (j ≤ columns) × Adds (6 * j) (series j (cell_clauses (sheet_of sheet) (literals_of given) r i)) list₀ after₀ list after
 
 abbrev decreases-loop : tie.decreases-loop
 decreases-loop list₀ sheet layout given r i first columns after₀ j₀ list after j = columns - j
@@ -47,19 +47,19 @@ word-at-requires c κs = search rules
 
 -- the literal of the cell
 literal-is : (c : tie.After-word-at invariant-loop decreases-loop)
-    → literalOf (read c.word_at.result)
-    ≡ literalAt (sheetOf c.before.before.before.before.before.args.sheet.now)
-    (literalsOf c.before.before.before.before.before.args.given.now)
-    (cell (sheetOf c.before.before.before.before.before.args.sheet.now)
+    → literal_of (read c.word_at.result)
+    ≡ literal_at (sheet_of c.before.before.before.before.before.args.sheet.now)
+    (literals_of c.before.before.before.before.before.args.given.now)
+    (cell (sheet_of c.before.before.before.before.before.args.sheet.now)
     c.before.before.before.before.before.args.r c.before.before.before.before.before.args.i
     c.before.before.loop.j)
 literal-is c =
     let s = c.before.before.before.before.before in
     let a = s.args in
     let j = c.before.before.loop.j in
-    let place : a.first + j ≡ cell (sheetOf a.sheet.now) a.r a.i j = omega (arith, s.requires.1.1.1) in
-    ap literalOf (back c.word_at.result (record { sfits = c.word_at.type-inv }) ∙ c.word_at.ensures)
-    ∙ literal-of a.given.now (a.first + j) ∙ ap (λ (n : ℕ). get_or (literalsOf a.given.now) n absent) place
+    let place : a.first + j ≡ cell (sheet_of a.sheet.now) a.r a.i j = omega (arith, s.requires.1.1.1) in
+    ap literal_of (back c.word_at.result (record { sfits = c.word_at.type-inv }) ∙ c.word_at.ensures)
+    ∙ literal-of a.given.now (a.first + j) ∙ ap (λ (n : ℕ). get_or (literals_of a.given.now) n absent) place
 
 cell-clauses-requires : tie.Need-cell-clauses-requires invariant-loop decreases-loop
 cell-clauses-requires c κs =
@@ -87,14 +87,14 @@ loop-again c =
     let s = c.before.before.before.before.before.before.before.before in
     let a = s.args in
     let l = c.before.before.before.before.before.loop in
-    let sheet = sheetOf a.sheet.now in
-    let cells = literalsOf a.given.now in
-    let e = ap (λ (m : Literal). columnClauses sheet cells m a.r a.i l.j)
+    let sheet = sheet_of a.sheet.now in
+    let cells = literals_of a.given.now in
+    let e = ap (λ (m : Literal). column_clauses sheet cells m a.r a.i l.j)
     (literal-is c.before.before.before) in (
       omega (arith, c.before.before.before.before.loop-test.true),
       adds-most
           (adds-as (adds_then l.invariant.1 c.before.cell-clauses.ensures)
-          (series-more l.j (cellClauses sheet cells a.r a.i) e))
+          (series-more l.j (cell_clauses sheet cells a.r a.i) e))
           (omega arith),
     )
 
@@ -106,7 +106,7 @@ returns c =
     let a = c.before.before.before.before.args in
     let l = c.before.loop in
     let columns = c.before.before.row-length.ensures in
-    let f = cellClauses (sheetOf a.sheet.now) (literalsOf a.given.now) a.r a.i in
+    let f = cell_clauses (sheet_of a.sheet.now) (literals_of a.given.now) a.r a.i in
     adds-most (adds-as l.invariant.1 (series-done f l.invariant.0 c.loop-test.false ∙ ap (λ k. series k f) columns.0))
     (omega (arith, l.invariant.0, columns.1))
 

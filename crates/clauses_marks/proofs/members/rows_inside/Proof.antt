@@ -4,13 +4,13 @@ use Prim.Native.Nat.{◌-◌, ◌*◌, ◌≤◌, ◌<◌}
 use native.Mathlib.Nat.{mul-le-mul}
 use native.Mathlib.Omega.{arith}
 use lib.ListN.{get_or}
-use Rattle.sheet_rules.specs.Blocks.{sheetOf}
+use Rattle.sheet_rules.specs.Blocks.{sheet_of}
 use Rattle.sheet_rules.proofs.Acceptance.{accepted-facts}
 use Rattle.cells.proofs.Layouts.{first-most}
 use Rattle.clauses_rules.specs.Whole.{series}
 use Rattle.clauses_rules.proofs.Accepted.{accepted-rows}
-use Rattle.clauses_emission.specs.Emission.{literalsOf}
-use Rattle.clauses_marks.specs.Marking.{Adds, rowInside}
+use Rattle.clauses_emission.specs.Emission.{literals_of}
+use Rattle.clauses_marks.specs.Marking.{Adds, row_inside}
 use Rattle.clauses_marks.proofs.Adding.{adds_none, adds-as, adds-most, adds-length, adds-small, adds_then}
 use Rattle.clauses_marks.proofs.Relations.{series-none, series-more, series-done, RowAt, row-start}
 use Rattle.clauses_marks.proofs.members.rows_inside.Statement.{statement}
@@ -18,13 +18,13 @@ use Rattle.clauses_marks.proofs.members.rows_inside.Tie as tie
 
 abbrev invariant-loop : tie.invariant-loop
 invariant-loop list₀ sheet layout given starts r rows n first after₀ i₀ list after i =
-    (i ≤ rows) × Adds (48 * i) (series i (rowInside (sheetOf sheet) (literalsOf given) r)) list₀ after₀ list after
+    (i ≤ rows) × Adds (48 * i) (series i (row_inside (sheet_of sheet) (literals_of given) r)) list₀ after₀ list after
 
 abbrev decreases-loop : tie.decreases-loop
 decreases-loop list₀ sheet layout given starts r rows n first after₀ i₀ list after i = rows - i
 
-few-relations : (c : tie.Start invariant-loop decreases-loop) → c.args.r < 16
-few-relations c = omega (arith, c.requires.1.1, (accepted-facts _ _ c.requires.1.0.located.taken).counts.few-relations)
+few_relations : (c : tie.Start invariant-loop decreases-loop) → c.args.r < 16
+few_relations c = omega (arith, c.requires.1.1, (accepted-facts _ _ c.requires.1.0.located.taken).counts.few_relations)
 
 abbrev start : tie.At-loop invariant-loop decreases-loop → tie.Start invariant-loop decreases-loop
 start at = at.before.before.before.before.before.before
@@ -37,8 +37,8 @@ first-few s =
     omega (
       arith,
       g.cells.first s.args.r s.requires.1.1,
-      first-most (sheetOf s.args.sheet.now) facts s.args.r,
-      few-relations s,
+      first-most (sheet_of s.args.sheet.now) facts s.args.r,
+      few_relations s,
     )
 
 inside : (c : tie.In-loop invariant-loop decreases-loop) → c.before.loop.i * c.before.before.before.row-length.result ≤ 56
@@ -48,7 +48,7 @@ inside c =
     c.before.before.before.row-length.ensures.1
 
 row : (c : tie.In-loop invariant-loop decreases-loop)
-    → RowAt (sheetOf (start c.before).args.sheet.now) (start c.before).args.given.now
+    → RowAt (sheet_of (start c.before).args.sheet.now) (start c.before).args.given.now
     (start c.before).args.r
     c.before.loop.i c.before.before.before.before.row_count.result
     c.before.before.before.row-length.result
@@ -69,20 +69,20 @@ row c =
 row-count-requires : tie.Need-row-count-requires invariant-loop decreases-loop
 row-count-requires c κs =
     let s = c.before.before in
-    (s.requires.1.0.located.taken, omega (arith, few-relations s))
+    (s.requires.1.0.located.taken, omega (arith, few_relations s))
 
 row-length-requires : tie.Need-row-length-requires invariant-loop decreases-loop
 row-length-requires c κs =
     let s = c.before.before.before in
-    (s.requires.1.0.located.taken, omega (arith, few-relations s))
+    (s.requires.1.0.located.taken, omega (arith, few_relations s))
 
 mul-first : tie.Need-overflow-mul-first invariant-loop decreases-loop
-mul-first c = omega (arith, few-relations c.before.before.before.before)
+mul-first c = omega (arith, few_relations c.before.before.before.before)
 
 shared-slice-read-first : tie.Need-shared-slice-read-first invariant-loop decreases-loop
 shared-slice-read-first c =
     let s = c.before.before.before.before.before in
-    omega (arith, few-relations s, s.requires.1.0.located.cells.long)
+    omega (arith, few_relations s, s.requires.1.0.located.cells.long)
 
 loop-holds : tie.Need-loop-init invariant-loop decreases-loop
 loop-holds c =
@@ -111,7 +111,7 @@ row-inside-requires c κs =
         record { taken = g.located.taken; inside = g.inside },
         (
           (
-            omega (arith, few-relations s),
+            omega (arith, few_relations s),
             (omega (arith, turn.loop-test.true, few), omega (arith, inside turn, first-few s)),
           ),
           row-start (row turn),
@@ -137,7 +137,7 @@ loop-again c =
       omega (arith, turn.loop-test.true),
       adds-most
           (adds-as (adds_then at.loop.invariant.1 c.before.row_inside.ensures)
-          (series-more at.loop.i (rowInside (sheetOf a.sheet.now) (literalsOf a.given.now) a.r) refl))
+          (series-more at.loop.i (row_inside (sheet_of a.sheet.now) (literals_of a.given.now) a.r) refl))
           (omega arith),
     )
 
@@ -149,7 +149,7 @@ returns c =
     let at = c.before in
     let a = (start at).args in
     let rows = at.before.before.before.row_count.ensures in
-    let f = rowInside (sheetOf a.sheet.now) (literalsOf a.given.now) a.r in
+    let f = row_inside (sheet_of a.sheet.now) (literals_of a.given.now) a.r in
     adds-most (adds-as at.loop.invariant.1 (series-done f at.loop.invariant.0 c.loop-test.false
     ∙ ap (λ k. series k f) rows.0))
     (omega (arith, at.loop.invariant.0, rows.1))

@@ -5,9 +5,9 @@ use Prim.Native.Nat.{ℕ, ◌-◌, ◌≤◌}
 use native.Mathlib.Numerals.{add-one, add-one-le}
 use native.Mathlib.Omega.{arith}
 use Rattle.relational.specs.Matrices.{rounds}
-use Rattle.clauses_rules.specs.Translation.{roundOf, afterRounds}
+use Rattle.clauses_rules.specs.Translation.{round_of, after_rounds}
 use Rattle.clauses_emission.proofs.Steps.{emits-return, emits-bind}
-use Rattle.clauses_matrix.specs.Matrices.{matrixOf, EmitsMatrix}
+use Rattle.clauses_matrix.specs.Matrices.{matrix_of, EmitsMatrix}
 use Rattle.clauses_matrix.proofs.Regulars.{regular-round, regular-rounds}
 use Rattle.clauses_matrix.proofs.Rounds.{rounds-done}
 use Rattle.clauses_matrix.proofs.operators.closure.Statement.{statement}
@@ -15,7 +15,7 @@ use Rattle.clauses_matrix.proofs.operators.closure.Tie as tie
 
 abbrev invariant-loop : tie.invariant-loop
 invariant-loop list₀ n matrix₀ after₀ k₀ list matrix after k =
-    (k ≤ n) × EmitsMatrix (afterRounds k (matrixOf matrix₀) after₀.next) list₀ after₀ matrix list after
+    (k ≤ n) × EmitsMatrix (after_rounds k (matrix_of matrix₀) after₀.next) list₀ after₀ matrix list after
 
 abbrev decreases-loop : tie.decreases-loop
 decreases-loop list₀ n matrix₀ after₀ k₀ list matrix after k = n - k
@@ -24,10 +24,10 @@ rounds-requires : tie.Need-rounds-requires invariant-loop decreases-loop
 rounds-requires c κs = c.requires.1.rows
 
 loop-holds : tie.Need-loop-init invariant-loop decreases-loop
-unfolding afterRounds
+unfolding after_rounds
 loop-holds c =
     let start = c.before in
-    (omega arith, emits-return (matrixOf start.args.p) start.args.list.now start.args.tape start.requires.0 start.requires.1)
+    (omega arith, emits-return (matrix_of start.args.p) start.args.list.now start.args.tape start.requires.0 start.requires.1)
 
 round-requires : tie.Need-round-requires invariant-loop decreases-loop
 round-requires c κs = (c.before.before.loop.invariant.1.bounded, c.before.before.loop.invariant.1.fine)
@@ -54,7 +54,7 @@ returns : tie.Need-returns invariant-loop decreases-loop
 returns c =
     let call = last c in
     let loop = call.before.before.before.loop in
-    let p = matrixOf call.before.before.before.before.before.args.p in
+    let p = matrix_of call.before.before.before.before.before.args.p in
     rounds-done loop.k p loop.inv.1 call.round.ensures c.before.before.before.before.before.before.if1.true
     (c.before.same-words.ensures c.if2.true) (rounds p.rows)
     (omega (arith, call.before.before.loop-test.taken, call.before.before.before.before.rounds.ensures))
@@ -66,15 +66,15 @@ loop-less : tie.Need-loop-smaller invariant-loop decreases-loop
 loop-less c = omega arith
 
 loop-again : tie.Need-loop-preserved invariant-loop decreases-loop
-unfolding afterRounds
+unfolding after_rounds
 loop-again c =
     let call = c.before.before.before.before.before.before in
     let loop = call.before.before.before.loop in
-    let p = matrixOf call.before.before.before.before.before.args.p in
+    let p = matrix_of call.before.before.before.before.before.args.p in
     let k = loop.k in (
       add-one-le call.before.before.loop-test.true,
       rw (add-one k)
-          (emits-bind (afterRounds k p) roundOf (regular-rounds k p) regular-round loop.invariant.1 call.round.ensures),
+          (emits-bind (after_rounds k p) round_of (regular-rounds k p) regular-round loop.invariant.1 call.round.ensures),
     )
 
 same-length-2 : tie.Need-same-length-2 invariant-loop decreases-loop
@@ -86,7 +86,7 @@ returns-2 c =
     let loop = c.before.loop in
     let e : loop.k ≡ rounds start.args.p.rows = omega (arith, c.before.before.rounds.ensures, loop.invariant.0, c.loop-test.false) in
     subst
-    (λ (k : ℕ). EmitsMatrix (afterRounds k (matrixOf start.args.p) start.args.tape.next) start.args.list.now start.args.tape
+    (λ (k : ℕ). EmitsMatrix (after_rounds k (matrix_of start.args.p) start.args.tape.next) start.args.list.now start.args.tape
     loop.matrix loop.list loop.after)
     e loop.invariant.1
 

@@ -8,18 +8,18 @@ use native.Mathlib.Omega.{arith}
 use lib.IntN.{ℤ, pos}
 use lib.ListN.{get_or}
 use Rattle.literal.specs.Literals.{Literal}
-use Rattle.literal.specs.Words.{literalOf}
+use Rattle.literal.specs.Words.{literal_of}
 use Rattle.literal.proofs.Signs.{back}
 use Rattle.clauses_rules.specs.Builder.{return, each}
 use Rattle.clauses_rules.specs.Translation.{absent}
-use Rattle.clauses_matrix.specs.Matrices.{matrixOf, EmitsCells}
+use Rattle.clauses_matrix.specs.Matrices.{matrix_of, EmitsCells}
 use Rattle.clauses_emission.proofs.Steps.{regular-return, emits-return, emits-map, emits-as}
 use Rattle.clauses_matrix.proofs.Numbers.{place_of, places-by-number}
 use Rattle.relational.proofs.Places.{map-map, some-column, row_below, column-below}
 use Rattle.clauses_matrix.proofs.Fills.{cells-start, cells-next, cells-done, operand_at, operand-inside, size_fits, cell_below}
 use Rattle.clauses_matrix.proofs.Fills.{fits-small, fits-part, fits-four, fits_next, place_in}
 use Rattle.clauses_matrix.proofs.Regulars.{each-return}
-use Rattle.relational.specs.Matrices.{Place, upto, cell_at, places, relationOf}
+use Rattle.relational.specs.Matrices.{Place, upto, cell_at, places, relation_of}
 use Rattle.clauses_matrix.proofs.operators.inverse.Statement.{statement}
 use Rattle.clauses_matrix.proofs.operators.inverse.Tie as tie
 
@@ -27,7 +27,7 @@ abbrev invariant-loop : tie.invariant-loop
 invariant-loop tape p rows size columns cells₀ k₀ cells k =
     (k ≤ size)
     × ((list : List ℤ) → EmitsCells k
-    (each (λ l. return l) (map (λ a. literalOf (get_or p.cells ((a % rows) * columns + a / rows) (pos 0))) (upto k))
+    (each (λ l. return l) (map (λ a. literal_of (get_or p.cells ((a % rows) * columns + a / rows) (pos 0))) (upto k))
     tape.next) list tape cells list tape)
 
 abbrev decreases-loop : tie.decreases-loop
@@ -40,7 +40,7 @@ loop-holds : tie.Need-loop-init invariant-loop decreases-loop
 loop-holds c =
     let p = c.args.t2 in (
       omega arith,
-      λ list. cells-start (λ l. return l) (λ a. literalOf (get_or p.cells ((a % p.rows) * p.columns + a / p.rows) (pos 0))) list
+      λ list. cells-start (λ l. return l) (λ a. literal_of (get_or p.cells ((a % p.rows) * p.columns + a / p.rows) (pos 0))) list
           c.args.tape c.requires.0,
     )
 
@@ -108,9 +108,9 @@ loop-again c =
       λ list.
           rw (add-one k, back w (record { sfits = c.l.given }))
           (cells-next (λ l. return l) (λ l. regular-return l)
-          (λ a. literalOf (get_or p.cells ((a % p.rows) * p.columns + a / p.rows) (pos 0))) k loop.cells w
+          (λ a. literal_of (get_or p.cells ((a % p.rows) * p.columns + a / p.rows) (pos 0))) k loop.cells w
           (below turn) (loop.invariant.1 list)
-          (emits-return (literalOf w) list start.args.tape start.requires.0
+          (emits-return (literal_of w) list start.args.tape start.requires.0
           (operand-inside start.args.tape.next p at start.requires.1 (place-below turn)))),
     )
 
@@ -121,9 +121,9 @@ returns c =
     let p = start.args.t2 in
     let o = start.requires.1 in
     let n = start.args.tape.next in
-    let turned : Place → Literal = λ t. cell_at absent (matrixOf p) (t.1 * p.columns + t.0) in
+    let turned : Place → Literal = λ t. cell_at absent (matrix_of p) (t.1 * p.columns + t.0) in
     let same : (a : ℕ) → a < p.columns * p.rows
-    → literalOf (get_or p.cells ((a % p.rows) * p.columns + a / p.rows) (pos 0)) ≡ turned (place_of p.rows a) =
+    → literal_of (get_or p.cells ((a % p.rows) * p.columns + a / p.rows) (pos 0)) ≡ turned (place_of p.rows a) =
     λ a l.
     operand_at n p ((a % p.rows) * p.columns + a / p.rows) o
     (place_in p.rows p.columns (a % p.rows) (a / p.rows) o.rows o.columns (column-below p.columns p.rows a l)
@@ -134,14 +134,14 @@ returns c =
     in
     λ list.
     let cells = cells-done (λ l. return l) (λ l. regular-return l)
-    (λ a. literalOf (get_or p.cells ((a % p.rows) * p.columns + a / p.rows) (pos 0)))
+    (λ a. literal_of (get_or p.cells ((a % p.rows) * p.columns + a / p.rows) (pos 0)))
     (λ a. turned (place_of p.rows a)) loop.k (p.columns * p.rows) loop.cells loop.invariant.0 c.loop-test.false same (loop.invariant.1 list)
     in
-    emits-map (relationOf p.columns p.rows) (return (map turned (places p.columns p.rows)))
+    emits-map (relation_of p.columns p.rows) (return (map turned (places p.columns p.rows)))
     (emits-as (ap (λ ls. each (λ l. return l) ls n) e ∙ each-return (map turned (places p.columns p.rows)) n) refl cells) refl
     (record {
-      arity-low = omega arith;
-      arity-high = omega arith;
+      arity_low = omega arith;
+      arity_high = omega arith;
       set = λ f. absurd (omega (arith, f));
       rows = o.columns;
       columns = o.rows;

@@ -1,9 +1,9 @@
 -- `operators::join` meets its contract: a relation where both are, else a set.
 use mathlib.Core.Path.{refl, sym, ap, ◌∙◌}
 use native.Mathlib.Omega.{arith}
-use Rattle.relational.specs.Matrices.{joinColumns, joinSize}
-use Rattle.clauses_rules.specs.Translation.{joinCells}
-use Rattle.clauses_matrix.specs.Matrices.{matrixOf}
+use Rattle.relational.specs.Matrices.{join_columns, join_size}
+use Rattle.clauses_rules.specs.Translation.{join_cells}
+use Rattle.clauses_matrix.specs.Matrices.{matrix_of}
 use Rattle.clauses_emission.proofs.Steps.{emits-map}
 use native.Mathlib.Nat.{one-mul}
 use Prim.Native.Nat.{ℕ, ◌*◌, ◌≤◌}
@@ -32,15 +32,15 @@ returns c =
     let q = start.args.q in
     let columns = c.before.before.before.before.before.before.before.before.join-columns in
     let made = c.before.before.before.before.before.before.join_cells in
-    emits-map (joinSize (matrixOf p) (matrixOf q)) (joinCells (matrixOf p) (matrixOf q)) made.ensures
+    emits-map (join_size (matrix_of p) (matrix_of q)) (join_cells (matrix_of p) (matrix_of q)) made.ensures
     (join-relation p q columns.result made.result.cells columns.ensures.0 c.if1.true)
     (record {
-      arity-low = omega arith;
-      arity-high = omega arith;
+      arity_low = omega arith;
+      arity_high = omega arith;
       set = λ e. absurd (omega (arith, e));
       rows = start.requires.1.0.rows;
       columns = columns.ensures.1;
-      cells = cells-as (p.rows * joinColumns (matrixOf q)) (p.rows * columns.result) (ap (λ (k : ℕ). p.rows * k) (sym columns.ensures.0))
+      cells = cells-as (p.rows * join_columns (matrix_of q)) (p.rows * columns.result) (ap (λ (k : ℕ). p.rows * k) (sym columns.ensures.0))
           made.ensures.fine;
     })
 
@@ -65,15 +65,15 @@ returns-2 c =
     let few : size ≤ 8 =
     rw columns.ensures.0 (set-few start.args.tape.next p q start.requires.1.0 start.requires.1.1 c.before.if1.false)
     in
-    emits-map (joinSize (matrixOf p) (matrixOf q)) (joinCells (matrixOf p) (matrixOf q)) made.ensures
+    emits-map (join_size (matrix_of p) (matrix_of q)) (join_cells (matrix_of p) (matrix_of q)) made.ensures
     (join-set p q columns.result made.result.cells columns.ensures.0 c.before.if1.false)
     (record {
-      arity-low = omega arith;
-      arity-high = omega arith;
+      arity_low = omega arith;
+      arity_high = omega arith;
       set = λ e. refl;
       rows = omega arith;
       columns = few;
-      cells = cells-as (p.rows * joinColumns (matrixOf q)) (1 * size)
+      cells = cells-as (p.rows * join_columns (matrix_of q)) (1 * size)
           (sym (one-mul size ∙ ap (λ (k : ℕ). p.rows * k) columns.ensures.0)) made.ensures.fine;
     })
 

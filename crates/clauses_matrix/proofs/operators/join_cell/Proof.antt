@@ -11,8 +11,8 @@ use Rattle.clauses_rules.specs.Builder.{each}
 use Rattle.clauses_rules.specs.Gates.{or}
 use Rattle.clauses_rules.specs.Translation.{both}
 use Rattle.clauses_emission.specs.declared.Pairing.TheVariants.{Both}
-use Rattle.clauses_emission.specs.Emission.{literalsOf}
-use Rattle.clauses_matrix.specs.Matrices.{rowMiddles}
+use Rattle.clauses_emission.specs.Emission.{literals_of}
+use Rattle.clauses_matrix.specs.Matrices.{row_middles}
 use Rattle.clauses_emission.proofs.Steps.{regular-pairing, regular-each, regular-or, emits-bind}
 use Rattle.clauses_matrix.proofs.Fills.{fits-small, fits-part, fits-four}
 use Rattle.clauses_matrix.proofs.Middles.{Met, met_start, met-place, met_next, met_all, met-inputs, row_inside, column-inside}
@@ -119,7 +119,7 @@ returns : tie.Need-returns invariant-loop decreases-loop
 returns c =
     let end = c.before.before.before.before.before in
     let a = end.before.before.args in
-    let met = rowMiddles (literalsOf a.left.now) (literalsOf a.right.now) a.columns a.j in
+    let met = row_middles (literals_of a.left.now) (literals_of a.right.now) a.columns a.j in
     emits-bind (each both met) or (regular-each both (regular-pairing Both) met) regular-or
     (met_all end.before.loop.invariant end.loop-test.false) c.before.before.or.ensures
 

@@ -1,4 +1,4 @@
--- `operators::join_cells` meets its contract. The loop's invariant: the cells passed are worked out, and the place is that of cell k.
+-- `operators::join_cells_lem` meets its contract. The loop's invariant: the cells passed are worked out, and the place is that of cell k.
 use borrow.Author.Rules.{rules}
 use mathlib.Core.Path.{refl, sym}
 use mathlib.Core.List.{map}
@@ -11,20 +11,20 @@ use Rattle.relational.specs.Matrices.{upto, middles}
 use Rattle.relational.proofs.Places.{row_below, column-below}
 use Rattle.clauses_rules.specs.Builder.{each}
 use Rattle.clauses_rules.specs.Translation.{absent}
-use Rattle.clauses_matrix.specs.Matrices.{matrixOf, EmitsCells, joinCell}
+use Rattle.clauses_matrix.specs.Matrices.{matrix_of, EmitsCells, join_cell}
 use Rattle.clauses_emission.proofs.Steps.{emits-as}
 use Rattle.clauses_matrix.proofs.Numbers.{place_of, AtPlace, place-first, place-right, place_down}
 use Rattle.clauses_matrix.proofs.Fills.{cells-start, cells-next, cells-done, operand-grow, size_fits, cell_below}
 use Rattle.clauses_matrix.proofs.Fills.{fits-four, fits_next}
 use Rattle.clauses_matrix.proofs.Regulars.{regular-join-cell}
-use Rattle.clauses_matrix.proofs.Rows.{middlesAt, row_fits, row-and-column, middles-same, join-by-number}
+use Rattle.clauses_matrix.proofs.Rows.{middles_at, row_fits, row-and-column, middles-same, join-by-number}
 use Rattle.clauses_matrix.proofs.operators.join_cells.Statement.{statement}
 use Rattle.clauses_matrix.proofs.operators.join_cells.Tie as tie
 
 abbrev invariant-loop : tie.invariant-loop
 invariant-loop list₀ columns size n left right cells₀ after₀ k₀ start₀ j₀ list cells after k start j =
     (k ≤ size)
-    × EmitsCells k (each joinCell (map (middlesAt left right n columns) (upto k)) after₀.next) list₀ after₀ cells list after
+    × EmitsCells k (each join_cell (map (middles_at left right n columns) (upto k)) after₀.next) list₀ after₀ cells list after
     × AtPlace columns n k start j
 
 abbrev decreases-loop : tie.decreases-loop
@@ -45,7 +45,7 @@ loop-holds c =
     let columns = c.before.before.before.join-columns.result in
     let a = start.args in (
       omega arith,
-      cells-start joinCell (middlesAt a.p.cells a.q.cells a.p.columns columns) a.list.now a.tape start.requires.0,
+      cells-start join_cell (middles_at a.p.cells a.q.cells a.p.columns columns) a.list.now a.tape start.requires.0,
       place-first columns a.p.columns,
     )
 
@@ -128,7 +128,7 @@ made : (c : tie.After-join-cell invariant-loop decreases-loop)
     let a = turn.before.before.before.before.before.before.args in
     let call = c.join-cell in
     let k = loop.k + 1 in
-    EmitsCells k (each joinCell (map (middlesAt a.p.cells a.q.cells a.p.columns columns) (upto k)) a.tape.next)
+    EmitsCells k (each join_cell (map (middles_at a.p.cells a.q.cells a.p.columns columns) (upto k)) a.tape.next)
     a.list.now a.tape (set loop.cells loop.k call.result.literal) call.new.0 call.result.tape
 made c =
     let turn = c.before.before.before.before.before in
@@ -136,7 +136,7 @@ made c =
     let columns = turn.before.before.before.before.before.join-columns.result in
     let a = turn.before.before.before.before.before.before.args in
     rw (add-one loop.k)
-    (cells-next joinCell regular-join-cell (middlesAt a.p.cells a.q.cells a.p.columns columns) loop.k
+    (cells-next join_cell regular-join-cell (middles_at a.p.cells a.q.cells a.p.columns columns) loop.k
     loop.cells c.join-cell.result.literal (below turn) loop.invariant.1
     (rw (loop.invariant.2.row, loop.invariant.2.column) at c.join-cell.ensures))
 
@@ -170,10 +170,10 @@ returns c =
     let columns = call.result in
     let start = c.before.before.before.before.before.before in
     let a = start.args in
-    let p = matrixOf a.p in
-    let q = matrixOf a.q in
+    let p = matrix_of a.p in
+    let q = matrix_of a.q in
     let same = middles-same start.requires.1.0 start.requires.1.1 columns call.ensures.0 in
-    let cells = cells-done joinCell regular-join-cell (middlesAt a.p.cells a.q.cells a.p.columns columns)
+    let cells = cells-done join_cell regular-join-cell (middles_at a.p.cells a.q.cells a.p.columns columns)
     (λ k. middles absent p q (place_of columns k)) loop.k (a.p.rows * columns) loop.cells loop.invariant.0 c.loop-test.false
     same loop.invariant.1
     in

@@ -1,7 +1,7 @@
 -- `operators::matched` meets its contract.
 use mathlib.Core.Path.{refl}
-use Rattle.relational.specs.Matrices.{sameSize}
-use Rattle.clauses_matrix.specs.Matrices.{matrixOf, paired}
+use Rattle.relational.specs.Matrices.{same_size}
+use Rattle.clauses_matrix.specs.Matrices.{matrix_of, paired}
 use Rattle.clauses_emission.proofs.Steps.{emits-map}
 use borrow.Author.Rules.{rules}
 use Rattle.clauses_matrix.proofs.operators.matched.Statement.{statement}
@@ -19,10 +19,10 @@ returns c =
     let p = start.args.p in
     let o = start.requires.1.0 in
     let made = c.before.before.before.matched-cells.ensures in
-    emits-map (sameSize (matrixOf p)) (paired start.args.kind (matrixOf p) (matrixOf start.args.q)) made refl
+    emits-map (same_size (matrix_of p)) (paired start.args.kind (matrix_of p) (matrix_of start.args.q)) made refl
     (record {
-      arity-low = o.arity-low;
-      arity-high = o.arity-high;
+      arity_low = o.arity_low;
+      arity_high = o.arity_high;
       set = o.set;
       rows = o.rows;
       columns = o.columns;

@@ -8,13 +8,13 @@ use native.Mathlib.Omega.{arith}
 use lib.IntN.{pos}
 use borrow.Author.Rules.{rules}
 use lib.ListN.{get_or}
-use Rattle.literal.specs.Words.{literalOf}
+use Rattle.literal.specs.Words.{literal_of}
 use Rattle.literal.proofs.Signs.{back}
 use Rattle.relational.specs.Matrices.{upto, cell_at}
 use Rattle.clauses_rules.specs.Builder.{each}
 use Rattle.clauses_rules.specs.Translation.{Two, absent}
 use Rattle.clauses_emission.specs.Emission.{pairing}
-use Rattle.clauses_matrix.specs.Matrices.{matrixOf, EmitsCells}
+use Rattle.clauses_matrix.specs.Matrices.{matrix_of, EmitsCells}
 use Rattle.clauses_emission.proofs.Ranges.{inside-grows}
 use Rattle.clauses_emission.proofs.Steps.{regular-pairing}
 use Rattle.clauses_matrix.proofs.Fills.{cells-start, cells-next, cells-done, operand_at, operand-inside, pair_at, size_fits}
@@ -121,14 +121,14 @@ returns c =
     let q = start.args.t5 in
     let n = start.args.tape.next in
     let same : (j : ℕ) → j < p.rows * p.columns
-    → ◌≡◌ {A = Two} (literalOf (get_or p.cells j (pos 0)), literalOf (get_or q.cells j (pos 0)))
-    (cell_at absent (matrixOf p) j, cell_at absent (matrixOf q) j) =
+    → ◌≡◌ {A = Two} (literal_of (get_or p.cells j (pos 0)), literal_of (get_or q.cells j (pos 0)))
+    (cell_at absent (matrix_of p) j, cell_at absent (matrix_of q) j) =
     λ j l.
     let h = cell_below p.rows p.columns j start.requires.1.0.rows start.requires.1.0.columns l in
     rw (operand_at n p j start.requires.1.0 h, operand_at n q j start.requires.1.1 h)
     in
     cells-done (pairing kind) (regular-pairing kind) (pair_at p.cells q.cells (λ i. i) (λ i. i))
-    (λ j. (cell_at absent (matrixOf p) j, cell_at absent (matrixOf q) j)) loop.k (p.rows * p.columns) loop.cells
+    (λ j. (cell_at absent (matrix_of p) j, cell_at absent (matrix_of q) j)) loop.k (p.rows * p.columns) loop.cells
     loop.invariant.0 c.loop-test.false same loop.invariant.1
 
 pub matched-cells-spec : {M : Type 1} → statement M

@@ -8,12 +8,12 @@ use native.Mathlib.Omega.{arith}
 use lib.IntN.{pos}
 use lib.ListN.{get_or}
 use borrow.Author.Rules.{rules}
-use Rattle.literal.specs.Words.{literalOf}
+use Rattle.literal.specs.Words.{literal_of}
 use Rattle.literal.proofs.Signs.{back}
-use Rattle.relational.specs.Matrices.{Place, upto, cell_at, crossed, productSize}
+use Rattle.relational.specs.Matrices.{Place, upto, cell_at, crossed, product_size}
 use Rattle.clauses_rules.specs.Builder.{each}
 use Rattle.clauses_rules.specs.Translation.{Two, absent, both}
-use Rattle.clauses_matrix.specs.Matrices.{matrixOf, EmitsCells}
+use Rattle.clauses_matrix.specs.Matrices.{matrix_of, EmitsCells}
 use Rattle.clauses_emission.specs.declared.Pairing.TheVariants.{Both}
 use Rattle.clauses_emission.proofs.Ranges.{inside-grows}
 use Rattle.clauses_emission.proofs.Steps.{regular-pairing, emits-map, emits-as}
@@ -153,9 +153,9 @@ returns c =
     let rows = p.columns in
     let columns = q.columns in
     let n = start.args.tape.next in
-    let cross : Place → Two = λ t. (cell_at absent (matrixOf p) t.0, cell_at absent (matrixOf q) t.1) in
+    let cross : Place → Two = λ t. (cell_at absent (matrix_of p) t.0, cell_at absent (matrix_of q) t.1) in
     let same : (a : ℕ) → a < rows * columns
-    → ◌≡◌ {A = Two} (literalOf (get_or p.cells (a / columns) (pos 0)), literalOf (get_or q.cells (a % columns) (pos 0)))
+    → ◌≡◌ {A = Two} (literal_of (get_or p.cells (a / columns) (pos 0)), literal_of (get_or q.cells (a % columns) (pos 0)))
     (cross (place_of columns a)) =
     λ a l.
     let h = small (a / columns) rows (row_below rows columns a l) start.requires.1.0.columns in
@@ -165,14 +165,14 @@ returns c =
     let cells = cells-done both (regular-pairing Both) (pair_at p.cells q.cells (λ a. a / columns) (λ a. a % columns))
     (λ a. cross (place_of columns a)) loop.k (rows * columns) loop.cells loop.invariant.0 c.loop-test.false same loop.invariant.1
     in
-    let e : map (λ a. cross (place_of columns a)) (upto (rows * columns)) ≡ crossed absent (matrixOf p) (matrixOf q) =
+    let e : map (λ a. cross (place_of columns a)) (upto (rows * columns)) ≡ crossed absent (matrix_of p) (matrix_of q) =
     sym (ap (map cross) (places-by-number rows columns) ∙ map-map cross (place_of columns) (upto (rows * columns)))
     in
-    emits-map (productSize (matrixOf p) (matrixOf q)) (each both (crossed absent (matrixOf p) (matrixOf q)))
+    emits-map (product_size (matrix_of p) (matrix_of q)) (each both (crossed absent (matrix_of p) (matrix_of q)))
     (emits-as (ap (λ ts. each both ts n) e) refl cells) refl
     (record {
-      arity-low = omega arith;
-      arity-high = omega arith;
+      arity_low = omega arith;
+      arity_high = omega arith;
       set = λ o. absurd (omega (arith, o));
       rows = start.requires.1.0.columns;
       columns = start.requires.1.1.columns;

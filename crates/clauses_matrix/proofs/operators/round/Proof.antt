@@ -1,7 +1,7 @@
 -- `operators::round` meets its contract.
 use Rattle.relational.specs.Trees.{join, union}
-use Rattle.clauses_rules.specs.Translation.{translateBinary}
-use Rattle.clauses_matrix.specs.Matrices.{matrixOf}
+use Rattle.clauses_rules.specs.Translation.{translate_binary}
+use Rattle.clauses_matrix.specs.Matrices.{matrix_of}
 use Rattle.clauses_emission.proofs.Steps.{emits-bind}
 use Rattle.clauses_matrix.proofs.Fills.{operand-grow}
 use Rattle.clauses_matrix.proofs.Regulars.{regular-binary}
@@ -24,8 +24,8 @@ same_length c = search rules
 returns : tie.Need-returns
 returns c =
     let start = c.before.before.before.before.before.before.before.before in
-    let p = matrixOf start.args.p in
-    emits-bind (translateBinary join p p) (translateBinary union p) (regular-binary join p p) (regular-binary union p)
+    let p = matrix_of start.args.p in
+    emits-bind (translate_binary join p p) (translate_binary union p) (regular-binary join p p) (regular-binary union p)
     c.before.before.before.before.before.before.join.ensures c.before.matched.ensures
 
 pub round-spec : {M : Type 1} → statement M

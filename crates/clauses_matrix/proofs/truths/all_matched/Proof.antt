@@ -1,7 +1,7 @@
 -- `truths::all_matched` meets its contract.
 use Prim.Native.Nat.{◌*◌}
 use Rattle.clauses_rules.specs.Gates.{and}
-use Rattle.clauses_matrix.specs.Matrices.{matrixOf, paired}
+use Rattle.clauses_matrix.specs.Matrices.{matrix_of, paired}
 use Rattle.clauses_emission.proofs.Steps.{regular-and, emits-bind}
 use Rattle.clauses_matrix.proofs.Fills.{front-inputs, front_length}
 use Rattle.clauses_matrix.proofs.Regulars.{regular-paired}
@@ -41,8 +41,8 @@ returns : tie.Need-returns
 returns c =
     let start = c.before.before.before.before.before.before.before.before.before.before.before in
     let made = c.before.before.before.before.before.before.before.before.before.matched-cells in
-    let p = matrixOf start.args.p in
-    let q = matrixOf start.args.q in
+    let p = matrix_of start.args.p in
+    let q = matrix_of start.args.q in
     let kind = start.args.kind in
     emits-bind (paired kind p q) and (regular-paired kind p q) regular-and made.ensures c.before.before.and.ensures
 

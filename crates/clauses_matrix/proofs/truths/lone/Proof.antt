@@ -11,7 +11,7 @@ use lib.Seq.{length-take-le}
 use mir.Syntax.{w32, w64}
 use mir.Val.{Fits, SFits, of_z, to_z}
 use Rattle.literal.specs.Literals.{Literal}
-use Rattle.literal.specs.Words.{literalOf}
+use Rattle.literal.specs.Words.{literal_of}
 use Rattle.literal.proofs.Signs.{back}
 use Rattle.relational.specs.Matrices as matrices
 use Rattle.clauses_rules.specs.Builder.{Built, ◌>>=◌, each}
@@ -21,7 +21,7 @@ use Rattle.clauses_emission.specs.declared.Tape.{Tape}
 use Rattle.clauses_emission.specs.declared.Pairing.TheVariants.{Both}
 use Rattle.clauses_emission.specs.Emission.{Inside, EmitsLiteral, EmitsTwo}
 use Rattle.clauses_emission.specs.Settling.{Told}
-use Rattle.clauses_matrix.specs.Matrices.{matrixOf, cells_of}
+use Rattle.clauses_matrix.specs.Matrices.{matrix_of, cells_of}
 use Rattle.clauses_emission.proofs.Ranges.{inside-grows}
 use Rattle.clauses_emission.proofs.Ors.{emits-negated}
 use Rattle.clauses_emission.proofs.Twos.{emits-told}
@@ -45,12 +45,12 @@ mul-n c =
 
 loop-holds : tie.Need-loop-init invariant-loop decreases-loop
 loop-holds c =
-    passed_start (matrixOf c.args.t3).cells c.args.list.now c.args.tape
+    passed_start (matrix_of c.args.t3).cells c.args.list.now c.args.tape
     c.requires.0
 
 -- what a turn knows
 abbrev cells : tie.At-loop invariant-loop decreases-loop → List Literal
-cells c = (matrixOf c.before.args.t3).cells
+cells c = (matrix_of c.before.args.t3).cells
 
 size_of : (c : tie.At-loop invariant-loop decreases-loop)
     → length (cells c) ≡ c.before.args.t3.rows * c.before.args.t3.columns
@@ -92,12 +92,12 @@ module _ (c : tie.In-loop invariant-loop decreases-loop) where
   abbrev second : ℤ
   second = get_or c.before.before.args.t3.cells c.before.loop.j (pos 0)
 
-  inside-first : Inside c.before.before.args.tape.next (literalOf first)
+  inside-first : Inside c.before.before.args.tape.next (literal_of first)
   inside-first =
       let start = c.before.before in
       operand-inside start.args.tape.next start.args.t3 c.before.loop.i start.requires.1 (below-i c)
 
-  inside-second : Inside c.before.before.args.tape.next (literalOf second)
+  inside-second : Inside c.before.before.args.tape.next (literal_of second)
   inside-second =
       let start = c.before.before in
       operand-inside start.args.tape.next start.args.t3 c.before.loop.j start.requires.1 (below-j c)

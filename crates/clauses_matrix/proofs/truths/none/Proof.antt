@@ -1,6 +1,6 @@
 -- `truths::none` meets its contract.
 use Rattle.clauses_rules.specs.Gates.{or}
-use Rattle.clauses_matrix.specs.Matrices.{matrixOf}
+use Rattle.clauses_matrix.specs.Matrices.{matrix_of}
 use Rattle.clauses_emission.proofs.Ors.{emits-negated}
 use borrow.Author.Rules.{rules}
 use Rattle.clauses_matrix.proofs.truths.none.Statement.{statement}
@@ -18,7 +18,7 @@ same_length c = search rules
 returns : tie.Need-returns
 returns c =
     let call = c.before.before.some in
-    emits-negated (or (matrixOf c.before.before.before.before.args.p).cells) call.result c.negate.result call.ensures
+    emits-negated (or (matrix_of c.before.before.before.before.args.p).cells) call.result c.negate.result call.ensures
     c.negate.ensures
 
 pub none_spec : {M : Type 1} → statement M

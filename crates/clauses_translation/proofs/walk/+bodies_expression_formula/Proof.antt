@@ -7,7 +7,7 @@ use mir.Syntax.{w32}
 use mir.Val.{SFits}
 use borrow.Author.Rules.{rules}
 use Rattle.literal.proofs.Signs.{back}
-use Rattle.sheet_rules.specs.Blocks.{sheetOf}
+use Rattle.sheet_rules.specs.Blocks.{sheet_of}
 use Rattle.sheet_rules.proofs.Acceptance.{accepted-facts}
 use Rattle.nodes.specs.Environments.{environment}
 use Rattle.nodes.specs.Nodes.{IsExpression, IsFormula}
@@ -131,7 +131,7 @@ formula-calls t = (
 
 abbrev bodies-Inv-loop : bodies-lts.invariant-loop
 bodies-Inv-loop list₀ sheet layout given starts env at x columns cells₀ after₀ i₀ list cells after i =
-    (i ≤ columns) × Done (sheetOf sheet) given env at list₀ after₀ x i cells list after
+    (i ≤ columns) × Done (sheet_of sheet) given env at list₀ after₀ x i cells list after
 
 abbrev bodies-μ-loop : bodies-lts.decreases-loop
 bodies-μ-loop list₀ sheet layout given starts env at x columns cells₀ after₀ i₀ list cells after i = columns - i
@@ -191,7 +191,7 @@ abbrev expression-start : (t : ℕ) → expression-lts.After-read-node (expressi
 expression-start t n = n.before.before.before.before.before
 
 expression-node : (t : ℕ) (n : expression-lts.After-read-node (expression-calls t) (expression-at t) expression.Post)
-    → Reached (sheetOf (expression-start t n).args.sheet.now) (expression-start t n).args.at n.read-node.result IsExpression
+    → Reached (sheet_of (expression-start t n).args.sheet.now) (expression-start t n).args.at n.read-node.result IsExpression
 expression-node t n =
     let h = (expression-start t n).requires.1 in
     record { facts = accepted-facts _ _ h.0.located.taken; read = n.read-node.ensures.0; tree = h.1 }
@@ -227,7 +227,7 @@ expression-expression-requires t c κs =
     let n = k.before.before in
     let b = at-binary (expression-node t n) k.enum-told2.given.1 in
     let s = expression-start t n in
-    (omega (arith, b.lower-a, s.pre.0), (s.pre.1.0, b.left))
+    (omega (arith, b.lower_a, s.pre.0), (s.pre.1.0, b.left))
 
 expression-expression-requires-2 : (t : ℕ)
     → expression-lts.Need-expression-requires-2 (expression-calls t) (expression-at t) expression.Post
@@ -237,7 +237,7 @@ expression-expression-requires-2 t c κs =
     let n = k.before.before in
     let b = at-binary (expression-node t n) k.enum-told2.given.1 in
     let s = expression-start t n in
-    (omega (arith, b.lower-b, s.pre.0), (ready-after p.expression.ensures b.left s.pre.1.0, b.right))
+    (omega (arith, b.lower_b, s.pre.0), (ready-after p.expression.ensures b.left s.pre.1.0, b.right))
 
 expression-binary-requires : (t : ℕ) → expression-lts.Need-binary-requires (expression-calls t) (expression-at t) expression.Post
 expression-binary-requires t c κs =
@@ -258,7 +258,7 @@ expression-expression-requires-3 t c κs =
     let n = k.before.before in
     let b = at-unary (expression-node t n) k.enum-told3.given.1 in
     let s = expression-start t n in
-    (omega (arith, b.lower-a, s.pre.0), (s.pre.1.0, b.left))
+    (omega (arith, b.lower_a, s.pre.0), (s.pre.1.0, b.left))
 
 expression-unary-requires : (t : ℕ) → expression-lts.Need-unary-requires (expression-calls t) (expression-at t) expression.Post
 expression-unary-requires t c κs =
@@ -276,7 +276,7 @@ expression-bodies-requires t c κs =
     let n = k.before.before in
     let b = at-comprehension (expression-node t n) k.enum-told4.given.1 in
     let s = expression-start t n in
-    (omega (arith, b.lower-b, s.pre.0), (s.pre.1.0, (b.body, b.names)))
+    (omega (arith, b.lower_b, s.pre.0), (s.pre.1.0, (b.body, b.names)))
 
 expression-comprehend-requires : (t : ℕ)
     → expression-lts.Need-comprehend-requires (expression-calls t) (expression-at t) expression.Post
@@ -352,7 +352,7 @@ abbrev formula-start : (t : ℕ) → formula-lts.After-read-node (formula-calls 
 formula-start t n = n.before.before.before.before.before
 
 formula-node : (t : ℕ) (n : formula-lts.After-read-node (formula-calls t) (formula-at t) formula.Post)
-    → Reached (sheetOf (formula-start t n).args.sheet.now) (formula-start t n).args.at n.read-node.result IsFormula
+    → Reached (sheet_of (formula-start t n).args.sheet.now) (formula-start t n).args.at n.read-node.result IsFormula
 formula-node t n =
     let h = (formula-start t n).requires.1 in
     record { facts = accepted-facts _ _ h.0.located.taken; read = n.read-node.ensures.0; tree = h.1 }
@@ -377,7 +377,7 @@ formula-expression-requires t c κs =
     let n = k.before.before in
     let b = at-comparison (formula-node t n) k.enum_told.given.1 in
     let s = formula-start t n in
-    (omega (arith, b.lower-a, s.pre.0), (s.pre.1.0, b.left))
+    (omega (arith, b.lower_a, s.pre.0), (s.pre.1.0, b.left))
 
 formula-expression-requires-2 : (t : ℕ) → formula-lts.Need-expression-requires-2 (formula-calls t) (formula-at t) formula.Post
 formula-expression-requires-2 t c κs =
@@ -386,7 +386,7 @@ formula-expression-requires-2 t c κs =
     let n = k.before.before in
     let b = at-comparison (formula-node t n) k.enum_told.given.1 in
     let s = formula-start t n in
-    (omega (arith, b.lower-b, s.pre.0), (ready-after p.expression.ensures b.left s.pre.1.0, b.right))
+    (omega (arith, b.lower_b, s.pre.0), (ready-after p.expression.ensures b.left s.pre.1.0, b.right))
 
 formula-compare-requires : (t : ℕ) → formula-lts.Need-compare-requires (formula-calls t) (formula-at t) formula.Post
 formula-compare-requires t c κs =
@@ -406,7 +406,7 @@ formula-expression-requires-3 t c κs =
     let n = k.before.before in
     let b = at_test (formula-node t n) k.enum-told2.given.1 in
     let s = formula-start t n in
-    (omega (arith, b.lower-a, s.pre.0), (s.pre.1.0, b.left))
+    (omega (arith, b.lower_a, s.pre.0), (s.pre.1.0, b.left))
 
 formula-test-requires : (t : ℕ) → formula-lts.Need-test-requires (formula-calls t) (formula-at t) formula.Post
 formula-test-requires t c κs =
@@ -424,7 +424,7 @@ formula-formula-requires t c κs =
     let n = k.before.before in
     let b = at-negation (formula-node t n) k.enum-told3.given.1 in
     let s = formula-start t n in
-    (omega (arith, b.lower-a, s.pre.0), (s.pre.1.0, b.left))
+    (omega (arith, b.lower_a, s.pre.0), (s.pre.1.0, b.left))
 
 formula-negate-requires : (t : ℕ) → formula-lts.Need-negate-requires (formula-calls t) (formula-at t) formula.Post
 formula-negate-requires t c κs =
@@ -442,7 +442,7 @@ formula-formula-requires-2 t c κs =
     let n = k.before.before in
     let b = at-connective (formula-node t n) k.enum-told4.given.1 in
     let s = formula-start t n in
-    (omega (arith, b.lower-a, s.pre.0), (s.pre.1.0, b.left))
+    (omega (arith, b.lower_a, s.pre.0), (s.pre.1.0, b.left))
 
 formula-formula-requires-3 : (t : ℕ) → formula-lts.Need-formula-requires-3 (formula-calls t) (formula-at t) formula.Post
 formula-formula-requires-3 t c κs =
@@ -451,7 +451,7 @@ formula-formula-requires-3 t c κs =
     let n = k.before.before in
     let b = at-connective (formula-node t n) k.enum-told4.given.1 in
     let s = formula-start t n in
-    (omega (arith, b.lower-b, s.pre.0), (ready-after p.formula2.ensures b.left s.pre.1.0, b.right))
+    (omega (arith, b.lower_b, s.pre.0), (ready-after p.formula2.ensures b.left s.pre.1.0, b.right))
 
 formula-connect-requires : (t : ℕ) → formula-lts.Need-connect-requires (formula-calls t) (formula-at t) formula.Post
 formula-connect-requires t c κs =
@@ -471,7 +471,7 @@ formula-bodies-requires t c κs =
     let n = k.before.before in
     let b = at-quantifier (formula-node t n) k.enum-told5.given.1 in
     let s = formula-start t n in
-    (omega (arith, b.lower-b, s.pre.0), (s.pre.1.0, (b.body, b.names)))
+    (omega (arith, b.lower_b, s.pre.0), (s.pre.1.0, (b.body, b.names)))
 
 formula-quantify-over-requires : (t : ℕ)
     → formula-lts.Need-quantify-over-requires (formula-calls t) (formula-at t) formula.Post

@@ -6,13 +6,13 @@ use lib.IntN.{pos}
 use lib.ListN.{length, get_or, drop}
 use borrow.Author.Rules.{rules}
 use Rattle.literal.proofs.Signs.{back}
-use Rattle.dimacs.specs.Text.{literalText, clauseLine}
+use Rattle.dimacs.specs.Text.{literal_text, clause_line}
 use Rattle.dimacs.proofs.Lines.{line-length, line-end}
 use Rattle.dimacs.proofs.measure.line_length.Statement.{statement}
 use Rattle.dimacs.proofs.measure.line_length.Tie as tie
 
 abbrev invariant-loop : tie.invariant-loop
-invariant-loop clause bytes₀ i₀ bytes i = (i ≤ length clause) × (bytes + length (clauseLine (drop i clause)) ≡ length (clauseLine clause))
+invariant-loop clause bytes₀ i₀ bytes i = (i ≤ length clause) × (bytes + length (clause_line (drop i clause)) ≡ length (clause_line clause))
 
 abbrev decreases-loop : tie.decreases-loop
 decreases-loop clause bytes₀ i₀ bytes i = length clause - i
@@ -35,8 +35,8 @@ literal-length-requires c κs =
 -- the bytes before a literal, its own and its space's, and those of the line after it are all
 turn : (c : tie.After-literal-length invariant-loop decreases-loop)
     → c.before.before.before.loop.bytes + (c.literal-length.result + 1)
-    + length (clauseLine (drop (c.before.before.before.loop.i + 1) c.before.before.before.before.args.clause.now))
-    ≡ length (clauseLine c.before.before.before.before.args.clause.now)
+    + length (clause_line (drop (c.before.before.before.loop.i + 1) c.before.before.before.before.args.clause.now))
+    ≡ length (clause_line c.before.before.before.before.args.clause.now)
 turn c =
     let clause = c.before.before.before.before.args.clause.now in
     let loop = c.before.before.before.loop in
@@ -46,7 +46,7 @@ turn c =
       loop.invariant.1,
       line-length clause loop.i c.before.before.loop-test.true,
       c.literal-length.ensures,
-      ap (λ word. length (literalText word)) (back l (record { sfits = c.before.l.given })),
+      ap (λ word. length (literal_text word)) (back l (record { sfits = c.before.l.given })),
     )
 
 add-bytes : tie.Need-overflow-add-bytes invariant-loop decreases-loop
@@ -65,7 +65,7 @@ loop-again : tie.Need-loop-preserved invariant-loop decreases-loop
 loop-again c = (omega arith, turn c)
 
 -- the closing 0 and the line feed are left
-ending : (c : tie.After-loop invariant-loop decreases-loop) → c.before.loop.bytes + 2 ≡ length (clauseLine c.before.before.args.clause.now)
+ending : (c : tie.After-loop invariant-loop decreases-loop) → c.before.loop.bytes + 2 ≡ length (clause_line c.before.before.args.clause.now)
 ending c =
     let clause = c.before.before.args.clause.now in
     let loop = c.before.loop in

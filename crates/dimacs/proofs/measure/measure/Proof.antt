@@ -4,12 +4,12 @@ use Prim.Native.Nat.{◌+◌, ◌-◌, ◌<◌, ◌^◌}
 use native.Mathlib.Omega.{arith}
 use lib.ListN.{length}
 use borrow.Author.Rules.{rules}
-use Rattle.clause_list.specs.ClauseList.{clausesOf}
+use Rattle.clause_list.specs.ClauseList.{clauses_of}
 use Rattle.clause_list.proofs.Laws.{ClauseAt, clauses-few}
-use Rattle.dimacs.specs.Text.{clauseLine, clauseLines, header, text_of}
+use Rattle.dimacs.specs.Text.{clause_line, clause_lines, header, text_of}
 use Rattle.dimacs.specs.Private.{Listed}
 use Rattle.dimacs.proofs.Lines.{text-length, text-length-fits}
-use Rattle.dimacs.proofs.Walks.{countAt, clauseAt, here, part, proper, Counted, counted_none, counted_next, counted-all}
+use Rattle.dimacs.proofs.Walks.{count_at, clause_at, here, part, proper, Counted, counted_none, counted_next, counted-all}
 use Rattle.dimacs.proofs.measure.measure.Statement.{statement}
 use Rattle.dimacs.proofs.measure.measure.Tie as tie
 
@@ -43,7 +43,7 @@ entered c = c.before.before.before
 
 -- the clause at i
 clause : (c : tie.After-clause-end invariant-loop decreases-loop)
-    → ClauseAt (entered c).args.v (entered c).args.list.now (turning c).loop.i (countAt (entered c).args.list.now (turning c).loop.i)
+    → ClauseAt (entered c).args.v (entered c).args.list.now (turning c).loop.i (count_at (entered c).args.list.now (turning c).loop.i)
 clause c =
     let loop = (turning c).loop in
     here (entered c).args.list.now loop.i loop.inv.at c.before.loop-test.true (listed (entered c))
@@ -61,7 +61,7 @@ part-line-length-end : tie.Need-slice-bounds-line-length-end invariant-loop decr
 part-line-length-end c = omega (arith, c.clause-end.ensures, (clause c).ranges)
 
 -- the lines are a part of the text, whose length fits
-fitting : (s : tie.Start invariant-loop decreases-loop) → length (clauseLines (clausesOf s.args.list.now)) < 2 ^ 34
+fitting : (s : tie.Start invariant-loop decreases-loop) → length (clause_lines (clauses_of s.args.list.now)) < 2 ^ 34
 fitting s =
     let a = s.args in
     omega (arith, text-length a.v a.list.now, text-length-fits a.v a.list.now s.requires)
@@ -69,7 +69,7 @@ fitting s =
 -- what is counted with the clause, whose line has so many bytes
 counting : (c : tie.After-clause-end invariant-loop decreases-loop)
     → Counted (entered c).args.list.now c.clause-end.result ((turning c).loop.clauses + 1)
-    ((turning c).loop.lines + length (clauseLine (clauseAt (entered c).args.list.now (turning c).loop.i)))
+    ((turning c).loop.lines + length (clause_line (clause_at (entered c).args.list.now (turning c).loop.i)))
 counting c = counted_next (turning c).loop.invariant (listed (entered c)) c.before.loop-test.true c.clause-end.ensures refl
 
 line-length-requires : tie.Need-line-length-requires invariant-loop decreases-loop
@@ -78,7 +78,7 @@ line-length-requires c κs =
     let ws = (entered k).args.list.now in
     let i = (turning k).loop.i in
     rw (part ws i k.clause-end.result k.clause-end.ensures) (
-      proper (entered k).args.v (clauseAt ws i) (clause k).literals,
+      proper (entered k).args.v (clause_at ws i) (clause k).literals,
       omega (arith, (counting k).lines_left, fitting (entered k)),
     )
 
@@ -90,7 +90,7 @@ after c =
     let k = c.before.before in
     let p = part (entered k).args.list.now (turning k).loop.i k.clause-end.result k.clause-end.ensures in
     counted_next (turning k).loop.invariant (listed (entered k)) k.before.loop-test.true k.clause-end.ensures
-    (c.line-length.ensures ∙ ap (λ words. length (clauseLine words)) p)
+    (c.line-length.ensures ∙ ap (λ words. length (clause_line words)) p)
 
 add-lines : tie.Need-overflow-add-lines invariant-loop decreases-loop
 add-lines c = omega (arith, (after c).lines_left, fitting (entered c.before.before))
@@ -98,7 +98,7 @@ add-lines c = omega (arith, (after c).lines_left, fitting (entered c.before.befo
 add-clauses : tie.Need-overflow-add-clauses invariant-loop decreases-loop
 add-clauses c =
     let start = entered c.before.before in
-    omega (arith, (after c).clauses-left, clauses-few start.args.list.now, start.good.0)
+    omega (arith, (after c).clauses_left, clauses-few start.args.list.now, start.good.0)
 
 loop-less : tie.Need-loop-smaller invariant-loop decreases-loop
 loop-less c =

@@ -3,8 +3,8 @@ use mathlib.Core.Path.{◌≡◌, refl, ap}
 use mathlib.Core.Bool.{Bool}
 use Rattle.relational.specs.Trees.{intersection, binary-symbol, symbol_of}
 use Rattle.relational.specs.Matrices.{Matrix}
-use Rattle.relational.specs.Evaluation.{valueBinary}
-use Rattle.instance_matrix.specs.Values.{matrixOf}
+use Rattle.relational.specs.Evaluation.{value_binary}
+use Rattle.instance_matrix.specs.Values.{matrix_of}
 use Rattle.instance_matrix.proofs.Results.{gives_as}
 use borrow.Author.Rules.{rules}
 use Rattle.instance_evaluation.proofs.binders.comprehend.Statement.{statement}
@@ -24,7 +24,7 @@ returns : tie.Need-returns
 returns c env =
     let s = c.before.before.before.before in
     gives_as _ _ _
-    (ap (λ (m : Matrix Bool). valueBinary intersection m (matrixOf s.args.row)) (c.before.range.ensures env).is)
+    (ap (λ (m : Matrix Bool). value_binary intersection m (matrix_of s.args.row)) (c.before.range.ensures env).is)
     (c.binary.ensures intersection six)
 
 pub comprehend-spec : {M : Type 1} → statement M

@@ -2,8 +2,8 @@
 use mathlib.Core.Path.{ap, ◌∙◌}
 use mathlib.Core.Bool.{Bool}
 use Rattle.relational.specs.Matrices.{Matrix}
-use Rattle.relational.specs.Evaluation.{truthQuantifier}
-use Rattle.instance_matrix.specs.Values.{matrixOf}
+use Rattle.relational.specs.Evaluation.{truth_quantifier}
+use Rattle.instance_matrix.specs.Values.{matrix_of}
 use borrow.Author.Rules.{rules}
 use Rattle.instance_evaluation.proofs.binders.quantify_over.Statement.{statement}
 use Rattle.instance_evaluation.proofs.binders.quantify_over.Tie as tie
@@ -18,7 +18,7 @@ returns : tie.Need-returns
 returns c env o e =
     let s = c.before.before.before.before in
     c.quantify.ensures o e
-    ∙ ap (λ (m : Matrix Bool). truthQuantifier o m (matrixOf s.args.row)) (c.before.range.ensures env).is
+    ∙ ap (λ (m : Matrix Bool). truth_quantifier o m (matrix_of s.args.row)) (c.before.range.ensures env).is
 
 pub quantify-over-spec : {M : Type 1} → statement M
 quantify-over-spec = tie.close (tie.spec range-requires quantify-requires returns)

@@ -1,8 +1,8 @@
 -- The relation's first cell, and its rows and columns.
 use native.Mathlib.Omega.{arith}
-use Rattle.sheet_rules.specs.Blocks.{sheetOf}
+use Rattle.sheet_rules.specs.Blocks.{sheet_of}
 use Rattle.instance_matrix.proofs.Results.{gives_as}
-use Rattle.instance_evaluation.proofs.Layouts.{facts-of, low, few, first-few, set-or-relation, relation-leaf}
+use Rattle.instance_evaluation.proofs.Layouts.{facts-of, low, few, first-few, set_or_relation, relation-leaf}
 use Rattle.instance_evaluation.proofs.leaves.relation.Statement.{statement}
 use Rattle.instance_evaluation.proofs.leaves.relation.Tie as tie
 
@@ -37,7 +37,7 @@ given-requires c κs =
     let rows = c.before.before.row_count in
     let r = s.args.r in (
       (omega (arith, first-few s.requires.0 s.requires.1), (rows.ensures.1, c.before.row-length.ensures.1)),
-      set-or-relation (sheetOf s.args.sheet.now) r ((facts-of s.requires.0).columns-two r s.requires.1) c.arity.ensures
+      set_or_relation (sheet_of s.args.sheet.now) r ((facts-of s.requires.0).columns_two r s.requires.1) c.arity.ensures
           rows.ensures.0,
     )
 
@@ -46,7 +46,7 @@ returns c env =
     let s = c.before.before.before.before.before.before.before.before in
     let r = s.args.r in
     gives_as c.given.result _ _
-    (relation-leaf (sheetOf s.args.sheet.now) r s.args.instance.now env (s.requires.0.cells.first r s.requires.1)
+    (relation-leaf (sheet_of s.args.sheet.now) r s.args.instance.now env (s.requires.0.cells.first r s.requires.1)
     c.before.arity.ensures c.before.before.before.row_count.ensures.0 c.before.before.row-length.ensures.0)
     c.given.ensures
 

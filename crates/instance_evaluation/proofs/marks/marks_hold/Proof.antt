@@ -4,16 +4,16 @@ use mathlib.Core.Path.{◌≡◌, ap, ◌∙◌}
 use Prim.Native.Nat.{ℕ, ◌≤◌, ◌-◌}
 use native.Mathlib.Omega.{arith}
 use Rattle.prelude.specs.Tests.{each}
-use Rattle.sheet_rules.specs.Blocks.{sheetOf, relationCount}
+use Rattle.sheet_rules.specs.Blocks.{sheet_of, relation_count}
 use Rattle.sheet.proofs.Loops.{each_none, each_more}
-use Rattle.relational.specs.Evaluation.{marksHold}
+use Rattle.relational.specs.Evaluation.{marks_hold}
 use Rattle.cells.proofs.Parts.{relations-counted}
-use Rattle.instance_evaluation.specs.Walking.{rowsHold}
+use Rattle.instance_evaluation.specs.Walking.{rows_hold}
 use Rattle.instance_evaluation.proofs.marks.marks_hold.Statement.{statement}
 use Rattle.instance_evaluation.proofs.marks.marks_hold.Tie as tie
 
 abbrev invariant-loop : tie.invariant-loop
-invariant-loop sheet layout instance starts count fine₀ r₀ fine r = (r ≤ count) × (fine ≡ each r (rowsHold (sheetOf sheet) instance))
+invariant-loop sheet layout instance starts count fine₀ r₀ fine r = (r ≤ count) × (fine ≡ each r (rows_hold (sheet_of sheet) instance))
 
 abbrev decreases-loop : tie.decreases-loop
 decreases-loop sheet layout instance starts count fine₀ r₀ fine r = count - r
@@ -41,13 +41,13 @@ loop-again c =
     (omega arith, each_more _ l.r l.fine c.both.result l.invariant.1 (rw (← c.before.rows-hold.ensures) c.both.ensures))
 
 returns : tie.Need-returns invariant-loop decreases-loop
-unfolding marksHold
+unfolding marks_hold
 returns c =
     let s = c.before.before.before.before.before.before in
     let l = c.before.loop in
-    let sheet = sheetOf s.args.sheet.now in
-    let k : l.r ≡ relationCount sheet = omega (arith, relations-counted _ _ s.requires.taken, l.invariant.0, c.loop-test.false) in
-    l.invariant.1 ∙ ap (λ (n : ℕ). each n (rowsHold sheet s.args.instance.now)) k
+    let sheet = sheet_of s.args.sheet.now in
+    let k : l.r ≡ relation_count sheet = omega (arith, relations-counted _ _ s.requires.taken, l.invariant.0, c.loop-test.false) in
+    l.invariant.1 ∙ ap (λ (n : ℕ). each n (rows_hold sheet s.args.instance.now)) k
 
 pub marks-hold-spec : {M : Type 1} → statement M
 marks-hold-spec =

@@ -8,23 +8,23 @@ use Prim.Native.Nat.{ℕ, ◌≤◌, ◌<◌, ◌-◌, ◌*◌}
 use native.Mathlib.Nat.{mul-le-mul}
 use native.Mathlib.Omega.{arith}
 use Rattle.prelude.specs.Tests.{each}
-use Rattle.sheet_rules.specs.Blocks.{Sheet, sheetOf, multiplicity}
+use Rattle.sheet_rules.specs.Blocks.{Sheet, sheet_of, multiplicity}
 use Rattle.sheet.proofs.Loops.{each_none, each_more}
 use Rattle.relational.specs.Matrices.{Matrix}
-use Rattle.relational.specs.Evaluation.{rowHolds, rowBound, rowCells}
+use Rattle.relational.specs.Evaluation.{row_holds, row_bound, row_cells}
 use Rattle.instance_evaluation.proofs.Layouts.{low, few, first-few, row-cells}
 use Rattle.instance_evaluation.proofs.marks.rows_hold.Statement.{statement}
 use Rattle.instance_evaluation.proofs.marks.rows_hold.Tie as tie
 
 -- row j of relation r
 abbrev held : Sheet → List ℕ → ℕ → ℕ → Bool
-held sheet instance r j = rowHolds sheet instance (multiplicity sheet r) (rowBound sheet instance r j)
-    (rowCells sheet instance r j)
+held sheet instance r j = row_holds sheet instance (multiplicity sheet r) (row_bound sheet instance r j)
+    (row_cells sheet instance r j)
 
 abbrev invariant-loop : tie.invariant-loop
 invariant-loop sheet layout instance starts r mark first rows columns fine₀ i₀ fine i =
     (i ≤ rows)
-    × (fine ≡ each i (λ j. held (sheetOf sheet) instance r j))
+    × (fine ≡ each i (λ j. held (sheet_of sheet) instance r j))
 
 abbrev decreases-loop : tie.decreases-loop
 decreases-loop sheet layout instance starts r mark first rows columns fine₀ i₀ fine i = rows - i
@@ -99,7 +99,7 @@ loop-less c = search rules
 loop-again : tie.Need-loop-preserved invariant-loop decreases-loop
 loop-again c =
     let s = c.before.before.before.before.before.before.before.before.before.before.before.before.before in
-    let sheet = sheetOf s.args.sheet.now in
+    let sheet = sheet_of s.args.sheet.now in
     let instance = s.args.instance.now in
     let r = s.args.r in
     let l = c.before.before.before.before.before.loop in
@@ -107,9 +107,9 @@ loop-again c =
     ∙ row-cells sheet r instance l.i (s.requires.0.cells.first r s.requires.1)
     c.before.before.before.before.before.before.row-length.ensures.0 in
     let e = c.before.row-holds.ensures sheet instance
-    ∙ ap₂ (λ (m : ℕ) (row : List Bool). rowHolds sheet instance m c.before.before.row-bound.result row)
+    ∙ ap₂ (λ (m : ℕ) (row : List Bool). row_holds sheet instance m c.before.before.row-bound.result row)
     c.before.before.before.before.before.before.before.before.before.multiplicity.ensures cells
-    ∙ ap (λ (b : Bool). rowHolds sheet instance (multiplicity sheet r) b (rowCells sheet instance r l.i))
+    ∙ ap (λ (b : Bool). row_holds sheet instance (multiplicity sheet r) b (row_cells sheet instance r l.i))
     c.before.before.row-bound.ensures in
     (omega arith, each_more _ l.i l.fine c.both.result l.invariant.1 (rw (← e) c.both.ensures))
 
@@ -119,7 +119,7 @@ returns c =
     let l = c.before.loop in
     let k : l.i ≡ c.before.before.before.row_count.result = omega arith in
     l.invariant.1
-    ∙ ap (λ (n : ℕ). each n (held (sheetOf s.args.sheet.now) s.args.instance.now s.args.r))
+    ∙ ap (λ (n : ℕ). each n (held (sheet_of s.args.sheet.now) s.args.instance.now s.args.r))
     (k ∙ c.before.before.before.row_count.ensures.0)
 
 pub rows-hold-spec : {M : Type 1} → statement M

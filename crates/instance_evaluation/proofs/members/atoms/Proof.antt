@@ -3,12 +3,12 @@ use mathlib.Core.Path.{◌≡◌, refl, sym, ap, ◌∙◌}
 use mathlib.Core.Logic.{inl}
 use Prim.Native.Nat.{ℕ, ◌*◌}
 use native.Mathlib.Omega.{arith}
-use Rattle.sheet_rules.specs.Blocks.{sheetOf}
-use Rattle.relational.specs.Matrices.{setOf}
-use Rattle.relational.specs.Evaluation.{flagAt}
+use Rattle.sheet_rules.specs.Blocks.{sheet_of}
+use Rattle.relational.specs.Matrices.{set_of}
+use Rattle.relational.specs.Evaluation.{flag_at}
 use Rattle.cells.proofs.Layouts.{sort-low}
 use Rattle.cells.proofs.Members.{bounded-atoms, full-atoms}
-use Rattle.instance_matrix.specs.Values.{flagsFrom}
+use Rattle.instance_matrix.specs.Values.{flags_from}
 use Rattle.instance_matrix.proofs.Results.{gives_as}
 use borrow.Author.Rules.{rules}
 use Rattle.instance_evaluation.proofs.members.atoms.Statement.{statement}
@@ -46,14 +46,14 @@ given-requires c κs =
 returns : tie.Need-returns
 returns c env =
     let s = c.before.before.before.before.before.before.before in
-    let sheet = sheetOf s.args.sheet.now in
+    let sheet = sheet_of s.args.sheet.now in
     let instance = s.args.instance.now in
     let n = c.before.before.before.before.scope in
     let first = c.before.first_member in
     let one : 1 * n.result ≡ n.result = omega arith in
     gives_as _ _ _
-    (ap (λ (m : ℕ). setOf n.result (flagsFrom instance first.result m)) one
-    ∙ bounded-atoms sheet (flagAt sheet instance) (λ b. b) s.args.sort env n.ensures.0 first.ensures.0
+    (ap (λ (m : ℕ). set_of n.result (flags_from instance first.result m)) one
+    ∙ bounded-atoms sheet (flag_at sheet instance) (λ b. b) s.args.sort env n.ensures.0 first.ensures.0
     (sym c.before.before.before.is-bounded.ensures ∙ c.before.before.if1.true))
     c.given.ensures
 
@@ -63,9 +63,9 @@ full-requires c κs = search rules
 returns-2 : tie.Need-returns-2
 returns-2 c env =
     let s = c.before.before.before.before.before.before in
-    let sheet = sheetOf s.args.sheet.now in
+    let sheet = sheet_of s.args.sheet.now in
     gives_as _ _ _
-    (full-atoms sheet (flagAt sheet s.args.instance.now) (λ b. b) s.args.sort env
+    (full-atoms sheet (flag_at sheet s.args.instance.now) (λ b. b) s.args.sort env
     c.before.before.before.scope.ensures.0
     (sym c.before.before.is-bounded.ensures ∙ c.before.if1.false))
     c.full.ensures

@@ -3,8 +3,8 @@ use mathlib.Core.Path.{sym, ap, ◌∙◌}
 use Prim.Native.Nat.{ℕ, ◌+◌}
 use native.Mathlib.Omega.{arith}
 use lib.Dec.{eqb}
-use Rattle.sheet_rules.specs.Blocks.{byte, sheetOf}
-use Rattle.relational.specs.Evaluation.{flagAt}
+use Rattle.sheet_rules.specs.Blocks.{byte, sheet_of}
+use Rattle.relational.specs.Evaluation.{flag_at}
 use Rattle.cells.proofs.Layouts.{sort-low}
 use Rattle.cells.proofs.Members.{bounded-member, full-member}
 use borrow.Author.Rules.{rules}
@@ -38,18 +38,18 @@ byte-requires c κs = search rules
 returns : tie.Need-returns
 returns c =
     let s = c.before.before.before.before.before.before in
-    let sheet = sheetOf s.args.sheet.now in
+    let sheet = sheet_of s.args.sheet.now in
     let instance = s.args.instance.now in
     let first = c.before.first_member.ensures.0 in
     ap (λ (b : ℕ). eqb b 1) (c.byte.ensures.0 ∙ ap (λ (n : ℕ). byte instance (n + s.args.i)) first)
-    ∙ bounded-member sheet (flagAt sheet instance) (λ b. b) s.args.sort s.args.i
+    ∙ bounded-member sheet (flag_at sheet instance) (λ b. b) s.args.sort s.args.i
     (sym c.before.before.before.is-bounded.ensures ∙ c.before.before.if1.true)
 
 returns-2 : tie.Need-returns-2
 returns-2 c =
     let s = c.before.before.before.before in
-    let sheet = sheetOf s.args.sheet.now in
-    full-member sheet (flagAt sheet s.args.instance.now) (λ b. b) s.args.sort s.args.i
+    let sheet = sheet_of s.args.sheet.now in
+    full-member sheet (flag_at sheet s.args.instance.now) (λ b. b) s.args.sort s.args.i
     (sym c.before.is-bounded.ensures ∙ c.if1.false)
 
 pub is-member-spec : {M : Type 1} → statement M

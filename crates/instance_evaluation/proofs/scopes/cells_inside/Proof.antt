@@ -4,17 +4,17 @@ use mathlib.Core.Path.{◌≡◌, ap, ◌∙◌}
 use Prim.Native.Nat.{ℕ, ◌≤◌, ◌-◌}
 use native.Mathlib.Omega.{arith}
 use Rattle.prelude.specs.Tests.{each}
-use Rattle.sheet_rules.specs.Blocks.{sheetOf, relationCount}
+use Rattle.sheet_rules.specs.Blocks.{sheet_of, relation_count}
 use Rattle.sheet.proofs.Loops.{each_none, each_more}
-use Rattle.relational.specs.Evaluation.{cellsInside}
+use Rattle.relational.specs.Evaluation.{cells_inside}
 use Rattle.cells.proofs.Parts.{relations-counted}
-use Rattle.instance_evaluation.specs.Walking.{relationInside}
+use Rattle.instance_evaluation.specs.Walking.{relation_inside}
 use Rattle.instance_evaluation.proofs.scopes.cells_inside.Statement.{statement}
 use Rattle.instance_evaluation.proofs.scopes.cells_inside.Tie as tie
 
 abbrev invariant-loop : tie.invariant-loop
 invariant-loop sheet layout instance starts count fine₀ r₀ fine r = (r ≤ count) ×
-    (fine ≡ each r (relationInside (sheetOf sheet) instance))
+    (fine ≡ each r (relation_inside (sheet_of sheet) instance))
 
 abbrev decreases-loop : tie.decreases-loop
 decreases-loop sheet layout instance starts count fine₀ r₀ fine r = count - r
@@ -45,18 +45,18 @@ loop-again c =
     )
 
 returns : tie.Need-returns invariant-loop decreases-loop
-unfolding cellsInside
+unfolding cells_inside
 returns c =
     let s = c.before.before.before.before.before.before in
     let l = c.before.loop in
-    let sheet = sheetOf s.args.sheet.now in
-    let k : l.r ≡ relationCount sheet = omega (
+    let sheet = sheet_of s.args.sheet.now in
+    let k : l.r ≡ relation_count sheet = omega (
       arith,
       relations-counted _ _ s.requires.taken,
       l.invariant.0,
       c.loop-test.false,
     ) in
-    l.invariant.1 ∙ ap (λ (n : ℕ). each n (relationInside sheet s.args.instance.now)) k
+    l.invariant.1 ∙ ap (λ (n : ℕ). each n (relation_inside sheet s.args.instance.now)) k
 
 pub cells-inside-spec : {M : Type 1} → statement M
 cells-inside-spec =

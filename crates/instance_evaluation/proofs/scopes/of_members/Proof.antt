@@ -1,5 +1,5 @@
 -- A cell of a set, and a cell of a relation.
-use Rattle.sheet_rules.specs.Blocks.{sheetOf}
+use Rattle.sheet_rules.specs.Blocks.{sheet_of}
 use Rattle.cells.proofs.Layouts.{set_is, relation-is}
 use borrow.Author.Rules.{rules}
 use Rattle.instance_evaluation.proofs.scopes.of_members.Statement.{statement}
@@ -18,8 +18,8 @@ returns : tie.Need-returns
 returns c =
     let s = c.before.before.before.before.before.before in
     rw (
-      set_is (sheetOf s.args.sheet.now) s.args.r c.before.before.arity.ensures c.before.if1.true,
-      ← c.before.before.before.first-sort.ensures,
+      set_is (sheet_of s.args.sheet.now) s.args.r c.before.before.arity.ensures c.before.if1.true,
+      ← c.before.before.before.first_sort_ok.ensures,
     )
     c.is_member.ensures
 
@@ -39,10 +39,10 @@ returns-2 : tie.Need-returns-2
 returns-2 c =
     let s = c.before.before.before.before.before.before.before.before.before in
     rw (
-      relation-is (sheetOf s.args.sheet.now) s.args.r
+      relation-is (sheet_of s.args.sheet.now) s.args.r
           c.before.before.before.before.before.arity.ensures c.before.before.before.before.if1.false,
-      ← c.before.before.before.before.before.before.first-sort.ensures,
-      ← c.before.before.before.second-sort.ensures,
+      ← c.before.before.before.before.before.before.first_sort_ok.ensures,
+      ← c.before.before.before.second_sort_ok.ensures,
       ← c.before.before.is-member2.ensures,
       ← c.before.is-member3.ensures,
     )

@@ -5,18 +5,18 @@ use mathlib.Core.List.{List}
 use Prim.Native.Nat.{ℕ}
 use native.Mathlib.Omega.{arith}
 use Rattle.prelude.proofs.Laws.{or_right, each_of}
-use Rattle.sheet_rules.specs.Blocks.{Sheet, sheetOf, isBounded, firstSort, secondSort}
-use Rattle.relational.specs.Cells.{is_set, rowCount, rowLength, cell}
-use Rattle.relational.specs.Evaluation.{flagAt, cellInside}
+use Rattle.sheet_rules.specs.Blocks.{Sheet, sheet_of, is_bounded, first_sort, second_sort}
+use Rattle.relational.specs.Cells.{is_set, row_count, row_length, cell}
+use Rattle.relational.specs.Evaluation.{flag_at, cell_inside}
 use Rattle.cells.proofs.Members.{full-first, full-second}
 use borrow.Author.Rules.{rules}
-use Rattle.instance_evaluation.specs.Walking.{of_members, rowInside, relationInside}
+use Rattle.instance_evaluation.specs.Walking.{of_members, row_inside, relation_inside}
 use Rattle.instance_evaluation.proofs.Layouts.{few}
 use Rattle.instance_evaluation.proofs.scopes.relation_inside.Statement.{statement}
 use Rattle.instance_evaluation.proofs.scopes.relation_inside.Tie as tie
 
-module _ (sheet : Sheet) (instance : List ℕ) (r : ℕ) (e : isBounded sheet (firstSort sheet r) ≡ false)
-    (f : isBounded sheet (secondSort sheet r) ≡ false) where
+module _ (sheet : Sheet) (instance : List ℕ) (r : ℕ) (e : is_bounded sheet (first_sort sheet r) ≡ false)
+    (f : is_bounded sheet (second_sort sheet r) ≡ false) where
   either_way : (b : Bool) → cond b true true ≡ true
   either_way true = refl
   either_way false = refl
@@ -24,11 +24,11 @@ module _ (sheet : Sheet) (instance : List ℕ) (r : ℕ) (e : isBounded sheet (f
   all-members : (i j : ℕ) → of_members sheet instance r i j ≡ true
   all-members i j = rw (e, f) (either_way (is_set sheet r))
 
-  full-inside : relationInside sheet instance r ≡ true
+  full-inside : relation_inside sheet instance r ≡ true
   full-inside =
-      each_of (rowInside sheet instance r) (rowCount sheet r) λ i _.
-      each_of (cellInside sheet instance r i) (rowLength sheet r) λ j _.
-      or_right (not (flagAt sheet instance (cell sheet r i j))) (of_members sheet instance r i j) (all-members i j)
+      each_of (row_inside sheet instance r) (row_count sheet r) λ i _.
+      each_of (cell_inside sheet instance r i) (row_length sheet r) λ j _.
+      or_right (not (flag_at sheet instance (cell sheet r i j))) (of_members sheet instance r i j) (all-members i j)
 
 over-bounded-requires : tie.Need-over-bounded-requires
 over-bounded-requires c κs = let s = c.before.before.before in
@@ -43,7 +43,7 @@ returns c = search rules
 returns-2 : tie.Need-returns-2
 returns-2 c =
     let a = c.before.before.before.before.before.args in
-    let sheet = sheetOf a.sheet.now in
+    let sheet = sheet_of a.sheet.now in
     let e = c.before.over-bounded.ensures in
     sym (full-inside sheet a.instance.now a.r (full-first sheet a.r e c.if1.false)
     (full-second sheet a.r e c.if1.false))

@@ -5,17 +5,17 @@ use Prim.Native.Nat.{ℕ, ◌+◌, ◌≤◌, ◌-◌}
 use native.Mathlib.Omega.{arith}
 use lib.Dec.{eqb}
 use Rattle.prelude.specs.Tests.{each}
-use Rattle.sheet_rules.specs.Blocks.{byte, sheetOf}
+use Rattle.sheet_rules.specs.Blocks.{byte, sheet_of}
 use Rattle.sheet.proofs.Loops.{each_none, each_more}
 use Rattle.relational.specs.Cells.{cell}
-use Rattle.relational.specs.Evaluation.{implies, cellInside}
+use Rattle.relational.specs.Evaluation.{implies, cell_inside}
 use borrow.Author.Rules.{rules}
 use Rattle.instance_evaluation.proofs.scopes.row_inside.Statement.{statement}
 use Rattle.instance_evaluation.proofs.scopes.row_inside.Tie as tie
 
 abbrev invariant-loop : tie.invariant-loop
 invariant-loop sheet layout instance r i first columns fine₀ j₀ fine j = (j ≤ columns) ×
-    (fine ≡ each j (cellInside (sheetOf sheet) instance r i))
+    (fine ≡ each j (cell_inside (sheet_of sheet) instance r i))
 
 abbrev decreases-loop : tie.decreases-loop
 decreases-loop sheet layout instance r i first columns fine₀ j₀ fine j = columns - j
@@ -69,7 +69,7 @@ loop-less c = search rules
 loop-again : tie.Need-loop-preserved invariant-loop decreases-loop
 loop-again c =
     let s = c.before.before.before.before.before.before.before.before.before in
-    let sheet = sheetOf s.args.sheet.now in
+    let sheet = sheet_of s.args.sheet.now in
     let instance = s.args.instance.now in
     let l = c.before.before.before.before.before.loop in
     let place : s.args.first + l.j ≡ cell sheet s.args.r s.args.i l.j = omega (arith, s.requires.1.1) in
@@ -84,7 +84,7 @@ returns c =
     let l = c.before.loop in
     let k : l.j ≡ c.before.before.row-length.result = omega arith in
     l.invariant.1
-    ∙ ap (λ (n : ℕ). each n (cellInside (sheetOf s.args.sheet.now) s.args.instance.now s.args.r
+    ∙ ap (λ (n : ℕ). each n (cell_inside (sheet_of s.args.sheet.now) s.args.instance.now s.args.r
     s.args.i))
     (k ∙ c.before.before.row-length.ensures.0)
 

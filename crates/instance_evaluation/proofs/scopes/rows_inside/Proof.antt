@@ -5,16 +5,16 @@ use Prim.Native.Nat.{ℕ, ◌≤◌, ◌<◌, ◌-◌, ◌*◌}
 use native.Mathlib.Nat.{mul-le-mul}
 use native.Mathlib.Omega.{arith}
 use Rattle.prelude.specs.Tests.{each}
-use Rattle.sheet_rules.specs.Blocks.{sheetOf}
+use Rattle.sheet_rules.specs.Blocks.{sheet_of}
 use Rattle.sheet.proofs.Loops.{each_none, each_more}
-use Rattle.instance_evaluation.specs.Walking.{rowInside}
+use Rattle.instance_evaluation.specs.Walking.{row_inside}
 use Rattle.instance_evaluation.proofs.Layouts.{low, few, first-few, row-start}
 use Rattle.instance_evaluation.proofs.scopes.rows_inside.Statement.{statement}
 use Rattle.instance_evaluation.proofs.scopes.rows_inside.Tie as tie
 
 abbrev invariant-loop : tie.invariant-loop
 invariant-loop sheet layout instance starts r first rows columns fine₀ i₀ fine i =
-    (i ≤ rows) × (fine ≡ each i (rowInside (sheetOf sheet) instance r))
+    (i ≤ rows) × (fine ≡ each i (row_inside (sheet_of sheet) instance r))
 
 abbrev decreases-loop : tie.decreases-loop
 decreases-loop sheet layout instance starts r first rows columns fine₀ i₀ fine i = rows - i
@@ -68,7 +68,7 @@ row-inside-requires c κs =
       s.requires.0.taken,
       (
         (omega (arith, few s.requires.0 s.requires.1), (row, omega (arith, inside c, first-few s.requires.0 s.requires.1))),
-        row-start (sheetOf s.args.sheet.now) r c.before.loop.i (s.requires.0.cells.first r s.requires.1)
+        row-start (sheet_of s.args.sheet.now) r c.before.loop.i (s.requires.0.cells.first r s.requires.1)
             c.before.before.row-length.ensures.0,
       ),
     )
@@ -96,7 +96,7 @@ returns c =
     let l = c.before.loop in
     let k : l.i ≡ c.before.before.before.row_count.result = omega arith in
     l.invariant.1
-    ∙ ap (λ (n : ℕ). each n (rowInside (sheetOf s.args.sheet.now) s.args.instance.now s.args.r))
+    ∙ ap (λ (n : ℕ). each n (row_inside (sheet_of s.args.sheet.now) s.args.instance.now s.args.r))
     (k ∙ c.before.before.before.row_count.ensures.0)
 
 pub rows-inside-spec : {M : Type 1} → statement M

@@ -7,17 +7,17 @@ use mathlib.Core.Bool.{Bool}
 use mathlib.Core.List.{map}
 use Prim.Native.Nat.{ℕ, ◌+◌, ◌*◌, ◌-◌, ◌≤◌, ◌<◌}
 use native.Mathlib.Omega.{arith}
-use Rattle.sheet_rules.specs.Blocks.{sheetOf}
-use Rattle.relational.specs.Matrices.{setOf, upto}
+use Rattle.sheet_rules.specs.Blocks.{sheet_of}
+use Rattle.relational.specs.Matrices.{set_of, upto}
 use Rattle.relational.specs.Meaning.{bind}
 use Rattle.instance_matrix.proofs.Filling.{Filled, filled_none, filled_more}
 use Rattle.instance_matrix.proofs.Results.{gives_as, upto-law}
 use Rattle.nodes.specs.Environments.{environment}
-use Rattle.nodes.specs.Nodes.{treeAt, IsExpression, IsFormula}
+use Rattle.nodes.specs.Nodes.{tree_at, IsExpression, IsFormula}
 use Rattle.nodes.proofs.Views.{expression-low, formula-low, Reached}
 use Rattle.nodes.proofs.ExpressionViews.{at_leaf, at-binary, at-unary, at-comprehension}
 use Rattle.nodes.proofs.FormulaViews.{at-comparison, at_test, at-negation, at-connective, at-quantifier}
-use Rattle.instance_evaluation.specs.Walking.{truthInTree}
+use Rattle.instance_evaluation.specs.Walking.{truth_in_tree}
 use Rattle.instance_evaluation.proofs.Layouts.{facts-of}
 use Rattle.instance_evaluation.proofs.Steps.{leaf-value, binary-value, unary-value, comprehension-value}
 use Rattle.instance_evaluation.proofs.Steps.{comparison-truth, test-truth, negation-truth, connective-truth, quantifier-truth}
@@ -129,7 +129,7 @@ abbrev expression-start : (t : ℕ) → expression-lts.After-read-node (expressi
 expression-start t n = n.before.before.before.before
 
 expression-node : (t : ℕ) (n : expression-lts.After-read-node (expression-calls t) (expression-at t) expression.Post)
-    → Reached (sheetOf (expression-start t n).args.sheet.now) (expression-start t n).args.at n.read-node.result IsExpression
+    → Reached (sheet_of (expression-start t n).args.sheet.now) (expression-start t n).args.at n.read-node.result IsExpression
 expression-node t n =
     let h = (expression-start t n).requires.1 in
     record { facts = facts-of h.0; read = n.read-node.ensures.0; tree = h.1 }
@@ -162,14 +162,14 @@ expression-expression-requires : (t : ℕ) → expression-lts.Need-expression-re
 expression-expression-requires t c κs =
     let n = c.before.before in
     let b = at-binary (expression-node t n) c.enum-told2.given.1 in
-    (omega (arith, b.lower-a, (expression-start t n).requires.0), ((expression-start t n).requires.1.0, b.left))
+    (omega (arith, b.lower_a, (expression-start t n).requires.0), ((expression-start t n).requires.1.0, b.left))
 
 expression-expression-requires-2 : (t : ℕ)
     → expression-lts.Need-expression-requires-2 (expression-calls t) (expression-at t) expression.Post
 expression-expression-requires-2 t c κs =
     let n = c.before.before.before in
     let b = at-binary (expression-node t n) c.before.enum-told2.given.1 in
-    (omega (arith, b.lower-b, (expression-start t n).requires.0), ((expression-start t n).requires.1.0, b.right))
+    (omega (arith, b.lower_b, (expression-start t n).requires.0), ((expression-start t n).requires.1.0, b.right))
 
 expression-binary-requires : (t : ℕ) → expression-lts.Need-binary-requires (expression-calls t) (expression-at t) expression.Post
 expression-binary-requires t c κs = (c.before.expression.ensures.fine, c.expression2.ensures.fine)
@@ -191,7 +191,7 @@ expression-expression-requires-3 : (t : ℕ)
 expression-expression-requires-3 t c κs =
     let n = c.before.before in
     let b = at-unary (expression-node t n) c.enum-told3.given.1 in
-    (omega (arith, b.lower-a, (expression-start t n).requires.0), ((expression-start t n).requires.1.0, b.left))
+    (omega (arith, b.lower_a, (expression-start t n).requires.0), ((expression-start t n).requires.1.0, b.left))
 
 expression-unary-requires : (t : ℕ) → expression-lts.Need-unary-requires (expression-calls t) (expression-at t) expression.Post
 expression-unary-requires t c κs = c.expression3.ensures.fine
@@ -210,7 +210,7 @@ expression-bodies-requires : (t : ℕ) → expression-lts.Need-bodies-requires (
 expression-bodies-requires t c κs =
     let n = c.before.before in
     let b = at-comprehension (expression-node t n) c.enum-told4.given.1 in
-    (omega (arith, b.lower-b, (expression-start t n).requires.0), ((expression-start t n).requires.1.0, (b.body, b.names)))
+    (omega (arith, b.lower_b, (expression-start t n).requires.0), ((expression-start t n).requires.1.0, (b.body, b.names)))
 
 expression-comprehend-requires : (t : ℕ)
     → expression-lts.Need-comprehend-requires (expression-calls t) (expression-at t) expression.Post
@@ -231,7 +231,7 @@ abbrev formula-start : (t : ℕ) → formula-lts.After-read-node (formula-calls 
 formula-start t n = n.before.before.before.before
 
 formula-node : (t : ℕ) (n : formula-lts.After-read-node (formula-calls t) (formula-at t) formula.Post)
-    → Reached (sheetOf (formula-start t n).args.sheet.now) (formula-start t n).args.at n.read-node.result IsFormula
+    → Reached (sheet_of (formula-start t n).args.sheet.now) (formula-start t n).args.at n.read-node.result IsFormula
 formula-node t n =
     let h = (formula-start t n).requires.1 in
     record { facts = facts-of h.0; read = n.read-node.ensures.0; tree = h.1 }
@@ -249,13 +249,13 @@ formula-expression-requires : (t : ℕ) → formula-lts.Need-expression-requires
 formula-expression-requires t c κs =
     let n = c.before.before in
     let b = at-comparison (formula-node t n) c.enum_told.given.1 in
-    (omega (arith, b.lower-a, (formula-start t n).requires.0), ((formula-start t n).requires.1.0, b.left))
+    (omega (arith, b.lower_a, (formula-start t n).requires.0), ((formula-start t n).requires.1.0, b.left))
 
 formula-expression-requires-2 : (t : ℕ) → formula-lts.Need-expression-requires-2 (formula-calls t) (formula-at t) formula.Post
 formula-expression-requires-2 t c κs =
     let n = c.before.before.before in
     let b = at-comparison (formula-node t n) c.before.enum_told.given.1 in
-    (omega (arith, b.lower-b, (formula-start t n).requires.0), ((formula-start t n).requires.1.0, b.right))
+    (omega (arith, b.lower_b, (formula-start t n).requires.0), ((formula-start t n).requires.1.0, b.right))
 
 formula-compare-requires : (t : ℕ) → formula-lts.Need-compare-requires (formula-calls t) (formula-at t) formula.Post
 formula-compare-requires t c κs = (c.before.expression.ensures.fine, c.expression2.ensures.fine)
@@ -276,7 +276,7 @@ formula-expression-requires-3 : (t : ℕ) → formula-lts.Need-expression-requir
 formula-expression-requires-3 t c κs =
     let n = c.before.before in
     let b = at_test (formula-node t n) c.enum-told2.given.1 in
-    (omega (arith, b.lower-a, (formula-start t n).requires.0), ((formula-start t n).requires.1.0, b.left))
+    (omega (arith, b.lower_a, (formula-start t n).requires.0), ((formula-start t n).requires.1.0, b.left))
 
 formula-test-requires : (t : ℕ) → formula-lts.Need-test-requires (formula-calls t) (formula-at t) formula.Post
 formula-test-requires t c κs = c.expression3.ensures.fine
@@ -295,7 +295,7 @@ formula-formula-requires : (t : ℕ) → formula-lts.Need-formula-requires (form
 formula-formula-requires t c κs =
     let n = c.before.before in
     let b = at-negation (formula-node t n) c.enum-told3.given.1 in
-    (omega (arith, b.lower-a, (formula-start t n).requires.0), ((formula-start t n).requires.1.0, b.left))
+    (omega (arith, b.lower_a, (formula-start t n).requires.0), ((formula-start t n).requires.1.0, b.left))
 
 formula-returns-3 : (t : ℕ) → formula-lts.Need-returns-3 (formula-calls t) (formula-at t) formula.Post
 formula-returns-3 t c =
@@ -310,13 +310,13 @@ formula-formula-requires-2 : (t : ℕ) → formula-lts.Need-formula-requires-2 (
 formula-formula-requires-2 t c κs =
     let n = c.before.before in
     let b = at-connective (formula-node t n) c.enum-told4.given.1 in
-    (omega (arith, b.lower-a, (formula-start t n).requires.0), ((formula-start t n).requires.1.0, b.left))
+    (omega (arith, b.lower_a, (formula-start t n).requires.0), ((formula-start t n).requires.1.0, b.left))
 
 formula-formula-requires-3 : (t : ℕ) → formula-lts.Need-formula-requires-3 (formula-calls t) (formula-at t) formula.Post
 formula-formula-requires-3 t c κs =
     let n = c.before.before.before in
     let b = at-connective (formula-node t n) c.before.enum-told4.given.1 in
-    (omega (arith, b.lower-b, (formula-start t n).requires.0), ((formula-start t n).requires.1.0, b.right))
+    (omega (arith, b.lower_b, (formula-start t n).requires.0), ((formula-start t n).requires.1.0, b.right))
 
 formula-connect-requires : (t : ℕ) → formula-lts.Need-connect-requires (formula-calls t) (formula-at t) formula.Post
 formula-connect-requires t c κs = search rules
@@ -337,7 +337,7 @@ formula-bodies-requires : (t : ℕ) → formula-lts.Need-bodies-requires (formul
 formula-bodies-requires t c κs =
     let n = c.before.before in
     let b = at-quantifier (formula-node t n) c.enum-told5.given.1 in
-    (omega (arith, b.lower-b, (formula-start t n).requires.0), ((formula-start t n).requires.1.0, (b.body, b.names)))
+    (omega (arith, b.lower_b, (formula-start t n).requires.0), ((formula-start t n).requires.1.0, (b.body, b.names)))
 
 formula-quantify-over-requires : (t : ℕ)
     → formula-lts.Need-quantify-over-requires (formula-calls t) (formula-at t) formula.Post
@@ -355,7 +355,7 @@ formula-returns-5 t c =
 -- ---- 2.2.6: the bodies of a binder
 abbrev bodies-Inv-loop : bodies-lts.invariant-loop
 bodies-Inv-loop sheet layout instance starts env at x n cells₀ k₀ cells k =
-    (k ≤ n) × Filled cells (λ (j : ℕ). truthInTree (sheetOf sheet) instance (bind (environment env) x j) (treeAt (sheetOf sheet) at)) k
+    (k ≤ n) × Filled cells (λ (j : ℕ). truth_in_tree (sheet_of sheet) instance (bind (environment env) x j) (tree_at (sheet_of sheet) at)) k
 
 abbrev bodies-μ-loop : bodies-lts.decreases-loop
 bodies-μ-loop sheet layout instance starts env at x n cells₀ k₀ cells k = n - k
@@ -389,24 +389,24 @@ bodies-loop-less t c = omega arith
 bodies-loop-again : (t : ℕ) → bodies-lts.Need-loop-preserved (bodies-calls t) (bodies-at t) bodies.Post bodies-Inv-loop bodies-μ-loop
 bodies-loop-again t c =
     let s = c.before.before.before.before.before.before.before.before in
-    let sheet = sheetOf s.args.sheet.now in
+    let sheet = sheet_of s.args.sheet.now in
     let l = c.before.before.before.loop in (
       omega arith,
       filled_more l.cells _ l.k c.formula.result l.invariant.1
           (omega (arith, c.before.before.before.before.scope-of-variable.ensures.1))
           (c.formula.ensures
-          ∙ ap (λ e. truthInTree sheet s.args.instance.now e (treeAt sheet s.args.at)) c.before.bind.ensures),
+          ∙ ap (λ e. truth_in_tree sheet s.args.instance.now e (tree_at sheet s.args.at)) c.before.bind.ensures),
     )
 
 bodies-returns : (t : ℕ) → bodies-lts.Need-returns (bodies-calls t) (bodies-at t) bodies.Post bodies-Inv-loop bodies-μ-loop
 bodies-returns t c =
     let s = c.before.before.before.before.before.before in
-    let sheet = sheetOf s.args.sheet.now in
+    let sheet = sheet_of s.args.sheet.now in
     let n = c.before.before.scope-of-variable in
     let f : ℕ → Bool
-    = λ j. truthInTree sheet s.args.instance.now (bind (environment s.args.env) s.args.x j) (treeAt sheet s.args.at) in
+    = λ j. truth_in_tree sheet s.args.instance.now (bind (environment s.args.env) s.args.x j) (tree_at sheet s.args.at) in
     let l = c.before.loop in
-    gives_as _ _ _ (ap (λ (m : ℕ). setOf m (map f (upto m))) n.ensures.0)
+    gives_as _ _ _ (ap (λ (m : ℕ). set_of m (map f (upto m))) n.ensures.0)
     (upto-law n.result f l.cells l.k (omega arith) n.ensures.1 l.invariant.1)
 
 pub +bodies-expression-formula-spec : {M : Type 1} → statement M

@@ -48,7 +48,7 @@ element-copy-out-choose c =
       c.before.before.size.ensures.0,
       c.loop-test.true,
     )) in
-    omega (arith, l, s.requires.few-columns)
+    omega (arith, l, s.requires.few_columns)
 
 choose-requires : tie.Need-choose-requires invariant-loop decreases-loop
 choose-requires c κs = search rules

@@ -3,21 +3,21 @@ use borrow.Author.Rules.{rules}
 use mathlib.Core.Path.{◌≡◌, refl, sym, ap, ◌∙◌}
 use Prim.Native.Nat.{ℕ, ◌≤◌, ◌-◌}
 use native.Mathlib.Omega.{arith}
-use Rattle.relational.specs.Evaluation.{roundOf, afterRounds}
+use Rattle.relational.specs.Evaluation.{round_of, after_rounds}
 use native.Mathlib.Numerals.{add-one}
-use Rattle.instance_matrix.specs.Values.{matrixOf, Gives}
+use Rattle.instance_matrix.specs.Values.{matrix_of, Gives}
 use Rattle.instance_matrix.proofs.Results.{gives_as}
 use Rattle.instance_matrix.proofs.closures.closure.Statement.{statement}
 use Rattle.instance_matrix.proofs.closures.closure.Tie as tie
 
 abbrev invariant-loop : tie.invariant-loop
-invariant-loop n closed₀ k₀ closed k = (k ≤ n) × Gives closed (afterRounds k (matrixOf closed₀))
+invariant-loop n closed₀ k₀ closed k = (k ≤ n) × Gives closed (after_rounds k (matrix_of closed₀))
 
 abbrev decreases-loop : tie.decreases-loop
 decreases-loop n closed₀ k₀ closed k = n - k
 
 rounds-requires : tie.Need-rounds-requires invariant-loop decreases-loop
-rounds-requires c κs = c.requires.few-rows
+rounds-requires c κs = c.requires.few_rows
 
 loop-holds : tie.Need-loop-init invariant-loop decreases-loop
 loop-holds c = (omega arith, record { fine = c.before.requires; is = refl })
@@ -34,18 +34,18 @@ loop-less c = search rules
 loop-again : tie.Need-loop-preserved invariant-loop decreases-loop
 loop-again c =
     let l = c.before.before.loop in
-    let p = matrixOf c.before.before.before.before.args.p in (
+    let p = matrix_of c.before.before.before.before.args.p in (
       omega arith,
-      gives_as c.round.result _ _ (ap roundOf l.invariant.1.is ∙ ap (λ (n : ℕ). afterRounds n p) (sym (add-one l.k)))
+      gives_as c.round.result _ _ (ap round_of l.invariant.1.is ∙ ap (λ (n : ℕ). after_rounds n p) (sym (add-one l.k)))
           c.round.ensures,
     )
 
 returns : tie.Need-returns invariant-loop decreases-loop
 returns c =
     let l = c.before.loop in
-    let p = matrixOf c.before.before.before.args.p in
+    let p = matrix_of c.before.before.before.args.p in
     let k : l.k ≡ c.before.before.rounds.result = omega arith in
-    gives_as l.closed _ _ (ap (λ (n : ℕ). afterRounds n p) (k ∙ c.before.before.rounds.ensures)) l.invariant.1
+    gives_as l.closed _ _ (ap (λ (n : ℕ). after_rounds n p) (k ∙ c.before.before.rounds.ensures)) l.invariant.1
 
 pub closure-spec : {M : Type 1} → statement M
 closure-spec =

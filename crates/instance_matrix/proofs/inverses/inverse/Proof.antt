@@ -18,7 +18,7 @@ abbrev decreases-loop : tie.decreases-loop
 decreases-loop p n cells₀ k₀ cells k = n - k
 
 size-requires : tie.Need-size-requires invariant-loop decreases-loop
-size-requires c κs = (c.requires.few-columns, c.requires.few-rows)
+size-requires c κs = (c.requires.few_columns, c.requires.few_rows)
 
 loop-holds : tie.Need-loop-init invariant-loop decreases-loop
 loop-holds c = (omega arith, filled_none _)
@@ -44,8 +44,8 @@ index-requires c κs =
     let a = c.before.before.before in
     let k = c.before.loop.k in
     let h : k < a.args.t1.columns * a.args.t1.rows = omega (arith, c.before.before.size.ensures.0) in (
-      omega (arith, column-below a.args.t1.columns a.args.t1.rows k h, a.requires.few-rows),
-      (a.requires.few-columns, row_below a.args.t1.columns a.args.t1.rows k h),
+      omega (arith, column-below a.args.t1.columns a.args.t1.rows k h, a.requires.few_rows),
+      (a.requires.few_columns, row_below a.args.t1.columns a.args.t1.rows k h),
     )
 
 element-copy-out-cells : tie.Need-element-copy-out-cells invariant-loop decreases-loop

@@ -7,7 +7,7 @@ use mathlib.Core.Bool.{false}
 use Rattle.prelude.specs.Tests.{any}
 use Rattle.relational.specs.Matrices.{middles}
 use Rattle.relational.specs.Evaluation.{both}
-use Rattle.instance_matrix.specs.Values.{matrixOf}
+use Rattle.instance_matrix.specs.Values.{matrix_of}
 use Rattle.instance_matrix.proofs.Filling.{Filled, filled_none, filled_more}
 use Rattle.relational.proofs.Places.{row_below, column-below, some-column}
 use Rattle.instance_matrix.proofs.Results.{join-law}
@@ -17,7 +17,7 @@ use Rattle.instance_matrix.proofs.joins.join.Tie as tie
 
 abbrev invariant-loop : tie.invariant-loop
 invariant-loop p q columns n cells₀ k₀ cells k =
-    (k ≤ n) × Filled cells (λ j. any both (middles false (matrixOf p) (matrixOf q) (j / columns, j % columns))) k
+    (k ≤ n) × Filled cells (λ j. any both (middles false (matrix_of p) (matrix_of q) (j / columns, j % columns))) k
 
 abbrev decreases-loop : tie.decreases-loop
 decreases-loop p q columns n cells₀ k₀ cells k = n - k
@@ -26,7 +26,7 @@ join-columns-requires : tie.Need-join-columns-requires invariant-loop decreases-
 join-columns-requires c κs = search rules
 
 size-requires : tie.Need-size-requires invariant-loop decreases-loop
-size-requires c κs = (c.before.requires.0.few-rows, c.join-columns.ensures.1)
+size-requires c κs = (c.before.requires.0.few_rows, c.join-columns.ensures.1)
 
 loop-holds : tie.Need-loop-init invariant-loop decreases-loop
 loop-holds c = (omega arith, filled_none _)
@@ -61,7 +61,7 @@ join-cell-requires c κs =
           (
             w.ensures.1,
             (
-              omega (arith, row_below a.args.p.rows w.result k h, a.requires.0.few-rows),
+              omega (arith, row_below a.args.p.rows w.result k h, a.requires.0.few_rows),
               column-below a.args.p.rows w.result k h,
             ),
           ),

@@ -28,10 +28,10 @@ loop-holds : tie.Need-loop-init invariant-loop decreases-loop
 loop-holds c = (omega arith, any_none both)
 
 index-requires : tie.Need-index-requires invariant-loop decreases-loop
-index-requires c κs = omega (arith, c.before.before.requires.0.few-columns, c.before.before.requires.1.1)
+index-requires c κs = omega (arith, c.before.before.requires.0.few_columns, c.before.before.requires.1.1)
 
 index-requires-2 : tie.Need-index-requires-2 invariant-loop decreases-loop
-index-requires-2 c κs = omega (arith, c.before.before.before.requires.0.few-columns, c.before.before.before.requires.1.1)
+index-requires-2 c κs = omega (arith, c.before.before.before.requires.0.few_columns, c.before.before.before.requires.1.1)
 
 element-copy-out-both : tie.Need-element-copy-out-both invariant-loop decreases-loop
 element-copy-out-both c = search rules

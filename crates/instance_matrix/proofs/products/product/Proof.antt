@@ -19,7 +19,7 @@ abbrev decreases-loop : tie.decreases-loop
 decreases-loop p q n cells₀ k₀ cells k = n - k
 
 size-requires : tie.Need-size-requires invariant-loop decreases-loop
-size-requires c κs = (c.requires.0.few-columns, c.requires.1.few-columns)
+size-requires c κs = (c.requires.0.few_columns, c.requires.1.few_columns)
 
 loop-holds : tie.Need-loop-init invariant-loop decreases-loop
 loop-holds c = (omega arith, filled_none _)
@@ -46,7 +46,7 @@ element-copy-out-both c =
     omega (
       arith,
       row_below a.args.t1.columns a.args.t2.columns c.before.loop.k (omega (arith, c.before.before.size.ensures.0)),
-      a.requires.0.few-columns,
+      a.requires.0.few_columns,
     )
 
 element-copy-out-both-2 : tie.Need-element-copy-out-both-2 invariant-loop decreases-loop
@@ -56,7 +56,7 @@ element-copy-out-both-2 c =
       arith,
       column-below a.args.t1.columns a.args.t2.columns c.before.before.loop.k
           (omega (arith, c.before.before.before.size.ensures.0)),
-      a.requires.1.few-columns,
+      a.requires.1.few_columns,
     )
 
 both-requires : tie.Need-both-requires invariant-loop decreases-loop

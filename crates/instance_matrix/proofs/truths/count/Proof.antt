@@ -16,7 +16,7 @@ abbrev decreases-loop : tie.decreases-loop
 decreases-loop p n total₀ k₀ total k = n - k
 
 size-requires : tie.Need-size-requires invariant-loop decreases-loop
-size-requires c κs = (c.requires.few-rows, c.requires.few-columns)
+size-requires c κs = (c.requires.few_rows, c.requires.few_columns)
 
 loop-holds : tie.Need-loop-init invariant-loop decreases-loop
 loop-holds c = (omega arith, (omega arith, refl))

@@ -1,7 +1,7 @@
 -- `take_up` meets its contract: counting does not refuse a sheet of which a call was spent, and what follows is for its numbers.
 use borrow.Author.Rules.{rules}
 use Rattle.solve.proofs.ReadBacks.{count-refused, count-sized}
-use Rattle.onward.proofs.TakenUp.{not-refused}
+use Rattle.onward.proofs.TakenUp.{not_refused}
 use Rattle.onward.proofs.begun.take_up.Statement.{statement}
 use Rattle.onward.proofs.begun.take_up.Tie as tie
 
@@ -24,7 +24,7 @@ returns : tie.Need-returns
 returns c lent b =
     let s = c.before.before.before.before.before.before.before in
     absurd
-    (not-refused s.args.sheet.now lent _ b _
+    (not_refused s.args.sheet.now lent _ b _
     (count-refused s.args.sheet.now _ _ c.before.before.before.count.ensures c.before.counted.given.1))
 
 same_length : tie.Need-same-length

@@ -1,7 +1,7 @@
 -- `go_on` meets its contract. The invariant: the calls made so far, with any that take up what they left, are a chain from the start.
 use mathlib.Core.Path.{sym, ◌∙◌, ap}
 use borrow.Author.Rules.{rules}
-use Rattle.search.specs.Answers.{answer_of, stepsIn}
+use Rattle.search.specs.Answers.{answer_of, steps_in}
 use Rattle.search.proofs.Counters.{resumed-few}
 use Rattle.search.proofs.AnswerTests.{not-spent}
 use Rattle.onward.proofs.CallByCall.{Loop, begins, ended, goes_on, at-end}
@@ -30,7 +30,7 @@ step-figure-requires c κs =
     let l = k.before.before.before.before.loop in
     let s = k.before.before.before.before.before.before in
     resumed-few s.args.list.now s.args.v l.values l.trail l.position 1000000 _
-    (sym (ap (λ r. stepsIn r.outcome.answer) k.resumed.ensures) ∙ ap (λ a. stepsIn (answer_of a)) c.before.before.answer.given.1)
+    (sym (ap (λ r. steps_in r.outcome.answer) k.resumed.ensures) ∙ ap (λ a. steps_in (answer_of a)) c.before.before.answer.given.1)
 
 show-requires : tie.Need-show-requires invariant-loop decreases-loop
 show-requires c κs = search rules

@@ -2,7 +2,7 @@
 use native.Mathlib.Omega.{arith}
 use borrow.Author.Rules.{rules}
 use Rattle.solve_rules.specs.Finding.{Slices, slices}
-use Rattle.report.specs.Printed.{finderBudget}
+use Rattle.report.specs.Printed.{finder_budget}
 use Rattle.report.proofs.Printing.{reportable, long-input, short-input}
 use Rattle.report.proofs.finder.find_text.Statement.{statement}
 use Rattle.report.proofs.finder.find_text.Tie as tie
@@ -21,7 +21,7 @@ returns : tie.Need-returns
 returns c =
     let s = c.before.before.before.before.before in
     let e = c.put-end.ensures in
-    long-input finderBudget s.args.input.now (lent s) c.before.before.before.if1.true e.0 (omega (arith, e.1))
+    long-input finder_budget s.args.input.now (lent s) c.before.before.before.if1.true e.0 (omega (arith, e.1))
 
 find-requires : tie.Need-find-requires
 find-requires c κs = search rules
@@ -30,7 +30,7 @@ put-report-requires : tie.Need-put-report-requires
 put-report-requires c κs =
     let k = c.before.before.before in
     let s = k.before.before.before.before.before.before.before in
-    (omega arith, reportable finderBudget s.args.input.now (lent s) _ (omega arith) k.find.ensures.0)
+    (omega arith, reportable finder_budget s.args.input.now (lent s) _ (omega arith) k.find.ensures.0)
 
 returns-2 : tie.Need-returns-2
 returns-2 c =
@@ -39,7 +39,7 @@ returns-2 c =
     let f = k.find.ensures in
     let e = c.put-report.ensures in
     let h = k.before.before.before.before.before.if1.false in
-    short-input finderBudget s.args.input.now (lent s) h f.0 f.1.0 e.0 (omega (arith, e.1))
+    short-input finder_budget s.args.input.now (lent s) h f.0 f.1.0 e.0 (omega (arith, e.1))
 
 pub find-text-spec : {M : Type 1} → statement M
 find-text-spec =

@@ -5,9 +5,9 @@ use Prim.Native.Nat.{ℕ}
 use native.Mathlib.Omega.{arith}
 use borrow.Author.Rules.{rules}
 use denote.Enum.Declared.{tag_of}
-use Rattle.text.specs.Texts.{bytes_of, endLine}
+use Rattle.text.specs.Texts.{bytes_of, end_line}
 use Rattle.text.proofs.Puts.{put-nothing, put_as, put_both, put-length}
-use Rattle.sheet_rules.specs.Blocks.{Sheet, sheetOf}
+use Rattle.sheet_rules.specs.Blocks.{Sheet, sheet_of}
 use Rattle.sheet_rules.specs.Reading as sheets
 use Rattle.sheet.specs.declared.answer.Reading.{Reading}
 use Rattle.sheet.specs.declared.answer.Reading.TheVariants.{Accepted, Refused}
@@ -54,9 +54,9 @@ returns : tie.Need-returns
 returns c =
     let k = c.before.before in
     let s = k.before.before.before.before.before.before.before.before.before.before in
-    let sheet = sheetOf s.args.input.now in
+    let sheet = sheet_of s.args.input.now in
     let e = k.before.before.before.put-end.ensures in
-    let f = ap (endLine (bytes_of "found ")) k.before.before.before.before.step-figure.ensures in
+    let f = ap (end_line (bytes_of "found ")) k.before.before.before.before.step-figure.ensures in
     let none = no_lines k.read.result sheet s.args.instance.now c.before.match.keys1
     ∙ ap (λ (a : sheets.Answer). lines_of a sheet s.args.instance.now) k.read.ensures in
     (put_both (put_as f e.0) (put_as none (put-nothing _ _)), omega (arith, e.1))
@@ -70,9 +70,9 @@ returns-2 c =
     let r = k.before.before.before.before.before in
     let s = r.before.before.before.before.before.before.before.before.before.before in
     let e = r.before.before.before.put-end.ensures in
-    let f = ap (endLine (bytes_of "found ")) r.before.before.before.before.step-figure.ensures in
+    let f = ap (end_line (bytes_of "found ")) r.before.before.before.before.step-figure.ensures in
     let a = ap answer_of (sym k.before.before.before.reading.given.1) ∙ r.read.ensures in
-    let g = ap (λ (x : sheets.Answer). lines_of x (sheetOf s.args.input.now) s.args.instance.now) a in
+    let g = ap (λ (x : sheets.Answer). lines_of x (sheet_of s.args.input.now) s.args.instance.now) a in
     (put_both (put_as f e.0) (put_as g k.put-lines.ensures.0), omega (arith, e.1, k.put-lines.ensures.1))
 
 pub put-found-spec : {M : Type 1} → statement M

@@ -9,14 +9,14 @@ use Rattle.text.specs.Texts.{decimal}
 use Rattle.text.proofs.Puts.{put_byte, put_both, put_as, put-length}
 use Rattle.relational.proofs.Places.{square}
 use Rattle.clauses_rules.specs.Whole.{series}
-use Rattle.report.specs.Private.{rowFrom, lineFrom}
+use Rattle.report.specs.Private.{row_from, line_from}
 use Rattle.report.proofs.Pieces.{put-none-of, put-more, row-length, number_short}
 use Rattle.report.proofs.lines.put_line.Statement.{statement}
 use Rattle.report.proofs.lines.put_line.Tie as tie
 
 abbrev invariant-loop : tie.invariant-loop
 invariant-loop text₀ at letter instance number₀ first rows columns end₀ i₀ text end i =
-    (i ≤ rows) × (end ≤ end₀ + 9 * i) × Put text₀ end₀ (series i (λ k. rowFrom instance (first + k * columns) columns)) text end
+    (i ≤ rows) × (end ≤ end₀ + 9 * i) × Put text₀ end₀ (series i (λ k. row_from instance (first + k * columns) columns)) text end
 
 abbrev decreases-loop : tie.decreases-loop
 decreases-loop text₀ at letter instance number₀ first rows columns end₀ i₀ text end i = rows - i
@@ -93,7 +93,7 @@ loop-less c = omega arith
 
 -- row i
 abbrev row : tie.Start invariant-loop decreases-loop → ℕ → List ℕ
-row s i = rowFrom s.args.instance.now (s.args.first + i * s.args.columns) s.args.columns
+row s i = row_from s.args.instance.now (s.args.first + i * s.args.columns) s.args.columns
 
 loop-again : tie.Need-loop-preserved invariant-loop decreases-loop
 loop-again c =
@@ -118,11 +118,11 @@ add-result c = omega (arith, ended c, (start c.before).pre.0, (start c.before).g
 
 whole : (c : tie.After-loop invariant-loop decreases-loop)
     → Put (start c.before).args.text.now (start c.before).args.at
-    (lineFrom (start c.before).args.letter (start c.before).args.instance.now (start c.before).args.number
+    (line_from (start c.before).args.letter (start c.before).args.instance.now (start c.before).args.number
     (start c.before).args.first
     (start c.before).args.rows (start c.before).args.columns)
     (set c.before.loop.text c.before.loop.end 10) (c.before.loop.end + 1)
-unfolding lineFrom
+unfolding line_from
 whole c =
     let k = c.before in
     let e : k.loop.i ≡ (start k).args.rows = omega (arith, k.loop.invariant.0, c.loop-test.false) in

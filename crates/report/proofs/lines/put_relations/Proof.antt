@@ -5,21 +5,21 @@ use Prim.Native.Nat.{◌-◌, ◌*◌, ◌≤◌, ◌<◌}
 use native.Mathlib.Omega.{arith}
 use borrow.Author.Rules.{rules}
 use Rattle.text.proofs.Puts.{put_as, put-length}
-use Rattle.sheet_rules.specs.Blocks.{sheetOf, relationCount}
+use Rattle.sheet_rules.specs.Blocks.{sheet_of, relation_count}
 use Rattle.sheet_rules.proofs.Acceptance.{accepted-facts}
-use Rattle.cells.proofs.Parts.{sorts-counted, relations-counted, few-relations}
+use Rattle.cells.proofs.Parts.{sorts-counted, relations-counted, few_relations}
 use Rattle.cells.proofs.Layouts.{first-most}
-use Rattle.relational.specs.Cells.{mostCells, firstMember}
+use Rattle.relational.specs.Cells.{most_cells, first_member}
 use Rattle.relational.proofs.Places.{square}
 use Rattle.clauses_rules.specs.Whole.{series}
-use Rattle.report.specs.Printed.{relationLine, relationLines}
+use Rattle.report.specs.Printed.{relation_line, relation_lines}
 use Rattle.report.proofs.Pieces.{PutLines, lines_none, lines_more}
 use Rattle.report.proofs.lines.put_relations.Statement.{statement}
 use Rattle.report.proofs.lines.put_relations.Tie as tie
 
 abbrev invariant-loop : tie.invariant-loop
 invariant-loop text₀ at sheet layout instance count end₀ first₀ r₀ text end first r =
-    (r ≤ count) × PutLines (sheetOf sheet) instance text₀ at text end first r
+    (r ≤ count) × PutLines (sheet_of sheet) instance text₀ at text end first r
 
 abbrev decreases-loop : tie.decreases-loop
 decreases-loop text₀ at sheet layout instance count end₀ first₀ r₀ text end first r = count - r
@@ -30,10 +30,10 @@ start c = c.before.before.before.before.before.before.before
 
 -- a relation that the loop reaches is one of 16
 reached : (c : tie.In-loop invariant-loop decreases-loop) → c.before.loop.r < 16
-reached c = omega (arith, few-relations _ _ (start c.before).pre.0, c.loop-test.true)
+reached c = omega (arith, few_relations _ _ (start c.before).pre.0, c.loop-test.true)
 
 -- and its first cell is low
-first-low : (c : tie.In-loop invariant-loop decreases-loop) → c.before.loop.first ≤ mostCells
+first-low : (c : tie.In-loop invariant-loop decreases-loop) → c.before.loop.first ≤ most_cells
 first-low c =
     let l = c.before.loop in
     omega (arith, reached c, l.invariant.1.next, first-most _ (accepted-facts _ _ (start c.before).pre.0) l.r)
@@ -41,14 +41,14 @@ first-low c =
 first-member-requires : tie.Need-first-member-requires invariant-loop decreases-loop
 first-member-requires c κs =
     let taken = c.before.before.before.before.before.requires.0 in
-    (taken, omega (arith, sorts-counted _ _ taken, (accepted-facts _ _ taken).counts.few-sorts))
+    (taken, omega (arith, sorts-counted _ _ taken, (accepted-facts _ _ taken).counts.few_sorts))
 
 loop-holds : tie.Need-loop-init invariant-loop decreases-loop
 loop-holds c =
     let s = c.before.before.before.before.before.before in (
       omega arith,
       lines_none (c.first_member.ensures.0
-          ∙ ap (firstMember (sheetOf s.args.sheet.now)) (sorts-counted _ _ s.requires.0)),
+          ∙ ap (first_member (sheet_of s.args.sheet.now)) (sorts-counted _ _ s.requires.0)),
     )
 
 row-count-requires : tie.Need-row-count-requires invariant-loop decreases-loop
@@ -98,15 +98,15 @@ same_length : tie.Need-same-length invariant-loop decreases-loop
 same_length c = put-length c.before.loop.invariant.1.puts
 
 returns : tie.Need-returns invariant-loop decreases-loop
-unfolding relationLines
+unfolding relation_lines
 returns c =
     let l = c.before.loop in
     let s = start c.before in
     let e = relations-counted _ _ s.pre.0 in
-    let k : l.r ≡ relationCount (sheetOf s.args.sheet.now) = omega (arith, e, l.invariant.0, c.loop-test.false) in (
-      put_as (ap (λ n. series n (relationLine (sheetOf s.args.sheet.now) s.args.instance.now)) k)
+    let k : l.r ≡ relation_count (sheet_of s.args.sheet.now) = omega (arith, e, l.invariant.0, c.loop-test.false) in (
+      put_as (ap (λ n. series n (relation_line (sheet_of s.args.sheet.now) s.args.instance.now)) k)
           l.invariant.1.puts,
-      omega (arith, l.invariant.1.most, l.invariant.0, few-relations _ _ s.pre.0),
+      omega (arith, l.invariant.1.most, l.invariant.0, few_relations _ _ s.pre.0),
     )
 
 pub put-relations-spec : {M : Type 1} → statement M

@@ -9,15 +9,15 @@ use Rattle.text.specs.Puts.{Put}
 use Rattle.text.proofs.Puts.{put_byte, put_both, put_as, put-length}
 use Rattle.sheet_rules.specs.Blocks.{byte}
 use Rattle.clauses_rules.specs.Whole.{series}
-use Rattle.report.specs.Printed.{cellDigit}
-use Rattle.report.specs.Private.{rowFrom}
+use Rattle.report.specs.Printed.{cell_digit}
+use Rattle.report.specs.Private.{row_from}
 use Rattle.report.proofs.Pieces.{put-none-of, put-more, bytes-length}
 use Rattle.report.proofs.lines.put_row.Statement.{statement}
 use Rattle.report.proofs.lines.put_row.Tie as tie
 
 -- the digits of cells from a cell on
 abbrev shown : List ℕ → ℕ → ℕ → ℕ
-shown instance first k = cellDigit (byte instance (first + k))
+shown instance first k = cell_digit (byte instance (first + k))
 
 abbrev invariant-loop : tie.invariant-loop
 invariant-loop text₀ at instance first columns end₀ j₀ text end j =
@@ -76,7 +76,7 @@ loop-again c =
     (omega arith, put-more f k.j k.invariant.1 (put_as e (put_byte k.text k.end c.cell-digit.result)))
 
 returns : tie.Need-returns invariant-loop decreases-loop
-unfolding rowFrom
+unfolding row_from
 returns c =
     let s = c.before.before.before.before in
     let k = c.before.loop in

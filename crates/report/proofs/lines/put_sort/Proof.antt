@@ -2,7 +2,7 @@
 use mathlib.Core.Path.{sym, ◌∙◌}
 use native.Mathlib.Omega.{arith}
 use Rattle.text.proofs.Puts.{put-nothing, put_as}
-use Rattle.sheet_rules.specs.Blocks.{sheetOf}
+use Rattle.sheet_rules.specs.Blocks.{sheet_of}
 use Rattle.report.proofs.Pieces.{sort-line, no_line}
 use borrow.Author.Rules.{rules}
 use Rattle.report.proofs.lines.put_sort.Statement.{statement}
@@ -26,7 +26,7 @@ same_length c = search rules
 returns : tie.Need-returns
 returns c =
     let a = c.before.before.before.before.before.before.before.before.before.before.before.args in
-    let e = sort-line (sheetOf a.sheet.now) a.instance.now a.k
+    let e = sort-line (sheet_of a.sheet.now) a.instance.now a.k
     c.before.before.before.before.before.first_member.ensures.0 c.before.before.before.scope.ensures.0
     (sym c.before.before.before.before.before.before.before.is-bounded.ensures
     ∙ c.before.before.before.before.before.before.if1.true) in
@@ -35,7 +35,7 @@ returns c =
 returns-2 : tie.Need-returns-2
 returns-2 c =
     let a = c.before.before.before.before.before.args in
-    let e = no_line (sheetOf a.sheet.now) a.instance.now a.k
+    let e = no_line (sheet_of a.sheet.now) a.instance.now a.k
     (sym c.before.is-bounded.ensures ∙ c.if1.false) in
     (put_as e (put-nothing _ _), omega arith)
 

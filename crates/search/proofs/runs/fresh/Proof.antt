@@ -56,7 +56,7 @@ returns : tie.Need-returns
 returns c =
     let p = c.before.before.before.before in
     let f = (rw (wide p) at c.before.before.before.go_on.ensures) [] (held p) in
-    (f.answer-is, (f.values-are, f.trail_is))
+    (f.answer_is, (f.values_are, f.trail_is))
 
 pub fresh-spec : {M : Type 1} → statement M
 fresh-spec =

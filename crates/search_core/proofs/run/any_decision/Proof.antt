@@ -4,12 +4,12 @@ use Prim.Native.Nat.{◌-◌, ◌≤◌}
 use native.Mathlib.Omega.{arith}
 use lib.ListN.{length, drop}
 use Rattle.prelude.specs.Tests.{any}
-use Rattle.search_core.proofs.RunCode.{isThree, any_here, any-more, any_none}
+use Rattle.search_core.proofs.RunCode.{is_three, any_here, any-more, any_none}
 use Rattle.search_core.proofs.run.any_decision.Statement.{statement}
 use Rattle.search_core.proofs.run.any_decision.Tie as tie
 
 abbrev invariant-loop : tie.invariant-loop
-invariant-loop values i₀ i = (i ≤ length values) × (any isThree (drop i values) ≡ any isThree values)
+invariant-loop values i₀ i = (i ≤ length values) × (any is_three (drop i values) ≡ any is_three values)
 
 abbrev decreases-loop : tie.decreases-loop
 decreases-loop values i₀ i = length values - i

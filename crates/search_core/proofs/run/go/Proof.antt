@@ -4,7 +4,7 @@ use Prim.Native.Nat.{◌<◌}
 use native.Mathlib.Omega.{arith}
 use lib.ListN.{length}
 use borrow.Author.Rules.{rules}
-use Rattle.clause_list.specs.ClauseList.{clausesOf}
+use Rattle.clause_list.specs.ClauseList.{clauses_of}
 use Rattle.search_index.specs.Index.{Watched}
 use Rattle.search_core.proofs.RunCode.{Loop, figure-on, far_none, far-found, far-on, far-emptied, far-full, far-spent}
 use Rattle.search_core.proofs.run.go.Statement.{statement}
@@ -12,8 +12,8 @@ use Rattle.search_core.proofs.run.go.Tie as tie
 
 abbrev invariant-loop : tie.invariant-loop
 invariant-loop list values₀ trail₀ budget chains weights₀ position₀ left₀ values trail weights position left =
-    Loop (clausesOf list) budget values₀ trail₀ position₀ values trail position left
-    × Watched (clausesOf list) values chains weights × (length weights ≡ length weights₀)
+    Loop (clauses_of list) budget values₀ trail₀ position₀ values trail position left
+    × Watched (clauses_of list) values chains weights × (length weights ≡ length weights₀)
 
 abbrev decreases-loop : tie.decreases-loop
 decreases-loop list values₀ trail₀ budget chains weights₀ position₀ left₀ values trail weights position left = left
@@ -172,7 +172,7 @@ returns-3 : tie.Need-returns-3 invariant-loop decreases-loop
 returns-3 c state i =
     let l = c.before.before.before.before.before.before.before.before.before.before.before.before.before.before.before.loop.invariant.0 in
     let f = l.far state i in
-    let e = (rw l.wide at c.before.before.before.before.before.before.before.before.before.before.before.before.ends.ensures) f.at f.stored.was-open f.stored.values-are in
+    let e = (rw l.wide at c.before.before.before.before.before.before.before.before.before.before.before.before.ends.ensures) f.at f.stored.was_open f.stored.values_are in
     let b = (rw l.wide at c.before.before.before.before.before.before.back.ensures.0) f.at f.stored in
     let told = c.before.before.before.before.before.before.before.before.before.before.enum-told3.given.1 in
     rw told (far-emptied _ _ _ _ _ _ _ _ _ f _ _ _ _ _ refl (sym told ∙ e) c.emptied2.ensures b)
@@ -190,7 +190,7 @@ returns-4 : tie.Need-returns-4 invariant-loop decreases-loop
 returns-4 c state i =
     let l = c.before.before.before.before.before.loop.invariant.0 in
     let f = l.far state i in
-    let e = (rw l.wide at c.before.before.ends.ensures) f.at f.stored.was-open f.stored.values-are in
+    let e = (rw l.wide at c.before.before.ends.ensures) f.at f.stored.was_open f.stored.values_are in
     rw c.enum-told4.given.1 (far-full _ _ _ _ _ _ _ _ _ f _ refl (sym c.enum-told4.given.1 ∙ e))
 
 same-length-13 : tie.Need-same-length-13 invariant-loop decreases-loop
@@ -206,7 +206,7 @@ returns-5 : tie.Need-returns-5 invariant-loop decreases-loop
 returns-5 c state i =
     let l = c.before.before.before.before.before.loop.invariant.0 in
     let f = l.far state i in
-    let e = (rw l.wide at c.before.before.ends.ensures) f.at f.stored.was-open f.stored.values-are in
+    let e = (rw l.wide at c.before.before.ends.ensures) f.at f.stored.was_open f.stored.values_are in
     let told = c.enum-told5.given.1 in
     rw told (far-spent _ _ _ _ _ _ _ _ _ f _ c.before.before.before.before.loop-test.false refl (sym told ∙ e))
 

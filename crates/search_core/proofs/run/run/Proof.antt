@@ -4,7 +4,7 @@ use Prim.Native.Nat.{ℕ, ◌≤◌}
 use native.Mathlib.Omega.{arith}
 use lib.ListN.{length}
 use borrow.Author.Rules.{rules}
-use Rattle.clause_list.specs.ClauseList.{clausesOf}
+use Rattle.clause_list.specs.ClauseList.{clauses_of}
 use Rattle.search_rules.specs.Rules.{State}
 use Rattle.search_rules.specs.Run.{run}
 use Rattle.search_rules.specs.Held.{steps_of, Stored}
@@ -75,7 +75,7 @@ module _ (c : tie.After-run-scanned2) where
   -- where they are spent
   spent : c.run-scanned2.result.end ≡ Spent → (state : State)
       → Stored (length s.args.values.now) state s.args.values.now s.args.trail.now s.args.start.length
-      → Onward (clausesOf s.args.list.now) (length s.args.values.now) few s.args.budget (steps_of s.args.start) state
+      → Onward (clauses_of s.args.list.now) (length s.args.values.now) few s.args.budget (steps_of s.args.start) state
       c.run-scanned2.result c.run-scanned2.new.1.0 c.run-scanned2.new.1.1.0
   spent e state i = onward _ _ few _ some_left _ state _ _ _ e (c.run-scanned2.ensures state i)
 
@@ -83,7 +83,7 @@ module _ (c : tie.After-run-scanned2) where
   early : (c.run-scanned2.result.end ≡ Spent → ⊥) → (state : State)
       → Stored (length s.args.values.now) state s.args.values.now s.args.trail.now s.args.start.length
       → Ended (length s.args.values.now)
-      (run (clausesOf s.args.list.now) (length s.args.values.now) s.args.budget (steps_of s.args.start) state)
+      (run (clauses_of s.args.list.now) (length s.args.values.now) s.args.budget (steps_of s.args.start) state)
       c.run-scanned2.result c.run-scanned2.new.1.0 c.run-scanned2.new.1.1.0
   early n state i = ended-early _ _ few _ some_left _ state _ _ _ n (c.run-scanned2.ensures state i)
 

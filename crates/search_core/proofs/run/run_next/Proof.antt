@@ -23,7 +23,7 @@ same-length-2 c = search rules
 returns : tie.Need-returns
 returns c state i =
     let told = c.before.before.before.before.before.before.enum_told.given.1 in
-    let e = c.before.before.before.before.before.before.before.before.ends.ensures state i.was-open i.values-are in
+    let e = c.before.before.before.before.before.before.before.before.ends.ensures state i.was_open i.values_are in
     c.before.before.before.turn-full.ensures state i (is-full _ (sym told ∙ e))
 
 run-requires : tie.Need-run-requires
@@ -37,7 +37,7 @@ same-length-4 c = search rules
 
 returns-2 : tie.Need-returns-2
 returns-2 c state i =
-    let e = c.before.before.before.before.before.before.before.ends.ensures state i.was-open i.values-are in
+    let e = c.before.before.before.before.before.before.before.ends.ensures state i.was_open i.values_are in
     let s : tie.Start = c.before.before.before.before.before.before.before.before.before.before in
     not_full _ _ _ s.args.start _ _ _ _ _ e c.before.before.before.before.before.before.match.keys2
     (c.before.before.before.run.ensures state i)

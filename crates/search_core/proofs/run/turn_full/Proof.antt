@@ -11,7 +11,7 @@ use Rattle.search_rules.specs.Rules.{State, backtrack}
 use Rattle.search_rules.specs.Run.{total}
 use Rattle.search_rules.specs.Held.{steps_of, Stored}
 use Rattle.search_rules.proofs.StepView.{total-count}
-use Rattle.search_core.proofs.RunCode.{isThree}
+use Rattle.search_core.proofs.RunCode.{is_three}
 use Rattle.search_core.proofs.NextCode.{Turns, some_turn, no-turn, turned, full-none, full-waits, full-goes}
 use Rattle.search_core.proofs.run.turn_full.Statement.{statement}
 use Rattle.search_core.proofs.run.turn_full.Tie as tie
@@ -64,7 +64,7 @@ module _ (c : tie.After-run-arg2) where
   abbrev s : tie.Start
   s = c.before.before.before.before.before.before.before.before.before.before.before.before.before.before
 
-  some-decision : any isThree s.args.values.now ≡ true
+  some-decision : any is_three s.args.values.now ≡ true
   some-decision =
       sym c.before.before.before.before.before.before.before.before.before.before.before.any-decision.ensures
       ∙ not-false _ c.before.before.before.before.before.before.before.before.before.before.if1.false

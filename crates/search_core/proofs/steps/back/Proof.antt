@@ -9,8 +9,8 @@ use mir.Syntax.{w32, w64}
 use mir.Val.{Fits, to_z, of_z}
 use mir.Facts.{to_z-of_z}
 use borrow.Author.Rules.{rules, sfits_of, scaled_Fits}
-use Rattle.clause_list.specs.ClauseList.{clausesOf}
-use Rattle.literal.specs.Words.{oppositeWord, lastVariable}
+use Rattle.clause_list.specs.ClauseList.{clauses_of}
+use Rattle.literal.specs.Words.{opposite_word, last_variable}
 use Rattle.search_scan.proofs.Words.{place-of}
 use Rattle.search_rules.specs.Held.{Stored}
 use Rattle.search_rules.specs.Inner.{Fine}
@@ -25,7 +25,7 @@ use Rattle.search_core.proofs.steps.back.Tie as tie
 abbrev invariant-loop : tie.invariant-loop
 invariant-loop list values₀ trail₀ used chains weights₀ n₀ values trail weights n =
     ((state : State) → Stored (length values₀) state values₀ trail₀ used → Went (length values₀) state values trail n)
-    × Watched (clausesOf list) values chains weights × (length weights ≡ length weights₀)
+    × Watched (clauses_of list) values chains weights × (length weights ≡ length weights₀)
 
 abbrev decreases-loop : tie.decreases-loop
 decreases-loop list values₀ trail₀ used chains weights₀ n₀ values trail weights n = n
@@ -52,11 +52,11 @@ module _ (c : tie.In-loop invariant-loop decreases-loop) where
   abbrev went : (state : State) → Held s state → Went (v s) state c.before.loop.values c.before.loop.trail c.before.loop.n
   went = c.before.loop.invariant.0
 
-  topped : (state : State) (i : Held s state) → Top (v s) (went state i).now-at c.before.loop.values c.before.loop.trail
+  topped : (state : State) (i : Held s state) → Top (v s) (went state i).now_at c.before.loop.values c.before.loop.trail
       c.before.loop.n
   topped state i = top_of (v s) _ _ _ _ (went state i).stored c.loop-test.true
 
-  abbrev top : Top (v s) (went (held s).state (held s).stored).now-at c.before.loop.values c.before.loop.trail c.before.loop.n
+  abbrev top : Top (v s) (went (held s).state (held s).stored).now_at c.before.loop.values c.before.loop.trail c.before.loop.n
   top = topped (held s).state (held s).stored
 
   wide : length c.before.loop.values ≡ v s
@@ -69,7 +69,7 @@ module _ (c : tie.In-loop invariant-loop decreases-loop) where
   scaled = scaled_Fits _ (v s) _ top.below (rw (← long s) s.good.1.1.0.1)
 
 loop-holds : tie.Need-loop-init invariant-loop decreases-loop
-loop-holds c = ((λ state i. record { now-at = state; stored = i; alike = refl }), c.before.before.before.requires.1.1.1, refl)
+loop-holds c = ((λ state i. record { now_at = state; stored = i; alike = refl }), c.before.before.before.requires.1.1.1, refl)
 
 sub-top : tie.Need-overflow-sub-top invariant-loop decreases-loop
 sub-top c = c.loop-test.true
@@ -109,7 +109,7 @@ slice-write-values c = in-values c.before.before
 is-three : (c : tie.Then1 invariant-loop decreases-loop) (state : State) (i : Held (s c.before.before.before.before) state)
     → byte_of (topped c.before.before.before.before state i).e ≡ 3
 is-three c state i =
-    sym (topped c.before.before.before.before state i).the-byte ∙ (rw (at-is c.before.before state i) at c.if1.true)
+    sym (topped c.before.before.before.before state i).the_byte ∙ (rw (at-is c.before.before state i) at c.if1.true)
 
 opposite-requires : tie.Need-opposite-requires invariant-loop decreases-loop
 opposite-requires c κs = search rules
@@ -123,9 +123,9 @@ slice-set-from-trail c = slice-copy-out-l c.before.before.before.before.before
 -- the value at the place, which was x, is changed
 changed : (c : tie.After-place invariant-loop decreases-loop) (b x : ℕ) → x ≡ get_or c.before.before.before.loop.values c.place.result 0
     → Fine (length (set c.before.before.before.loop.values c.place.result b)) (s c.before.before).args.list.now
-    × ((length (set c.before.before.before.loop.values c.place.result b) ≤ lastVariable)
+    × ((length (set c.before.before.before.loop.values c.place.result b) ≤ last_variable)
     × ((c.place.result < length (set c.before.before.before.loop.values c.place.result b))
-    × Watched (clausesOf (s c.before.before).args.list.now)
+    × Watched (clauses_of (s c.before.before).args.list.now)
     (set (set c.before.before.before.loop.values c.place.result b) c.place.result x)
     (s c.before.before).args.chains.now c.before.before.before.loop.weights))
 changed c b x e =
@@ -154,8 +154,8 @@ returns c =
       (λ state i.
           let t = topped q state i in
           let b = is-three w state i in
-          let o : c.before.before.before.before.before.opposite.result ≡ oppositeWord (word_of t.e) =
-          c.before.before.before.before.before.opposite.ensures ∙ ap oppositeWord (word-is w.before.before.before ∙ t.the_word)
+          let o : c.before.before.before.before.before.opposite.result ≡ opposite_word (word_of t.e) =
+          c.before.before.before.before.before.opposite.ensures ∙ ap opposite_word (word-is w.before.before.before ∙ t.the_word)
           in
           rw (← (went q state i).alike, at-is w.before.before state i)
           (turn-top _ _ _ _ _ t _ b
@@ -187,9 +187,9 @@ loop-again c =
           let t = topped p state i in
           let q = at-is w.before.before state i in
           record {
-            now-at = t.rest;
+            now_at = t.rest;
             stored = rw q (off-top _ _ _ _ _ t);
-            alike = turn_on _ _ _ _ _ t (λ b. w.if1.false (rw q (t.the-byte ∙ b))) ∙ (went p state i).alike;
+            alike = turn_on _ _ _ _ _ t (λ b. w.if1.false (rw q (t.the_byte ∙ b))) ∙ (went p state i).alike;
           }),
       c.before.before.touch2.ensures,
       c.before.before.touch2.auto.1.1.1.0 ∙ p.before.loop.invariant.2,

@@ -1,7 +1,7 @@
 -- `search_core::steps::decide` meets its contract. Assumes nothing.
 use mathlib.Core.Path.{◌≡◌, refl, ap, ◌∙◌}
 use lib.IntN.{negsuc}
-use Rattle.literal.specs.Words.{oppositeWord}
+use Rattle.literal.specs.Words.{opposite_word}
 use Rattle.literal.proofs.Signs.{read, back}
 use Rattle.search_core.proofs.Slices.{denial}
 use borrow.Author.Rules.{rules}
@@ -28,7 +28,7 @@ word-is c =
     let p = c.before.positive in
     back c.opposite.result (record { sfits = c.opposite.type-inv })
     ∙ c.opposite.ensures
-    ∙ ap oppositeWord (back p.result (record { sfits = p.type-inv }) ∙ p.ensures)
+    ∙ ap opposite_word (back p.result (record { sfits = p.type-inv }) ∙ p.ensures)
     ∙ denial _ c.before.before.before.requires.0.1
 
 mul-t10 : tie.Need-overflow-mul-t10

@@ -3,13 +3,13 @@ use mathlib.Core.Path.{◌≡◌, refl}
 use Prim.Native.Nat.{◌-◌, ◌≤◌}
 use native.Mathlib.Omega.{arith}
 use lib.ListN.{length, drop}
-use Rattle.search_rules.specs.Rules.{lowestOpen}
+use Rattle.search_rules.specs.Rules.{lowest_open}
 use Rattle.search_core.proofs.Lowest.{low-here, low-more, low-none}
 use Rattle.search_core.proofs.steps.lowest_open.Statement.{statement}
 use Rattle.search_core.proofs.steps.lowest_open.Tie as tie
 
 abbrev invariant-loop : tie.invariant-loop
-invariant-loop values i₀ i = (i ≤ length values) × (lowestOpen i (drop i values) ≡ lowestOpen 0 values)
+invariant-loop values i₀ i = (i ≤ length values) × (lowest_open i (drop i values) ≡ lowest_open 0 values)
 
 abbrev decreases-loop : tie.decreases-loop
 decreases-loop values i₀ i = length values - i

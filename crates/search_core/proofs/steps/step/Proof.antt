@@ -9,11 +9,11 @@ use mir.Syntax.{w32}
 use mir.Val.{to_z, of_z}
 use mir.Facts.{to_z-of_z}
 use borrow.Author.Rules.{rules}
-use Rattle.clause_list.specs.ClauseList.{clausesOf}
-use Rattle.literal.specs.Words.{lastVariable}
+use Rattle.clause_list.specs.ClauseList.{clauses_of}
+use Rattle.literal.specs.Words.{last_variable}
 use Rattle.search_rules.specs.Rules.{propagated, byte_of, place_of}
 use Rattle.search_rules.specs.Inner.{Fine}
-use Rattle.search_scan.specs.Seen.{seenAs}
+use Rattle.search_scan.specs.Seen.{seen_as}
 use Rattle.search_scan.proofs.Words.{place-of, default}
 use Rattle.search_index.specs.Index.{Watched}
 use Rattle.search_rules.proofs.Invariant.{OpenIn, first-unit-open}
@@ -32,7 +32,7 @@ module _ (c : tie.Start) where
   values = c.args.values.now
 
   abbrev clauses : List (List ℤ)
-  clauses = clausesOf c.args.list.now
+  clauses = clauses_of c.args.list.now
 
 look-requires : tie.Need-look-requires
 look-requires c κs = let p = c.before.before.before.before.before.requires in (p.0, (p.1.0, p.1.1.1))
@@ -45,7 +45,7 @@ module _ (c : tie.After-look) where
   -- the index, after a value was set that was open
   set-open : (values' : List ℕ) (p b : ℕ) → values' ≡ set (values start) p b → p < length (values start) → get_or (values start) p 2 ≡ 2
       → Fine (length values') start.args.list.now
-      × ((length values' ≤ lastVariable)
+      × ((length values' ≤ last_variable)
       × ((p < length values') × Watched (clauses start) (set values' p 2) start.args.chains.now c.look.new.1.1.1.0))
   set-open values' p b e h o =
       touches _ (values start) values' p b 2 _ _ e h (sym o ∙ default (values start) p 2 0 h) start.pre.0 start.pre.1.0 c.look.ensures.1
@@ -72,7 +72,7 @@ same-length-3 c = search rules
 returns : tie.Need-returns
 returns c = (
   (λ state i.
-      step-none _ _ _ _ _ i _ _ _ _ (sym (ap seenAs
+      step-none _ _ _ _ _ i _ _ _ _ (sym (ap seen_as
       c.before.before.before.before.before.before.before.before.before.before.enum_told.given.1)
       ∙ c.before.before.before.before.before.before.before.before.before.before.before.before.before.before.look.ensures.0)
       (c.before.before.before.before.before.before.back.ensures.0 state i) c.if1.true),
@@ -84,7 +84,7 @@ unit-open : (c : tie.After-seen) → OpenIn (length (values (start c.before.befo
     (values (start c.before.before.before.before)) c.seen.given.0.0
 unit-open c =
     first-unit-open _ _ _ _ (ranged _ _ (start c.before.before.before.before).pre.0)
-    (saw-unit _ _ _ (sym (ap seenAs c.seen.given.1) ∙ c.before.before.before.before.look.ensures.0)).1
+    (saw-unit _ _ _ (sym (ap seen_as c.seen.given.1) ∙ c.before.before.before.before.look.ensures.0)).1
 
 word-is : (c : tie.After-known-told) → to_z w32 (of_z w32 c.before.seen.given.0.0) ≡ c.before.seen.given.0.0
 word-is c = to_z-of_z (range-fits _ _ (unit-open c.before).0 (start c.before.before.before.before.before).pre.1.0)
@@ -155,7 +155,7 @@ same-length-5 c = search rules
 returns-2 : tie.Need-returns-2
 returns-2 c = (
   (λ state i.
-      step-full _ _ _ _ _ i _ _ (sym (ap seenAs c.before.before.before.enum-told2.given.1)
+      step-full _ _ _ _ _ i _ _ (sym (ap seen_as c.before.before.before.enum-told2.given.1)
       ∙ c.before.before.before.before.before.before.before.look.ensures.0) c.before.lowest-open.ensures
       c.if2.true),
   c.before.before.before.before.before.before.before.look.ensures.1,
@@ -199,7 +199,7 @@ same-length-8 c = search rules
 returns-3 : tie.Need-returns-3
 returns-3 c = (
   (λ state i.
-      step-turn _ _ _ _ _ i _ _ _ _ (sym (ap seenAs
+      step-turn _ _ _ _ _ i _ _ _ _ (sym (ap seen_as
       c.before.before.before.before.before.before.before.before.before.before.enum_told.given.1)
       ∙ c.before.before.before.before.before.before.before.before.before.before.before.before.before.before.look.ensures.0)
       (c.before.before.before.before.before.before.back.ensures.0 state i) c.if1.false),
@@ -219,7 +219,7 @@ returns-4 : tie.Need-returns-4
 returns-4 c =
     let w = word-is c.before.before.before.before.before.before.before.before.before.before.before.before in (
       (λ state i.
-          step-unit _ _ _ _ _ i _ _ _ _ (sym (ap seenAs
+          step-unit _ _ _ _ _ i _ _ _ _ (sym (ap seen_as
           c.before.before.before.before.before.before.before.before.before.before.before.before.before.seen.given.1)
           ∙ c.before.before.before.before.before.before.before.before.before.before.before.before.before.before.before.before.before.look.ensures.0) (unit-open
           c.before.before.before.before.before.before.before.before.before.before.before.before.before)
@@ -240,7 +240,7 @@ same-length-14 c = search rules
 returns-5 : tie.Need-returns-5
 returns-5 c = (
   (λ state i.
-      step-decide _ _ _ _ _ i _ _ _ _ (sym (ap seenAs
+      step-decide _ _ _ _ _ i _ _ _ _ (sym (ap seen_as
       c.before.before.before.before.before.before.before.before.before.before.before.before.before.before.enum-told2.given.1) ∙ c.before.before.before.before.before.before.before.before.before.before.before.before.before.before.before.before.before.before.look.ensures.0)
       c.before.before.before.before.before.before.before.before.before.before.before.before.lowest-open.ensures
       c.before.before.before.before.before.before.before.before.before.before.before.if2.false

@@ -21,7 +21,7 @@ slice-read-falses c = omega (arith, (follows c).long, c.before.before.before.req
 recount-requires : tie.Need-recount-requires
 recount-requires c κs =
     let s = c.before.before.before in
-    (omega (arith, (follows c).falses-are, s.requires.1.0), (λ e. omega (arith, (follows c).falses-are, s.requires.1.1 e)), s.requires.1.2)
+    (omega (arith, (follows c).falses_are, s.requires.1.0), (λ e. omega (arith, (follows c).falses_are, s.requires.1.1 e)), s.requires.1.2)
 
 slice-write-weights : tie.Need-slice-write-weights
 slice-write-weights c = omega (arith, (follows c.before).long, c.before.before.before.before.requires.0.0)

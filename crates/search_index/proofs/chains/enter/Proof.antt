@@ -9,14 +9,14 @@ use lib.ListN.{length, get_or, length-set}
 use lib.IntN.{ℤ, pos}
 use borrow.Author.Rules.{sfits_of}
 use Rattle.prelude.proofs.Laws.{clash}
-use Rattle.clause_list.specs.ClauseList.{clausesOf, words_of}
+use Rattle.clause_list.specs.ClauseList.{clauses_of, words_of}
 use Rattle.literal.specs.Words.{count_of}
 use Rattle.literal.proofs.Signs.{read, back}
 use Rattle.search_rules.specs.Rules.{place_of}
 use Rattle.search_rules.specs.Held.{InRange}
 use Rattle.search_rules.proofs.Found.{place-below}
 use Rattle.search_scan.proofs.Words.{place-of}
-use Rattle.search_index.specs.Index.{limit, clauseAt, head_of, first_at, IsHead}
+use Rattle.search_index.specs.Index.{limit, clause_at, head_of, first_at, IsHead}
 use Rattle.search_index.proofs.Parts.{count-is, high}
 use Rattle.search_index.proofs.Words.{words_are, head_step, clauses-within}
 use Rattle.search_index.proofs.Entering.{Entered, spot-low, enter-first, enter-next, enter-end, enter-apart, word-within}
@@ -25,7 +25,7 @@ use Rattle.search_index.proofs.chains.enter.Statement.{statement}
 use Rattle.search_index.proofs.chains.enter.Tie as tie
 
 abbrev invariant-loop : tie.invariant-loop
-invariant-loop list c head chains₀ end apart₀ i₀ chains apart i = Entered (clausesOf list) chains₀ chains c i apart
+invariant-loop list c head chains₀ end apart₀ i₀ chains apart i = Entered (clauses_of list) chains₀ chains c i apart
 
 abbrev decreases-loop : tie.decreases-loop
 decreases-loop list c head chains₀ end apart₀ i₀ chains apart i = end - i
@@ -35,29 +35,29 @@ module _ (c : tie.Start invariant-loop decreases-loop) where
   list = c.args.list.now
 
   abbrev clauses : List (List ℤ)
-  clauses = clausesOf list
+  clauses = clauses_of list
 
   abbrev head : IsHead clauses c.args.head
   head = record { c = c.args.c; within = c.requires.1.0.0; at = c.requires.1.0.1 }
 
-  ends : c.args.head + suc (length (clauseAt clauses c.args.c)) ≤ length list
+  ends : c.args.head + suc (length (clause_at clauses c.args.c)) ≤ length list
   ends = high _ list c.requires.0.fine c.args.head head
 
-  counts : get_or list c.args.head (pos 0) ≡ pos (length (clauseAt clauses c.args.c))
+  counts : get_or list c.args.head (pos 0) ≡ pos (length (clause_at clauses c.args.c))
   counts = count-is _ list c.requires.0.fine c.args.head head
 
 module _ (c : tie.After-known-count-arg invariant-loop decreases-loop) where
   abbrev word : ℤ
   word = get_or (list c.before.before) c.before.before.args.head (pos 0)
 
-  word-is : read word ≡ pos (length (clauseAt (clauses c.before.before) c.before.before.args.c))
+  word-is : read word ≡ pos (length (clause_at (clauses c.before.before) c.before.before.args.c))
   word-is = back word (sfits_of c.known-count-arg.given) ∙ counts c.before.before
 
 module _ (c : tie.After-known-count invariant-loop decreases-loop) where
   abbrev start : tie.Start invariant-loop decreases-loop
   start = c.before.before.before
 
-  size_is : c.known-count.result ≡ length (clauseAt (clauses start) start.args.c)
+  size_is : c.known-count.result ≡ length (clause_at (clauses start) start.args.c)
   size_is = c.known-count.ensures ∙ ap count_of (word-is c.before)
 
   end_is : start.args.head + 1 + c.known-count.result ≡ head_of (clauses start) (suc start.args.c)

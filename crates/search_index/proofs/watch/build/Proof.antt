@@ -7,10 +7,10 @@ use native.Mathlib.Omega.{arith}
 use lib.ListN.{length, get_or, length-set}
 use lib.IntN.{ℤ, pos}
 use borrow.Author.Rules.{sfits_of}
-use Rattle.clause_list.specs.ClauseList.{clausesOf, words_of}
+use Rattle.clause_list.specs.ClauseList.{clauses_of, words_of}
 use Rattle.literal.specs.Words.{count_of}
 use Rattle.literal.proofs.Signs.{read, back}
-use Rattle.search_index.specs.Index.{limit, clauseAt, head_of, IsHead, Spot, Linked, Roomy, Stands, weighed, looked, falsesAt, one}
+use Rattle.search_index.specs.Index.{limit, clause_at, head_of, IsHead, Spot, Linked, Roomy, Stands, weighed, looked, falses_at, one}
 use Rattle.search_index.proofs.Parts.{count-is, high}
 use Rattle.search_index.proofs.Words.{words_are, head_step, clauses-within}
 use Rattle.search_index.proofs.Entering.{spot-low}
@@ -20,7 +20,7 @@ use Rattle.search_index.proofs.watch.build.Statement.{statement}
 use Rattle.search_index.proofs.watch.build.Tie as tie
 
 abbrev invariant-loop : tie.invariant-loop
-invariant-loop list values chains₀ weights₀ at₀ c₀ chains weights at c = Built (clausesOf list) values chains weights c at
+invariant-loop list values chains₀ weights₀ at₀ c₀ chains weights at c = Built (clauses_of list) values chains weights c at
 
 abbrev decreases-loop : tie.decreases-loop
 decreases-loop list values chains₀ weights₀ at₀ c₀ chains weights at c = length list - at
@@ -33,7 +33,7 @@ module _ (s : tie.Start invariant-loop decreases-loop) where
   values = s.args.values.now
 
   abbrev clauses : List (List ℤ)
-  clauses = clausesOf list
+  clauses = clauses_of list
 
   roomy : Roomy list
   roomy = record { v = length values; fine = s.pre.0; few = s.pre.1.0.0; short = s.pre.1.0.1 }
@@ -75,18 +75,18 @@ module _ (q : tie.In-loop invariant-loop decreases-loop) where
   head : IsHead (clauses s) at
   head = record { c = n; within = more; at = inv.place }
 
-  ends : at + suc (length (clauseAt (clauses s) n)) ≤ length (list s)
+  ends : at + suc (length (clause_at (clauses s) n)) ≤ length (list s)
   unfolding head
   ends = high _ (list s) s.pre.0 at head
 
-  counts : get_or (list s) at (pos 0) ≡ pos (length (clauseAt (clauses s) n))
+  counts : get_or (list s) at (pos 0) ≡ pos (length (clause_at (clauses s) n))
   unfolding head
   counts = count-is _ (list s) s.pre.0 at head
 
   clean : get_or q.before.loop.weights n 0 ≡ 0
   clean = inv.clean n (omega arith) low
 
-  put-asks : (one (get_or q.before.loop.weights n 0) ≤ falsesAt q.before.loop.weights) × (falsesAt q.before.loop.weights ≤ limit)
+  put-asks : (one (get_or q.before.loop.weights n 0) ≤ falses_at q.before.loop.weights) × (falses_at q.before.loop.weights ≤ limit)
   put-asks = put-more-asks q.before.loop.weights n inv.tallied low clean
 
 loop-holds : tie.Need-loop-init invariant-loop decreases-loop
@@ -128,7 +128,7 @@ module _ (c : tie.Joined1 invariant-loop decreases-loop) where
   abbrev weighing : tie.In-loop invariant-loop decreases-loop
   weighing = noting entered.before.before.before.before
 
-  stands : Stands (values (s weighing)) (clauseAt (clauses (s weighing)) (n weighing)) c.if1.w
+  stands : Stands (values (s weighing)) (clause_at (clauses (s weighing)) (n weighing)) c.if1.w
   unfolding head
   stands =
       ⊎_elim (λ w. weighed (entered.enter.ensures.1.1 w.0.taken) (w.2 ∙ w.1.ensures (head weighing)))
@@ -159,7 +159,7 @@ module _ (c : tie.After-known-count-arg invariant-loop decreases-loop) where
   abbrev counting : tie.In-loop invariant-loop decreases-loop
   counting = putting c.before.before.before
 
-  word-is : read (get_or (list (s counting)) (at counting) (pos 0)) ≡ pos (length (clauseAt (clauses (s counting)) (n counting)))
+  word-is : read (get_or (list (s counting)) (at counting) (pos 0)) ≡ pos (length (clause_at (clauses (s counting)) (n counting)))
   word-is = back _ (sfits_of c.known-count-arg.given) ∙ counts counting
 
 known-count-requires : tie.Need-known-count-requires invariant-loop decreases-loop
@@ -172,7 +172,7 @@ module _ (c : tie.After-known-count invariant-loop decreases-loop) where
   abbrev q : tie.In-loop invariant-loop decreases-loop
   q = putting was-put
 
-  size_is : c.known-count.result ≡ length (clauseAt (clauses (s q)) (n q))
+  size_is : c.known-count.result ≡ length (clause_at (clauses (s q)) (n q))
   size_is = c.known-count.ensures ∙ ap count_of (word-is c.before)
 
   next-is : at q + 1 + c.known-count.result ≡ head_of (clauses (s q)) (suc (n q))

@@ -5,8 +5,8 @@ use Prim.Native.Nat.{◌≤◌}
 use native.Mathlib.Omega.{arith}
 use lib.IntN.{ℤ}
 use borrow.Author.Rules.{rules}
-use Rattle.clause_list.specs.ClauseList.{clausesOf}
-use Rattle.search_index.specs.Index.{IsHead, falsesAt, Indexed, unwatched, watched}
+use Rattle.clause_list.specs.ClauseList.{clauses_of}
+use Rattle.search_index.specs.Index.{IsHead, falses_at, Indexed, unwatched, watched}
 use Rattle.search_index.proofs.Looking.{looks-false, size_low, tallied, looks-neither, unit-low, unit-head, looks-unit, lowered}
 use Rattle.search_index.proofs.Touching.{indexed}
 use Rattle.search_index.proofs.watch.look.Statement.{statement}
@@ -24,7 +24,7 @@ module _ (c : tie.Else1) where
   s = c.before.before.before.before
 
   abbrev clauses : List (List ℤ)
-  clauses = clausesOf s.args.list.now
+  clauses = clauses_of s.args.list.now
 
   index : Indexed clauses s.args.values.now s.args.chains.now s.args.weights.now
   index = indexed _ _ _ _ s.pre.1.1 c.if1.false
@@ -41,11 +41,11 @@ returns-2 c =
     (looks-false (clauses k) _ _ _ (index k) (omega (arith, c.if2.true, c.before.falses.ensures)), watched (index k))
 
 -- where no clause is false
-none : (c : tie.Else2) → falsesAt (s c.before.before.before).args.weights.now ≤ 0
+none : (c : tie.Else2) → falses_at (s c.before.before.before).args.weights.now ≤ 0
 none c = omega (arith, c.if2.false, c.before.falses.ensures)
 
 count-requires : tie.Need-count-requires
-count-requires c κs = (index c.before.before.before).chains-are.linked.long
+count-requires c κs = (index c.before.before.before).chains_are.linked.long
 
 first-unit-requires : tie.Need-first-unit-requires
 first-unit-requires c κs =
@@ -56,7 +56,7 @@ first-unit-requires c κs =
 head-requires : tie.Need-head-requires
 head-requires c κs =
     let k = c.before.before.before.before.before.before.before.before.before in (
-      (index k).chains-are.linked.long,
+      (index k).chains_are.linked.long,
       unit-low (clauses k) _ _ _ (index k) _ c.before.before.before.before.before.count.ensures _
           c.before.before.before.first-unit.ensures.0 (none c.before.before.before.before.before.before) c.if3.true,
     )

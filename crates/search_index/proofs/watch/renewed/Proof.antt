@@ -9,7 +9,7 @@ use mir.Syntax.{w32}
 use mir.Val.{to_z, of_z}
 use mir.Facts.{to_z-of_z}
 use borrow.Author.Rules.{rules, sfits_of}
-use Rattle.clause_list.specs.ClauseList.{clausesOf}
+use Rattle.clause_list.specs.ClauseList.{clauses_of}
 use Rattle.search_index.specs.Index.{IsHead, Chains, looked, Due}
 use Rattle.search_index.proofs.Renewing.{word-within, head-found, owner-within, sign_low, gain-fits, gain-high, renewed-stands}
 use Rattle.search_index.proofs.Words.{words_are, clauses-within}
@@ -25,9 +25,9 @@ module _ (c : tie.Start) where
   values = c.args.values.now
 
   abbrev Dues : Type 0
-  Dues = Due (clausesOf list) values c.args.gains.now c.args.i c.args.w
+  Dues = Due (clauses_of list) values c.args.gains.now c.args.i c.args.w
 
-  static : Chains (clausesOf list) c.args.chains.now
+  static : Chains (clauses_of list) c.args.chains.now
   static = c.requires.1.1.0
 
   short : length list ≤ 16384
@@ -57,7 +57,7 @@ module _ (c : tie.After-head) where
   abbrev s : tie.Start
   s = c.before.before.before.before.before
 
-  at_head : (d : Dues s) → IsHead (clausesOf (list s)) c.head.result
+  at_head : (d : Dues s) → IsHead (clauses_of (list s)) c.head.result
   at_head d = record {
     c = d.spot.c;
     within = d.spot.within;

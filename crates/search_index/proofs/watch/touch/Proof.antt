@@ -6,7 +6,7 @@ use native.Mathlib.Omega.{arith}
 use lib.IntN.{ℤ}
 use lib.ListN.{length, get_or, set, length-set}
 use borrow.Author.Rules.{rules}
-use Rattle.clause_list.specs.ClauseList.{clausesOf}
+use Rattle.clause_list.specs.ClauseList.{clauses_of}
 use Rattle.search_index.specs.Index.{Chains, Gains, Indexed, Due, unwatched, watched}
 use Rattle.search_index.proofs.Touching.{Walk, walk_first, here-low, falls, owner-low, due-here, asks-here, walk-on}
 use Rattle.search_index.proofs.Touching.{walk_end, indexed}
@@ -14,7 +14,7 @@ use Rattle.search_index.proofs.watch.touch.Statement.{statement}
 use Rattle.search_index.proofs.watch.touch.Tie as tie
 
 abbrev invariant-loop : tie.invariant-loop
-invariant-loop list values chains weights₀ p was gains i₀ weights i = Walk (clausesOf list) values p was weights i
+invariant-loop list values chains weights₀ p was gains i₀ weights i = Walk (clauses_of list) values p was weights i
 
 abbrev decreases-loop : tie.decreases-loop
 decreases-loop list values chains weights₀ p was gains i₀ weights i = i
@@ -28,13 +28,13 @@ module _ (c : tie.Else1 invariant-loop decreases-loop) where
   s = c.before.before.before.before
 
   abbrev clauses : List (List ℤ)
-  clauses = clausesOf s.args.list.now
+  clauses = clauses_of s.args.list.now
 
   index : Indexed clauses (set s.args.values.now s.args.p s.args.was) s.args.chains.now s.args.weights.now
   index = indexed _ _ _ _ s.pre.1.1.1 c.if1.false
 
   static : Chains clauses s.args.chains.now
-  static = index.chains-are
+  static = index.chains_are
 
   few : length s.args.values.now ≤ 16384
   few = omega (arith, index.few, length-set s.args.values.now s.args.p s.args.was)

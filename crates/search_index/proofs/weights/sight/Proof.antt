@@ -8,9 +8,9 @@ use lib.IntN.{ℤ, pos}
 use borrow.Author.Rules.{rules, sfits_of, scaled_Fits}
 use Rattle.literal.specs.Words.{count_of}
 use Rattle.literal.proofs.Signs.{read, back}
-use Rattle.clause_list.specs.ClauseList.{clausesOf, words_of}
+use Rattle.clause_list.specs.ClauseList.{clauses_of, words_of}
 use Rattle.search_scan.specs.Seen.{seen}
-use Rattle.search_index.specs.Index.{clauseAt, IsHead}
+use Rattle.search_index.specs.Index.{clause_at, IsHead}
 use Rattle.search_index.proofs.Parts.{count-is, high, part, part-fine, part-is-one}
 use Rattle.search_index.proofs.WeighLoop.{is-count}
 use Rattle.search_index.proofs.weights.sight.Statement.{statement}
@@ -29,17 +29,17 @@ module _ (c : tie.After-known-count) where
   at = c.before.before.before.args.head
 
   abbrev Heads : Type 0
-  Heads = IsHead (clausesOf list) at
+  Heads = IsHead (clauses_of list) at
 
-  size_is : (h : Heads) → c.known-count.result ≡ length (clauseAt (clausesOf list) h.c)
+  size_is : (h : Heads) → c.known-count.result ≡ length (clause_at (clauses_of list) h.c)
   size_is h = c.known-count.ensures ∙ ap count_of (word-is c.before ∙ count-is _ list c.before.before.before.requires.0 at h)
 
   past : (h : Heads) → at + 1 + c.known-count.result ≤ length list
   past h = omega (arith, size_is h, high _ list c.before.before.before.requires.0 at h)
 
-  taken : (h : Heads) → take ((at + 1 + c.known-count.result) - at) (drop at list) ≡ words_of (clauseAt (clausesOf list) h.c ∷ [])
+  taken : (h : Heads) → take ((at + 1 + c.known-count.result) - at) (drop at list) ≡ words_of (clause_at (clauses_of list) h.c ∷ [])
   taken h =
-      let e : (at + 1 + c.known-count.result) - at ≡ suc (length (clauseAt (clausesOf list) h.c)) = omega (arith, size_is h) in
+      let e : (at + 1 + c.known-count.result) - at ≡ suc (length (clause_at (clauses_of list) h.c)) = omega (arith, size_is h) in
       ap (λ (n : ℕ). take n (drop at list)) e ∙ part _ list c.before.before.before.requires.0 at h
 
 add-end : tie.Need-overflow-add-end
@@ -83,7 +83,7 @@ returns : tie.Need-returns
 returns c h =
     let s = c.before.before.before.before.before in
     c.scan.ensures
-    ∙ ap (λ (ws : List ℤ). seen s.args.values.now (clausesOf ws)) (taken c.before.before h)
+    ∙ ap (λ (ws : List ℤ). seen s.args.values.now (clauses_of ws)) (taken c.before.before h)
     ∙ ap (seen s.args.values.now) (part-is-one _ _ s.requires.0 _ h)
 
 pub sight-spec : {M : Type 1} → statement M

@@ -10,8 +10,8 @@ use mir.Facts.{to_z-of_z}
 use borrow.Author.Rules.{sfits_of, scaled_Fits}
 use Rattle.literal.specs.Words.{count_of}
 use Rattle.literal.proofs.Signs.{read, back}
-use Rattle.clause_list.specs.ClauseList.{clausesOf}
-use Rattle.search_index.specs.Index.{clauseAt, IsHead}
+use Rattle.clause_list.specs.ClauseList.{clauses_of}
+use Rattle.search_index.specs.Index.{clause_at, IsHead}
 use Rattle.search_index.proofs.Parts.{count-is, high}
 use Rattle.search_index.proofs.WeighLoop.{is-count, Weighed, weigh-start, weigh-end, word-within, asks-place, asks-weight}
 use Rattle.search_index.proofs.WeighLoop.{place-within, weight-fits, weigh-next}
@@ -20,7 +20,7 @@ use Rattle.search_index.proofs.weights.weigh.Tie as tie
 
 abbrev invariant-loop : tie.invariant-loop
 invariant-loop list values head end w₀ i₀ w i =
-    (h : IsHead (clausesOf list) head) → Weighed values (clauseAt (clausesOf list) h.c) head end w i
+    (h : IsHead (clauses_of list) head) → Weighed values (clause_at (clauses_of list) h.c) head end w i
 
 abbrev decreases-loop : tie.decreases-loop
 decreases-loop list values head end w₀ i₀ w i = end - i
@@ -31,8 +31,8 @@ module _ (c : tie.After-known-count-arg invariant-loop decreases-loop) where
   word-is = back _ (sfits_of c.known-count-arg.given)
 
 module _ (c : tie.After-known-count invariant-loop decreases-loop) where
-  size_is : (h : IsHead (clausesOf c.before.before.before.args.list.now) c.before.before.before.args.head)
-      → c.known-count.result ≡ length (clauseAt (clausesOf c.before.before.before.args.list.now) h.c)
+  size_is : (h : IsHead (clauses_of c.before.before.before.args.list.now) c.before.before.before.args.head)
+      → c.known-count.result ≡ length (clause_at (clauses_of c.before.before.before.args.list.now) h.c)
   size_is h = c.known-count.ensures ∙ ap count_of (word-is c.before ∙ count-is _ _ c.before.before.before.requires.0 _ h)
 
 module _ (c : tie.After-l invariant-loop decreases-loop) where

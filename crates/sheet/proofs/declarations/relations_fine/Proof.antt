@@ -5,8 +5,8 @@ use Prim.Native.Nat.{◌≤◌, ◌-◌, ◌/◌}
 use native.Mathlib.Omega.{arith}
 use lib.ListN.{length}
 use Rattle.prelude.specs.Tests.{each}
-use Rattle.sheet_rules.specs.Blocks.{Sheet, sortCount}
-use Rattle.sheet_rules.specs.Reading.{relationDeclared}
+use Rattle.sheet_rules.specs.Blocks.{Sheet, sort_count}
+use Rattle.sheet_rules.specs.Reading.{relation_declared}
 use Rattle.sheet.proofs.Loops.{each_none, each_more}
 use Rattle.sheet.proofs.declarations.relations_fine.Statement.{statement}
 use Rattle.sheet.proofs.declarations.relations_fine.Tie as tie
@@ -14,7 +14,7 @@ use Rattle.sheet.proofs.declarations.relations_fine.Tie as tie
 abbrev invariant-loop : tie.invariant-loop
 invariant-loop relations sorts count fine₀ r₀ fine r =
     (r ≤ count)
-    × ((sheet : Sheet) → sheet.relations ≡ relations → sortCount sheet ≡ sorts → fine ≡ each r (relationDeclared sheet))
+    × ((sheet : Sheet) → sheet.relations ≡ relations → sort_count sheet ≡ sorts → fine ≡ each r (relation_declared sheet))
 
 abbrev decreases-loop : tie.decreases-loop
 decreases-loop relations sorts count fine₀ r₀ fine r = count - r
@@ -38,7 +38,7 @@ loop-again : tie.Need-loop-preserved invariant-loop decreases-loop
 loop-again c =
     let l = c.before.before.before.loop in (
       omega arith,
-      λ sheet e s. each_more (relationDeclared sheet) l.r l.fine c.both.result (l.invariant.1 sheet e s)
+      λ sheet e s. each_more (relation_declared sheet) l.r l.fine c.both.result (l.invariant.1 sheet e s)
           (rw (← c.before.relation-fine.ensures sheet e s) c.both.ensures),
     )
 

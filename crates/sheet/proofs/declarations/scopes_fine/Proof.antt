@@ -5,13 +5,13 @@ use Prim.Native.Nat.{◌≤◌, ◌-◌}
 use native.Mathlib.Omega.{arith}
 use lib.ListN.{length}
 use Rattle.prelude.specs.Tests.{each, between}
-use Rattle.sheet.specs.Filling.{scopeIn}
+use Rattle.sheet.specs.Filling.{scope_in}
 use Rattle.sheet.proofs.Loops.{each_none, each_more}
 use Rattle.sheet.proofs.declarations.scopes_fine.Statement.{statement}
 use Rattle.sheet.proofs.declarations.scopes_fine.Tie as tie
 
 abbrev invariant-loop : tie.invariant-loop
-invariant-loop sorts fine₀ k₀ fine k = (k ≤ length sorts) × (fine ≡ each k (λ i. between 1 8 (scopeIn sorts i)))
+invariant-loop sorts fine₀ k₀ fine k = (k ≤ length sorts) × (fine ≡ each k (λ i. between 1 8 (scope_in sorts i)))
 
 abbrev decreases-loop : tie.decreases-loop
 decreases-loop sorts fine₀ k₀ fine k = length sorts - k

@@ -5,8 +5,8 @@ use Prim.Native.Nat.{◌≤◌, ◌-◌, ◌/◌}
 use native.Mathlib.Omega.{arith}
 use lib.ListN.{length}
 use Rattle.prelude.specs.Tests.{each}
-use Rattle.sheet_rules.specs.Blocks.{Sheet, sortCount, variableCount, relationCount}
-use Rattle.sheet_rules.specs.Reading.{nodeFine}
+use Rattle.sheet_rules.specs.Blocks.{Sheet, sort_count, variable_count, relation_count}
+use Rattle.sheet_rules.specs.Reading.{node_fine}
 use Rattle.sheet.proofs.Loops.{each_none, each_more}
 use Rattle.sheet.proofs.nodes.nodes_fine.Statement.{statement}
 use Rattle.sheet.proofs.nodes.nodes_fine.Tie as tie
@@ -14,8 +14,8 @@ use Rattle.sheet.proofs.nodes.nodes_fine.Tie as tie
 abbrev invariant-loop : tie.invariant-loop
 invariant-loop nodes sorts variables relations count fine₀ v₀ fine v =
     (v ≤ count)
-    × ((sheet : Sheet) → sheet.nodes ≡ nodes → sortCount sheet ≡ sorts → variableCount sheet ≡ variables → relationCount sheet ≡ relations
-    → fine ≡ each v (nodeFine sheet))
+    × ((sheet : Sheet) → sheet.nodes ≡ nodes → sort_count sheet ≡ sorts → variable_count sheet ≡ variables → relation_count sheet ≡ relations
+    → fine ≡ each v (node_fine sheet))
 
 abbrev decreases-loop : tie.decreases-loop
 decreases-loop nodes sorts variables relations count fine₀ v₀ fine v = count - v
@@ -39,7 +39,7 @@ loop-again : tie.Need-loop-preserved invariant-loop decreases-loop
 loop-again c =
     let l = c.before.before.before.loop in (
       omega arith,
-      λ sheet e s x r. each_more (nodeFine sheet) l.v l.fine c.both.result (l.invariant.1 sheet e s x r)
+      λ sheet e s x r. each_more (node_fine sheet) l.v l.fine c.both.result (l.invariant.1 sheet e s x r)
           (rw (← c.before.node-fine.ensures sheet e s x r) c.both.ensures),
     )
 

@@ -6,13 +6,13 @@ use native.Mathlib.Omega.{arith}
 use lib.ListN.{get_or}
 use Rattle.prelude.specs.Tests.{each}
 use Rattle.shapes.specs.declared.Shape.TheVariants.{Ill}
-use Rattle.shapes.specs.Shapes.{isShaped}
+use Rattle.shapes.specs.Shapes.{is_shaped}
 use Rattle.sheet.proofs.Loops.{each_none, each_more}
 use Rattle.sheet.proofs.tables.all_shaped.Statement.{statement}
 use Rattle.sheet.proofs.tables.all_shaped.Tie as tie
 
 abbrev invariant-loop : tie.invariant-loop
-invariant-loop shapes n fine₀ v₀ fine v = (v ≤ n) × (fine ≡ each v (λ i. isShaped (get_or shapes i Ill)))
+invariant-loop shapes n fine₀ v₀ fine v = (v ≤ n) × (fine ≡ each v (λ i. is_shaped (get_or shapes i Ill)))
 
 abbrev decreases-loop : tie.decreases-loop
 decreases-loop shapes n fine₀ v₀ fine v = n - v
@@ -40,7 +40,7 @@ loop-again c =
     let l = c.before.before.before.before.loop in (
       omega arith,
       each_more _ l.v l.fine c.both.result l.invariant.1
-          (rw (← c.before.before.shape_at.ensures, ← c.before.is-shaped.ensures) c.both.ensures),
+          (rw (← c.before.before.shape_at.ensures, ← c.before.is_shaped_ok.ensures) c.both.ensures),
     )
 
 returns : tie.Need-returns invariant-loop decreases-loop

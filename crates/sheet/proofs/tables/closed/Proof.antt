@@ -6,7 +6,7 @@ use Prim.Native.Nat.{◌≤◌, ◌-◌}
 use native.Mathlib.Omega.{arith}
 use lib.ListN.{get_or}
 use Rattle.prelude.specs.Tests.{each}
-use Rattle.sheet_rules.specs.Blocks.{Sheet, root as rootOf}
+use Rattle.sheet_rules.specs.Blocks.{Sheet, root as root_of}
 use Rattle.sheet_rules.specs.Tables.{free}
 use Rattle.sheet.proofs.Loops.{each_none, each_more}
 use Rattle.sheet.proofs.tables.closed.Statement.{statement}
@@ -15,7 +15,7 @@ use Rattle.sheet.proofs.tables.closed.Tie as tie
 abbrev invariant-loop : tie.invariant-loop
 invariant-loop nodes variables root fine₀ x₀ fine x =
     (x ≤ variables)
-    × ((sheet : Sheet) → sheet.nodes ≡ nodes → fine ≡ each x (λ i. not (get_or (free sheet i) (rootOf sheet) false)))
+    × ((sheet : Sheet) → sheet.nodes ≡ nodes → fine ≡ each x (λ i. not (get_or (free sheet i) (root_of sheet) false)))
 
 abbrev decreases-loop : tie.decreases-loop
 decreases-loop nodes variables root fine₀ x₀ fine x = variables - x
@@ -46,7 +46,7 @@ loop-again c =
     let l = c.before.before.before.before.loop in (
       omega arith,
       λ sheet n. each_more _ l.x l.fine c.both.result (l.invariant.1 sheet n)
-          (rw (← (c.before.before.Free-in.ensures sheet n).at (rootOf sheet), n, ← c.before.flag_at.ensures) c.both.ensures),
+          (rw (← (c.before.before.Free-in.ensures sheet n).at (root_of sheet), n, ← c.before.flag_at.ensures) c.both.ensures),
     )
 
 returns : tie.Need-returns invariant-loop decreases-loop

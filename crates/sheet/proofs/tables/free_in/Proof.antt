@@ -6,11 +6,11 @@ use mathlib.Core.List.{List}
 use native.Mathlib.Nat.{add-zero}
 use native.Mathlib.Omega.{arith}
 use lib.ListN.{length, length-set, length-replicate}
-use Rattle.sheet_rules.specs.Blocks.{Sheet, fieldA, fieldB}
+use Rattle.sheet_rules.specs.Blocks.{Sheet, field_a, field_b}
 use Rattle.sheet.specs.Filling.{Fills}
 use Rattle.sheet.proofs.FillingLaws.{fills-none, fills-more}
 use mathlib.Core.Bool.{Bool, false}
-use Rattle.sheet_rules.specs.Tables.{table, freeStep}
+use Rattle.sheet_rules.specs.Tables.{table, free_step}
 use Rattle.sheet.proofs.tables.free_in.Statement.{statement}
 use Rattle.sheet.proofs.tables.free_in.Tie as tie
 
@@ -18,7 +18,7 @@ abbrev invariant-loop : tie.invariant-loop
 invariant-loop nodes x count free₀ v₀ free v =
     (v ≤ count)
     × (length free ≡ 200)
-    × ((sheet : Sheet) → sheet.nodes ≡ nodes → Fills (λ f. f) false (table (freeStep sheet x) v) free)
+    × ((sheet : Sheet) → sheet.nodes ≡ nodes → Fills (λ f. f) false (table (free_step sheet x) v) free)
 
 abbrev decreases-loop : tie.decreases-loop
 decreases-loop nodes x count free₀ v₀ free v = count - v
@@ -58,16 +58,16 @@ loop-less c = omega arith
 
 -- a step reads the array where the definition reads the table
 same_step : (sheet : Sheet) (x v : ℕ) (entries array : List Bool) → Fills (λ f. f) false entries array
-    → freeStep sheet x v array ≡ freeStep sheet x v entries
-unfolding freeStep
-same_step sheet x v entries array f = rw (f.at (fieldA sheet v), f.at (fieldB sheet v)) refl
+    → free_step sheet x v array ≡ free_step sheet x v entries
+unfolding free_step
+same_step sheet x v entries array f = rw (f.at (field_a sheet v), f.at (field_b sheet v)) refl
 
 found : (c : tie.After-free-by invariant-loop decreases-loop) (sheet : Sheet)
     → sheet.nodes ≡ c.before.before.before.before.before.before.before.before.before.before.args.nodes.now
-    → c.free-by.result ≡ freeStep sheet c.before.before.before.before.before.before.before.before.before.before.args.x
+    → c.free-by.result ≡ free_step sheet c.before.before.before.before.before.before.before.before.before.before.args.x
     c.before.before.before.before.before.before.before.before.loop.v
     c.before.before.before.before.before.before.before.before.loop.free
-unfolding freeStep
+unfolding free_step
 found c sheet n =
     let kind = rw add-zero at c.before.before.before.before.before.before.field.ensures.0 in
     rw (
@@ -87,7 +87,7 @@ loop-again c =
       omega arith,
       simp length-set l.invariant.1,
       λ sheet n. fills-more (λ f. f) false
-          (freeStep sheet c.before.before.before.before.before.before.before.before.before.before.args.x) l.v l.free
+          (free_step sheet c.before.before.before.before.before.before.before.before.before.before.args.x) l.v l.free
           c.free-by.result (omega arith) (l.invariant.2 sheet n)
           (found c sheet n ∙ same_step sheet _ l.v _ l.free (l.invariant.2 sheet n)),
     )

@@ -1,5 +1,5 @@
 -- The row of the kind, the fields, and the shapes of what they name.
-use Rattle.sheet_rules.specs.Tables.{shapeStep}
+use Rattle.sheet_rules.specs.Tables.{shape_step}
 use native.Mathlib.Nat.{add-zero}
 use borrow.Author.Rules.{rules}
 use Rattle.sheet.proofs.tables.node_shape.Statement.{statement}
@@ -33,7 +33,7 @@ shape-by-requires : tie.Need-shape-by-requires
 shape-by-requires c κs = search rules
 
 returns : tie.Need-returns
-unfolding shapeStep
+unfolding shape_step
 returns c sheet e s n =
     let kind = rw add-zero at c.before.before.before.before.before.before.before.before.field.ensures.0 in
     rw (

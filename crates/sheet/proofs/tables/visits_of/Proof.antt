@@ -6,11 +6,11 @@ use mathlib.Core.List.{List, []}
 use native.Mathlib.Nat.{add-zero}
 use native.Mathlib.Omega.{arith}
 use lib.ListN.{length, get_or, length-set, length-replicate}
-use Rattle.sheet_rules.specs.Blocks.{Sheet, scope, sortOf, kind, fieldA, fieldB}
-use Rattle.kinds.specs.Kinds.{rowOf}
+use Rattle.sheet_rules.specs.Blocks.{Sheet, scope, sort_of, kind, field_a, field_b}
+use Rattle.kinds.specs.Kinds.{row_of}
 use Rattle.sheet.specs.Filling.{Fills, capped}
 use Rattle.sheet.proofs.FillingLaws.{fills-none, fills-more}
-use Rattle.sheet_rules.specs.Tables.{table, visitsStep}
+use Rattle.sheet_rules.specs.Tables.{table, visits_step}
 use Rattle.sheet.proofs.Visits.{capped_le, capped-visits}
 use Rattle.sheet.proofs.tables.visits_of.Statement.{statement}
 use Rattle.sheet.proofs.tables.visits_of.Tie as tie
@@ -20,7 +20,7 @@ invariant-loop sorts variables nodes count visits₀ v₀ visits v =
     (v ≤ count)
     × (length visits ≡ 200)
     × ((sheet : Sheet) → sheet.sorts ≡ sorts → sheet.variables ≡ variables → sheet.nodes ≡ nodes
-    → Fills capped 0 (table (visitsStep sheet) v) visits)
+    → Fills capped 0 (table (visits_step sheet) v) visits)
 
 abbrev decreases-loop : tie.decreases-loop
 decreases-loop sorts variables nodes count visits₀ v₀ visits v = count - v
@@ -82,12 +82,12 @@ loop-less c = omega arith
 
 -- a step reads the array where the definition reads the table, and what was capped may be capped after
 same_step : (sheet : Sheet) (v : ℕ) (entries array : List ℕ) → Fills capped 0 entries array
-    → capped (visitsStep sheet v array) ≡ capped (visitsStep sheet v entries)
-unfolding visitsStep
+    → capped (visits_step sheet v array) ≡ capped (visits_step sheet v entries)
+unfolding visits_step
 same_step sheet v entries array f =
-    rw (f.at (fieldA sheet v), f.at (fieldB sheet v))
-    (capped-visits (rowOf (kind sheet v)) (scope sheet (sortOf sheet (fieldA sheet v)))
-    (get_or entries (fieldA sheet v) 0) (get_or entries (fieldB sheet v) 0))
+    rw (f.at (field_a sheet v), f.at (field_b sheet v))
+    (capped-visits (row_of (kind sheet v)) (scope sheet (sort_of sheet (field_a sheet v)))
+    (get_or entries (field_a sheet v) 0) (get_or entries (field_b sheet v) 0))
 
 abbrev start : tie.After-visits-by invariant-loop decreases-loop → tie.Start invariant-loop decreases-loop
 start c = c.before.before.before.before.before.before.before.before.before.before.before.before.before.before
@@ -97,9 +97,9 @@ found : (c : tie.After-visits-by invariant-loop decreases-loop) (sheet : Sheet)
     → sheet.variables ≡ (start c).args.variables.now
     → sheet.nodes ≡ (start c).args.nodes.now
     → c.visits-by.result
-    ≡ capped (visitsStep sheet c.before.before.before.before.before.before.before.before.before.before.loop.v
+    ≡ capped (visits_step sheet c.before.before.before.before.before.before.before.before.before.before.loop.v
     c.before.before.before.before.before.before.before.before.before.before.loop.visits)
-unfolding visitsStep
+unfolding visits_step
 found c sheet s x n =
     let kind = rw add-zero at c.before.before.before.before.before.before.before.before.field.ensures.0 in
     rw (
@@ -122,7 +122,7 @@ loop-again c =
     let l = c.before.before.before.before.before.before.before.before.before.before.loop in (
       omega arith,
       simp length-set l.invariant.1,
-      λ sheet s x n. fills-more capped 0 (visitsStep sheet) l.v l.visits c.visits-by.result (omega arith) (l.invariant.2 sheet s x n)
+      λ sheet s x n. fills-more capped 0 (visits_step sheet) l.v l.visits c.visits-by.result (omega arith) (l.invariant.2 sheet s x n)
           (found c sheet s x n ∙ same_step sheet l.v _ l.visits (l.invariant.2 sheet s x n)),
     )
 
