@@ -1,5 +1,7 @@
 // The C boundary: the library's functions for tests, measures and callers in other languages. A slice passes as
 // its address and its length. The first number of an answer is that of a refusal, 0 where nothing is refused.
+#![tactic(auto)]
+
 pub mod answer; // answer.rt: the answers, in numbers
 pub mod sheets; // sheets.rt: reading a sheet, and the check of an instance
 pub mod lists; // lists.rt: counting and writing clauses, and clause text

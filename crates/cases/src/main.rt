@@ -1,4 +1,6 @@
 // The stored inputs of data/, through the finder, through the finder that goes on, through `every`, and through `cnf`.
+#![tactic(auto)]
+
 fn open(name: &[u8]) -> i32 {
     let fd = os::open_read(name);
     if fd < 0 {

@@ -1,5 +1,7 @@
 // What stands where in an accepted sheet: its blocks, scopes and membership cells, the declarations of its
 // relations and their cells (document 01, "The sheet" and "Clauses").
+#![tactic(auto)]
+
 ghost use Rattle.std.specs.Prelude.{◌≡◌, ◌+◌, ◌*◌, ◌≤◌, ◌<◌, leb};
 ghost use Rattle.prelude.specs.Tests.{all};
 ghost use Rattle.sheet_rules.specs.Blocks as spec;

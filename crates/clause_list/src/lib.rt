@@ -1,4 +1,6 @@
 // Clause lists in 32-bit words: the test of number 12 (document 01, "Answers that decline").
+#![tactic(auto)]
+
 ghost use Rattle.std.specs.Prelude.{◌≡◌, ◌≤◌};
 ghost use Rattle.prelude.specs.Tests.{all};
 ghost use Rattle.literal.specs.Literals.{is_literal};

@@ -1,4 +1,6 @@
 // Counting and writing the clauses of a sheet (document 01, "Clauses").
+#![tactic(auto)]
+
 ghost use Rattle.std.specs.Prelude.{◌≡◌};
 ghost use Rattle.sheet_rules.specs.Reading.{accepted, reading};
 ghost use Rattle.clauses.specs.Answers.{fits, answer_of, count_answer, write_answer, list_after};

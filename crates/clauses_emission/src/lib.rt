@@ -1,5 +1,7 @@
 // Clauses and gates written into a lent list (document 01, "Clauses"): clauses one after the other, OR, AND, IFF, and what is made of two
 // literals. Counting runs the same code over an empty list. The operators over matrices of literals are the crate `clauses_matrix`.
+#![tactic(auto)]
+
 pub mod gates; // gates.rt: OR, AND, IFF, and two literals
 mod inputs; // inputs.rt: what remains of the inputs of an OR
 pub mod list; // list.rt: one clause after the other

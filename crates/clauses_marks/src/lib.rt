@@ -1,4 +1,6 @@
 // The clauses of the marks (document 01, "Clauses"): relation by relation, row by row.
+#![tactic(auto)]
+
 ghost use Rattle.std.specs.Prelude.{◌≡◌, map, ◌<◌};
 ghost use Rattle.literal.specs.Words.{literal_of};
 ghost use Rattle.sheet_rules.specs.Blocks as spec;

@@ -1,4 +1,6 @@
 // Matrices of literals, and the operators over them (document 01, "Clauses", the last list), made of the gates of `clauses_emission`.
+#![tactic(auto)]
+
 use clauses_emission::Tape;
 
 pub mod operators; // operators.rt: union to closure

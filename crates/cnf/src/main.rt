@@ -1,4 +1,6 @@
 // A sheet on standard input, its clause text in the DIMACS CNF format on standard output, for any solver.
+#![tactic(auto)]
+
 fn main() {
     let mut list = [0i32; 262144];
     let mut text = [0u8; 1835022];

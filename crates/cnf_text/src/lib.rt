@@ -1,4 +1,6 @@
 // What `cnf` prints for an input.
+#![tactic(auto)]
+
 ghost use Rattle.std.specs.Prelude.{◌≡◌, true, ◌≤◌, length, take};
 ghost use Rattle.text.specs.Texts.{Prints};
 ghost use Rattle.clause_list.specs.ClauseList.{is_list};

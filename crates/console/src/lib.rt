@@ -1,5 +1,7 @@
 // Reading and printing for the programs. A read or a write that fails is told on standard error, and never passes for the end of
 // the input or for a text that was printed.
+#![tactic(auto)]
+
 ghost use Rattle.io.specs.Counts.{IsPrefixLen};
 
 use clauses::answer::Count;

@@ -1,4 +1,6 @@
 // The program `cnf`: a sheet is read from a descriptor, and its clause text is printed on standard output.
+#![tactic(auto)]
+
 ghost use Rattle.std.specs.Prelude.{◌≤◌};
 ghost use Rattle.io.specs.Counts.{IsPrefixLen};
 

@@ -1,4 +1,6 @@
 // The program of `./find --every`: the cases of a sheet, one after another, each printed as it is found.
+#![tactic(auto)]
+
 ghost use Rattle.std.specs.Prelude.{◌≡◌, ◌≤◌, length, take};
 ghost use Rattle.search.specs.Resuming.{start};
 ghost use Rattle.search.specs.Every.{Fresh};

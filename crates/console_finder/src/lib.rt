@@ -1,5 +1,7 @@
 // The finder program: a sheet is read from a descriptor, and what `report` makes of it is printed on standard output. Crates
 // `console_finder_on` and `console_every` read and print with the same functions.
+#![tactic(auto)]
+
 ghost use Rattle.std.specs.Prelude.{◌≤◌};
 ghost use Rattle.io.specs.Counts.{IsPrefixLen};
 

@@ -1,4 +1,6 @@
 // The program of `./find --on`: the finder, with a search that goes on until it ends. It shows the steps done on standard error.
+#![tactic(auto)]
+
 ghost use Rattle.std.specs.Prelude.{◌≤◌};
 
 use cells::MOST_CELLS;

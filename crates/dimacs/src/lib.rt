@@ -1,4 +1,6 @@
 // Clause text in the DIMACS CNF format (document 01): its length, and the text itself.
+#![tactic(auto)]
+
 ghost use Rattle.std.specs.Prelude.{◌≡◌, ◌≤◌, nat_abs};
 ghost use Rattle.text.specs.Puts.{Room, Put};
 ghost use Rattle.clause_list.specs.ClauseList.{clauses_of};

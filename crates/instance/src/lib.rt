@@ -1,6 +1,8 @@
 // The check of an instance: is it within the scopes of a sheet, and does it satisfy marks and formula (document 01,
 // "Kinds and meanings")?
 // Its steps are in `instance_evaluation` and `instance_matrix`, in the order of section 2.2 of source document 001.
+#![tactic(auto)]
+
 ghost use Rattle.std.specs.Prelude.{◌≡◌};
 ghost use Rattle.sheet_rules.specs.Reading.{accepted, reading};
 ghost use Rattle.instance.specs.Answers.{CheckAnswers, answer_of};

@@ -1,6 +1,8 @@
 // The value of an expression and the truth of a formula in an instance (document 01, "Kinds and meanings"), whether the
 // marks hold, and whether the cells are of members.
 // The steps stand in the order of section 2.2 of source document 001, headed by the numbers of its parts.
+#![tactic(auto)]
+
 ghost use Rattle.std.specs.Prelude.{◌≡◌};
 ghost use Rattle.sheet_rules.specs.Blocks.{sheet_of};
 ghost use Rattle.cells.specs.Private.{Located};

@@ -1,5 +1,7 @@
 // Values of expressions: matrices of flags by value, and the operators on them (document 01, "Kinds and meanings").
 // The modules stand in the order of section 2.2 of source document 001, headed by the numbers of its parts.
+#![tactic(auto)]
+
 ghost use Rattle.std.specs.Prelude.{◌≡◌, ◌+◌, ◌*◌, ◌<◌, ◌≤◌};
 
 pub mod flags; // flags.rt: two flags

@@ -1,4 +1,6 @@
 // "Each kind has one row in a constant table: which fields are nodes, and what shapes it takes."
+#![tactic(auto)]
+
 ghost use Rattle.std.specs.Prelude.{◌≡◌, ◌<◌};
 ghost use Rattle.kinds.specs.Kinds.{is_known, row_of};
 ghost use Rattle.kinds.specs.Codes.{field_at, rule_at, codes_of};

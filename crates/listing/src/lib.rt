@@ -1,4 +1,6 @@
 // What the program `every` prints, call by call (document 02, Change 6), as text in a lent slice.
+#![tactic(auto)]
+
 ghost use Rattle.std.specs.Prelude.{◌≡◌, ◌≤◌, length, take};
 ghost use Rattle.text.specs.Texts.{Prints};
 ghost use Rattle.search.specs.Answers.{answer_of};

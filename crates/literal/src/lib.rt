@@ -1,5 +1,7 @@
 // 32-bit literals (document 01, "Clauses"): a word is negated, its sign tested and its width changed here alone.
 // A function that asks nothing takes every word, and sets the lowest number, which has no opposite, aside before any negation.
+#![tactic(auto)]
+
 ghost use Rattle.std.specs.Prelude.{◌≡◌, min, ◌-◌, ◌≤◌, pos, nat_abs};
 ghost use Rattle.literal.specs.Literals.{is_literal};
 ghost use Rattle.literal.specs.Words.{is_positive, opposite_word, positive_word, count_of, last_variable};

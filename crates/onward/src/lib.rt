@@ -1,4 +1,6 @@
 // From a sheet to an answer, with a search that is taken up again until it ends.
+#![tactic(auto)]
+
 ghost use Rattle.std.specs.Prelude.{◌≡◌, ◌≤◌, length, take};
 ghost use Rattle.text.specs.Texts.{Prints};
 ghost use Rattle.search.specs.Answers.{answer_of};

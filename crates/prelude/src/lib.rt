@@ -1,4 +1,6 @@
 // Tests as functions: what a test showed stays an equation where branches meet.
+#![tactic(auto)]
+
 ghost use Rattle.std.specs.Prelude.{◌≡◌, ◌&&◌, ◌||◌, cond};
 ghost use Rattle.prelude.specs.Tests.{between};
 

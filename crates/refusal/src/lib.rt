@@ -1,4 +1,6 @@
 // The answers that decline (document 01, "Answers that decline", and document 02): one case for each number.
+#![tactic(auto)]
+
 ghost use Rattle.std.specs.Prelude.{◌≡◌};
 ghost use Rattle.refusal.specs.Refusals.{number_of};
 

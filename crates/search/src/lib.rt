@@ -1,5 +1,7 @@
 // The search (document 01, "Search"; document 02, Changes 1, 3 and 6): the rules' run over lent slices, from a fresh start or taken up again, and
 // the call for the next.
+#![tactic(auto)]
+
 ghost use Rattle.std.specs.Prelude.{◌≡◌};
 ghost use Rattle.search.specs.declared.answer.Search.TheVariants.{Refused};
 ghost use Rattle.search.specs.Answers.{answer_of, outcome};

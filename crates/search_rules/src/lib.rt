@@ -1,4 +1,5 @@
 // Where a run of the step rules stands: what a search shows of it, with the rules in specs/.
+#![tactic(auto)]
 
 // The steps done, by kind: the paper's forces, choices and turns.
 #[derive(Drop)]

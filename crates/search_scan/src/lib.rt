@@ -1,4 +1,6 @@
 // What the values say of a literal and of the clause list.
+#![tactic(auto)]
+
 ghost use Rattle.std.specs.Prelude.{◌≡◌, ◌≤◌, length};
 ghost use Rattle.clause_list.specs.ClauseList.{clauses_of};
 ghost use Rattle.literal.specs.Words.{last_variable};

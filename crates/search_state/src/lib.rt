@@ -1,4 +1,6 @@
 // Number 14 (document 02, Changes 1 and 3): whether values, trail and a length hold a state of the rules, and whether the steps are too many.
+#![tactic(auto)]
+
 ghost use Rattle.std.specs.Prelude.{◌≡◌, not, ◌&&◌, ◌≤◌, pos, nat_abs, length, get_or};
 ghost use Rattle.prelude.specs.Tests.{each, any};
 ghost use Rattle.literal.specs.Literals.{is_literal};

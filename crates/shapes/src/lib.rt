@@ -1,4 +1,6 @@
 // Shapes of expressions and formulas, and what shapes a kind takes and gives (specs/Shapes.antt).
+#![tactic(auto)]
+
 ghost use Rattle.std.specs.Prelude.{◌≡◌, cond, eqb};
 ghost use Rattle.shapes.specs.Shapes as spec;
 

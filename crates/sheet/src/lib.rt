@@ -1,4 +1,6 @@
 // Reading a sheet (document 01, "The sheet" and "Kinds and meanings"): refusals 1 to 9.
+#![tactic(auto)]
+
 ghost use Rattle.std.specs.Prelude.{◌≡◌};
 ghost use Rattle.sheet_rules.specs.Reading.{reading};
 ghost use Rattle.sheet.specs.Answers.{answer_of};

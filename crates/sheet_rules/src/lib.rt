@@ -1,4 +1,5 @@
 // Where the blocks of a sheet stand: what reading answers of an accepted sheet, with the rules of reading in specs/.
+#![tactic(auto)]
 
 // Where a block's records start in the sheet, and how many there are.
 #[derive(Drop)]

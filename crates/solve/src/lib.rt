@@ -1,4 +1,6 @@
 // From a sheet to an answer: read-back, and the finder over lent slices.
+#![tactic(auto)]
+
 ghost use Rattle.std.specs.Prelude.{◌≡◌};
 ghost use Rattle.sheet_rules.specs.Blocks.{sheet_of};
 ghost use Rattle.relational.specs.Cells.{cell_count};

@@ -1,4 +1,6 @@
 // Text in a lent slice: pieces, numbers in decimal, lines. Each function that puts a piece does so where there is room, and answers where it ends.
+#![tactic(auto)]
+
 ghost use Rattle.std.specs.Prelude.{◌≡◌, ◌≤◌, length};
 ghost use Rattle.text.specs.Texts.{decimal, end_line};
 ghost use Rattle.text.specs.Puts.{Room, Put};
