@@ -8,8 +8,7 @@ use native.Mathlib.Omega.{arith}
 use borrow.Author.Tests.{ltb-true}
 use Rattle.literal.specs.Words.{count_of}
 use Rattle.literal.proofs.Signs.{back, not_negative, is_negative, casts}
-use Rattle.literal.proofs.count.Statement.{statement}
-use Rattle.literal.proofs.count.Tie as tie
+use Rattle.literal.proofs.count.Goals as goal
 
 below : (w : ℤ) → lt_z w (pos 0) ≡ true → 0 ≡ count_of w
 below (pos n) e = absurd (omega (arith, ltb-true n 0 e))
@@ -19,20 +18,17 @@ above : (w : ℤ) → T (non_neg w) → nat_abs w ≡ count_of w
 above (pos n) t = refl
 above (negsuc n) t = absurd t
 
-returns : tie.Need-returns
+pub returns-then-w-lt0 : goal.returns-then-w-lt0
+returns-then-w-lt0 c =
+    let w = c.args.w in
+    below w (is_negative w c.ranges.w c.if-w-lt0.true)
+
+pub overflow_cast-result : goal.overflow_cast-result
+overflow_cast-result c =
+    let w = c.args.w in
+    casts w c.ranges.w (not_negative w c.ranges.w c.if-w-lt0.false)
+
+pub returns : goal.returns
 returns c =
-    let w = c.before.args.w in
-    below w (is_negative w c.before.ranges.w c.if1.true)
-
-cast-result : tie.Need-overflow-cast-result
-cast-result c =
-    let w = c.before.args.w in
-    casts w c.before.ranges.w (not_negative w c.before.ranges.w c.if1.false)
-
-returns-2 : tie.Need-returns-2
-returns-2 c =
-    let w = c.before.args.w in
-    rw (back w c.before.ranges.w) (above w (not_negative w c.before.ranges.w c.if1.false))
-
-pub count_spec : {M : Type 1} → statement M
-count_spec = tie.close (tie.spec returns cast-result returns-2)
+    let w = c.args.w in
+    rw (back w c.ranges.w) (above w (not_negative w c.ranges.w c.if-w-lt0.false))
