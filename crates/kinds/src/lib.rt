@@ -6,7 +6,7 @@ ghost use Rattle.kinds.specs.Kinds.{is_known, row_of};
 ghost use Rattle.kinds.specs.Codes.{field_at, rule_at, codes_of};
 
 // What a field of a node names.
-#[derive(Drop)]
+#[derive(Clone, Copy)]
 pub enum Field {
     Unused,
     Node,
@@ -16,7 +16,7 @@ pub enum Field {
 }
 
 // What shapes a kind takes and gives (specs/Shapes.antt); an unknown number has no rule.
-#[derive(Drop)]
+#[derive(Clone, Copy)]
 pub enum Rule {
     Unknown,
     OfRelation,
@@ -36,7 +36,7 @@ pub enum Rule {
     Quantifier,
 }
 
-#[derive(Drop)]
+#[derive(Clone, Copy)]
 pub struct Row {
     pub a: Field,
     pub b: Field,
@@ -44,7 +44,7 @@ pub struct Row {
 }
 
 // A row of the table: field a, field b, the rule.
-#[derive(Drop)]
+#[derive(Clone, Copy)]
 struct Codes(u8, u8, u8);
 
 // The table's numbers for fields and rules.
