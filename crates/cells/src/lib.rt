@@ -161,7 +161,7 @@ pub fn row_length(sheet: &[u8], layout: Layout, r: usize) -> usize
 pub const MOST_CELLS: usize = 1088;
 
 // How many cells there are, and the first cell of each relation.
-#[derive(Drop)]
+#[derive(Clone, Copy)]
 pub struct Cells {
     pub count: usize,
     pub starts: [usize; 16],

@@ -10,7 +10,7 @@ use sheet::bytes::field;
 use sheet_rules::Layout;
 
 // The kinds of expressions that the walk treats alike.
-#[derive(Drop)]
+#[derive(Clone, Copy)]
 pub enum ExpressionForm {
     Leaf,
     Binary,
@@ -19,7 +19,7 @@ pub enum ExpressionForm {
 }
 
 // And those of formulas.
-#[derive(Drop)]
+#[derive(Clone, Copy)]
 pub enum FormulaForm {
     Comparison,
     Test,
@@ -28,7 +28,7 @@ pub enum FormulaForm {
     Quantifier,
 }
 
-#[derive(Drop)]
+#[derive(Clone, Copy)]
 pub struct Node {
     pub expression: ExpressionForm,
     pub formula: FormulaForm,

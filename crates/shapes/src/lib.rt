@@ -8,7 +8,7 @@ use kinds::Rule;
 use prelude::both;
 
 // A set of a sort, a relation from a sort to a sort, a formula, or operands that the kind does not take.
-#[derive(Drop)]
+#[derive(Clone, Copy)]
 pub enum Shape {
     Ill,
     Formula,

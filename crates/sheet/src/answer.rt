@@ -2,7 +2,7 @@
 use refusal::Refusal;
 use sheet_rules::Layout;
 
-#[derive(Drop)]
+#[derive(Clone, Copy)]
 pub enum Reading {
     Accepted(Layout),
     Refused(Refusal),

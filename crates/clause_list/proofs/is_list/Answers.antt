@@ -53,10 +53,9 @@ returns-then-taken-eq0 c =
 
 -- a clause was passed
 passed : (c : At-Else4)
-    → goal.the-invariant-loop-at c.args.list.now
-    c.args.v
-    0
-    (c.loop-at.at + c.clause_words-taken.result)
+    → (c.loop-at.at + c.clause_words-taken.result ≤ length c.args.list.now)
+    × (well_cut_words c.args.v c.args.list.now
+    ≡ well_cut_words c.args.v (drop (c.loop-at.at + c.clause_words-taken.result) c.args.list.now))
 passed c =
     let a = c.args in
     let at = c.loop-at.at in
