@@ -3,7 +3,6 @@ use Prim.Native.Nat.{ℕ, ◌≤◌, ◌+◌, ◌-◌}
 use native.Mathlib.Omega.{arith}
 use lib.ListN.{length, drop, drop_of_length-le, length-drop}
 use lib.Seq.{drop-drop, take_all}
-use borrow.Author.Rules.{rules}
 use Rattle.clause_list.specs.Private.{clause_words}
 use Rattle.clause_list.proofs.Laws.{well_cut_words, well-cut-nil, no-variable, many-variables, many-words, list-cut}
 use Rattle.clause_list.proofs.Fronts.{front_cut, front-none}

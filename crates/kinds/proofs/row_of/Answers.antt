@@ -1,6 +1,5 @@
 -- The numbers of the table stand for the rows of specs/Kinds, and past it no kind is known.
 use Rattle.kinds.proofs.Table.{row_from, row-past}
-use borrow.Author.Rules.{rules}
 use Rattle.kinds.proofs.row_of.Goals as goal
 
 pub returns-then-kind-ge42 : goal.returns-then-kind-ge42

@@ -1,8 +1,6 @@
 -- The rule of a row.
 use mathlib.Core.Path.{refl, ap}
-use Rattle.kinds.specs.Codes.{field_at}
 use Rattle.kinds.proofs.Table.{row_from, row-past}
-use borrow.Author.Rules.{rules}
 use Rattle.kinds.proofs.rule_of.Goals as goal
 
 pub returns-then-kind-ge42 : goal.returns-then-kind-ge42

@@ -3,7 +3,6 @@ use mathlib.Core.Path.{◌≡◌, sym, ap, ◌∙◌}
 use Prim.Native.Nat.{min, ◌<◌}
 use lib.IntN.{nat_abs}
 use native.Mathlib.Omega.{arith}
-use borrow.Author.Rules.{rules}
 use Rattle.prelude.proofs.Laws.{below-not-between, above-not-between, is-between}
 use Rattle.literal.proofs.Signs.{back, lowest-word, above-lowest}
 use Rattle.literal.proofs.is_literal.Goals as goal

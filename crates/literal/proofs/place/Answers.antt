@@ -3,7 +3,6 @@ use mathlib.Core.Path.{◌≡◌, ap, ◌∙◌}
 use Prim.Native.Nat.{◌<◌, ◌-◌}
 use native.Mathlib.Omega.{arith}
 use lib.IntN.{pos, nat_abs, ◌-ℤ◌}
-use borrow.Author.Rules.{rules}
 use Rattle.literal.proofs.Signs.{read, negated, not_negative, casts, neg-casts, abs_neg, widened}
 use Rattle.literal.proofs.place.Goals as goal
 use Rattle.literal.proofs.place.Lts as lts

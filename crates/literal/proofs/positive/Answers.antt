@@ -1,7 +1,6 @@
 -- `literal::positive` meets its contract.
 use mathlib.Core.Path.{sym, ◌∙◌}
 use native.Mathlib.Omega.{arith}
-use borrow.Author.Rules.{rules}
 use borrow.Author.Tests.{lt-leb}
 use Rattle.literal.proofs.Signs.{positive-word}
 use Rattle.literal.proofs.Words.{positive-is}

@@ -2,7 +2,6 @@
 use mathlib.Core.Path.{sym, ap, ◌∙◌}
 use Prim.Native.Nat.{◌<◌}
 use lib.IntN.{nat_abs}
-use borrow.Author.Rules.{rules}
 use Rattle.literal.proofs.Signs.{lowest-word, above-lowest, negated, not_negative, casts, neg-casts, abs_neg}
 use Rattle.literal.proofs.variable.Goals as goal
 use Rattle.literal.proofs.variable.Lts as lts

@@ -1,8 +1,8 @@
 -- `put_decimal` meets its contract: the digits of the tenth, and then the last digit.
 use mathlib.Core.Path.{sym, ◌∙◌}
-use Prim.Native.Nat.{ℕ, ◌<◌, ◌%◌}
+use Prim.Native.Nat.{◌%◌}
 use native.Mathlib.Omega.{arith}
-use lib.ListN.{length, length-set}
+use lib.ListN.{length-set}
 use Rattle.text.specs.Texts.{digit}
 use Rattle.text.proofs.Decimals.{decimal-one, decimal-more, decimal-some, length_more}
 use Rattle.text.proofs.Puts.{put_byte, put_both, put_as, put-length}

@@ -1,8 +1,6 @@
-use mathlib.Core.Path.{◌≡◌, ap}
-use Prim.Native.Nat.{◌+◌}
+use mathlib.Core.Path.{ap}
 use native.Mathlib.Omega.{arith}
 use lib.ListN.{length}
-use Rattle.text.specs.Texts.{decimal}
 use Rattle.text.proofs.Decimals.{decimal-one, decimal-short, decimal-some, length_more}
 use Rattle.text.proofs.decimal_length.Goals as goal
 

@@ -1,10 +1,8 @@
 -- `decimal_length` meets its contract. The loop's invariant: the digits counted and those of the rest are one more than all.
-use mathlib.Core.Path.{◌≡◌, ap}
+use mathlib.Core.Path.{◌≡◌}
 use Prim.Native.Nat.{◌+◌}
-use native.Mathlib.Omega.{arith}
 use lib.ListN.{length}
 use Rattle.text.specs.Texts.{decimal}
-use Rattle.text.proofs.Decimals.{decimal-one, decimal-short, decimal-some, length_more}
 use Rattle.text.proofs.decimal_length.Given as goal
 
 abbrev pub invariant-loop-rest : goal.invariant-loop-rest

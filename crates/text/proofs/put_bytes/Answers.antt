@@ -1,7 +1,6 @@
-use Prim.Native.Nat.{◌-◌, ◌≤◌}
 use native.Mathlib.Omega.{arith}
-use lib.ListN.{length, drop, length-drop, drop_of_length-le}
-use Rattle.text.proofs.Puts.{Left, left-all, left_as, left-byte, left-room, left-none, put-length}
+use lib.ListN.{length-drop, drop_of_length-le}
+use Rattle.text.proofs.Puts.{left-all, left_as, left-byte, left-room, left-none, put-length}
 use Rattle.text.proofs.put_bytes.Goals as goal
 
 pub loop-i-init : goal.loop-i-init

@@ -1,8 +1,7 @@
 -- `put_bytes` meets its contract. The loop's invariant: what is still to be put is the piece from the next byte on.
 use Prim.Native.Nat.{◌-◌, ◌≤◌}
-use native.Mathlib.Omega.{arith}
-use lib.ListN.{length, drop, length-drop, drop_of_length-le}
-use Rattle.text.proofs.Puts.{Left, left-all, left_as, left-byte, left-room, left-none, put-length}
+use lib.ListN.{length, drop}
+use Rattle.text.proofs.Puts.{Left}
 use Rattle.text.proofs.put_bytes.Given as goal
 
 abbrev pub invariant-loop-i : goal.invariant-loop-i
