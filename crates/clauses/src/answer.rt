@@ -1,14 +1,14 @@
 // What counting and writing answer.
 use refusal::Refusal;
 
-#[derive(Drop)]
+#[derive(Clone, Copy)]
 pub struct Size {
     pub variables: usize,
     pub clauses: usize,
     pub words: usize,
 }
 
-#[derive(Drop)]
+#[derive(Clone, Copy)]
 pub enum Count {
     Fits(Size),
     Refused(Refusal),

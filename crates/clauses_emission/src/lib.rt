@@ -10,21 +10,21 @@ pub mod list; // list.rt: one clause after the other
 pub const LIMIT: usize = 16001;
 
 // Where the translation stands: the next variable, and the clauses and words so far.
-#[derive(Drop)]
+#[derive(Clone, Copy)]
 pub struct Tape {
     pub next: usize,
     pub clauses: usize,
     pub words: usize,
 }
 
-#[derive(Drop)]
+#[derive(Clone, Copy)]
 pub struct Made {
     pub tape: Tape,
     pub literal: i32,
 }
 
 // What is made of two literals: OR(p, q), AND(p, q), AND(p, -q), OR(-p, q), IFF(p, q), OR(-p, -q).
-#[derive(Drop)]
+#[derive(Clone, Copy)]
 pub enum Pairing {
     Either,
     Both,
@@ -35,7 +35,7 @@ pub enum Pairing {
 }
 
 // What is seen among literals where one is looked for: the literal itself, its opposite, or nothing of the two.
-#[derive(Drop)]
+#[derive(Clone, Copy)]
 pub enum Seen {
     Nothing,
     Itself,

@@ -7,7 +7,7 @@ pub mod operators; // operators.rt: union to closure
 pub mod truths; // truths.rt: comparisons, and tests of an expression
 
 // A matrix of literals: its cells are the first rows times columns words, in row order; the other words are -1.
-#[derive(Drop)]
+#[derive(Clone, Copy)]
 pub struct Literals {
     pub arity: usize,
     pub rows: usize,
@@ -15,13 +15,13 @@ pub struct Literals {
     pub cells: [i32; 64],
 }
 
-#[derive(Drop)]
+#[derive(Clone, Copy)]
 pub struct MadeCells {
     pub cells: [i32; 64],
     pub tape: Tape,
 }
 
-#[derive(Drop)]
+#[derive(Clone, Copy)]
 pub struct MadeMatrix {
     pub matrix: Literals,
     pub tape: Tape,

@@ -5,7 +5,7 @@ ghost use Rattle.instance_matrix.specs.Values.{paired};
 use prelude::{both, either};
 
 // What two flags make.
-#[derive(Drop)]
+#[derive(Clone, Copy)]
 pub enum Pairing {
     Either,
     Both,

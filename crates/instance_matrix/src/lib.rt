@@ -15,7 +15,7 @@ pub mod truths; // truths.rt, 2.2.6: comparisons, tests, connectives, quantifier
 pub mod marks; // marks.rt, 2.1.2: the multiplicity of a row
 
 // A set is a single row of arity 1, a relation has arity 2; scopes are at most 8.
-#[derive(Drop)]
+#[derive(Clone, Copy)]
 pub struct Value {
     pub arity: usize,
     pub rows: usize,

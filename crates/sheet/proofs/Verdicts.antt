@@ -1,19 +1,19 @@
 -- A test decides, or the next one does.
 use mathlib.Core.Path.{◌≡◌, refl}
-use mathlib.Core.Bool.{Bool, true, false, not}
+use mathlib.Core.Bool.{Bool, true, false}
 use Prim.Native.Nat.{ℕ, ◌≤◌, ◌<◌}
 use native.Mathlib.Omega.{arith}
 use lib.Dec.{leb}
-use borrow.Author.Tests.{not-true, not-false, lt-leb, le-leb}
+use borrow.Author.Tests.{lt-leb, le-leb}
 use Rattle.sheet_rules.specs.Reading.{Answer, refused, unless}
 use Rattle.sheet.specs.Filling.{capped}
 
 -- the code's test t, negated in the source, is the definition's
-pub refuse : (t fine : Bool) (n : ℕ) (next : Answer) → t ≡ fine → not t ≡ true → refused n ≡ unless fine n next
-refuse t fine n next e h = rw (← e, not-true t h) refl
+pub refuse : (t fine : Bool) (n : ℕ) (next : Answer) → t ≡ fine → t ≡ false → refused n ≡ unless fine n next
+refuse t fine n next e h = rw (← e, h) refl
 
-pub pass : (t fine : Bool) (n : ℕ) (x next : Answer) → t ≡ fine → not t ≡ false → x ≡ next → x ≡ unless fine n next
-pass t fine n x next e f h = rw (← e, not-false t f) h
+pub pass : (t fine : Bool) (n : ℕ) (x next : Answer) → t ≡ fine → t ≡ true → x ≡ next → x ≡ unless fine n next
+pass t fine n x next e f h = rw (← e, f) h
 
 pub refuse-false : (fine : Bool) (n : ℕ) (next : Answer) → fine ≡ false → refused n ≡ unless fine n next
 refuse-false fine n next e = rw e refl

@@ -2,13 +2,13 @@
 #![tactic(auto)]
 
 // Where a block's records start in the sheet, and how many there are.
-#[derive(Drop)]
+#[derive(Clone, Copy)]
 pub struct Block {
     pub start: usize,
     pub count: usize,
 }
 
-#[derive(Drop)]
+#[derive(Clone, Copy)]
 pub struct Layout {
     pub sorts: Block,
     pub variables: Block,

@@ -1,7 +1,7 @@
 // What read-back answers: the cells copied, or a refusal.
 use refusal::Refusal;
 
-#[derive(Drop)]
+#[derive(Clone, Copy)]
 pub enum ReadBack {
     Copied(usize),
     Refused(Refusal),

@@ -1,0 +1,27 @@
+use borrow.Author.Rules.{rules}
+use mathlib.Core.Path.{◌≡◌}
+use Prim.Native.Nat.{◌≤◌, ◌-◌}
+use native.Mathlib.Omega.{arith}
+use lib.ListN.{get_or}
+use Rattle.prelude.specs.Tests.{each}
+use Rattle.shapes.specs.declared.Shape.TheVariants.{Ill}
+use Rattle.shapes.specs.Shapes.{is_shaped}
+use Rattle.sheet.proofs.Loops.{each_none, each_more}
+use Rattle.sheet.proofs.tables.all_shaped.Goals as goal
+
+pub loop-v-init : goal.loop-v-init
+loop-v-init c = (omega arith, each_none _)
+
+pub loop-v-preserved : goal.loop-v-preserved
+loop-v-preserved c =
+    let l = c.loop-v in (
+      omega arith,
+      each_more _ l.v l.fine c.both-fine.result l.invariant.1
+          (rw (← c.shape_at.ensures, ← c.is_shaped.ensures) c.both-fine.ensures),
+    )
+
+pub returns : goal.returns
+returns c =
+    let l = c.loop-v in
+    let e : l.v ≡ c.args.n = omega arith in
+    rw (← e) l.invariant.1
