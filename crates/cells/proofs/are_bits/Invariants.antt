@@ -1,0 +1,17 @@
+-- `are_bits` meets its contract. The loop's invariant: what is asked of all values is asked of those not yet passed.
+use mathlib.Core.Path.{◌≡◌, refl, sym, ◌∙◌}
+use Prim.Native.Nat.{ℕ, ◌≤◌, ◌-◌}
+use native.Mathlib.Omega.{arith}
+use lib.Dec.{leb}
+use lib.ListN.{length, get_or, drop}
+use borrow.Author.Rules.{rules}
+use borrow.Author.Tests.{le-leb, lt-leb}
+use Rattle.prelude.specs.Tests.{all}
+use Rattle.prelude.proofs.Laws.{and-not-left, and-rest, all_from, all-from-end}
+use Rattle.cells.proofs.are_bits.Given as goal
+
+abbrev pub invariant-loop-i : goal.invariant-loop-i
+invariant-loop-i l = (l.i ≤ length l.values) × (all (λ (b : ℕ). leb b 1) l.values ≡ all (λ (b : ℕ). leb b 1) (drop l.i l.values))
+
+abbrev pub decreases-loop-i : goal.decreases-loop-i
+decreases-loop-i l = length l.values - l.i

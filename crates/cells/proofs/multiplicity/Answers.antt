@@ -1,0 +1,6 @@
+-- `multiplicity` meets its contract: byte 1 of the declaration.
+use borrow.Author.Rules.{rules}
+use Rattle.cells.proofs.multiplicity.Goals as goal
+
+pub returns : goal.returns
+returns c = c.declared.ensures
