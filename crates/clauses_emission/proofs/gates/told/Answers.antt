@@ -18,15 +18,23 @@ use Rattle.clauses_emission.specs.Settling.{Tells}
 use Rattle.clauses_emission.proofs.Ranges.{opposite-read, inside_one}
 use Rattle.clauses_emission.proofs.Twos.{or-absent-first, or-absent-second, or-repeat, or-one-first, or-one-second, or-opposites}
 use borrow.Author.Rules.{rules}
-use Rattle.clauses_emission.proofs.gates.told.Statement.{statement}
+use Rattle.clauses_emission.proofs.gates.told.Goals as goal
+use Rattle.clauses_emission.proofs.gates.told.Lts as lts
 use Rattle.clauses_emission.proofs.gates.told.Tie as tie
+use Rattle.clauses_emission.proofs.gates.told.Reads as reads
+
+abbrev At-After-opposite : Type 0
+At-After-opposite = lts.After-opposite tie.the-claims reads.Pre reads.Post tie.handed_clauses
+
+abbrev At-Start : Type 0
+At-Start = lts.Start tie.the-claims reads.Pre reads.Post tie.handed_clauses
 
 -- a literal is not 0
 not-zero : (w : ℤ) → Inside 16002 (literal_of w) → w ≡ pos 0 → ⊥
 not-zero w i e = omega (arith, i.low, ap (λ (z : ℤ). variable (literal_of z)) e)
 
 -- what OR gives is the first, the second, or 1
-module _ (c : tie.Start) where
+module _ (c : At-Start) where
   abbrev p : ℤ
   p = c.args.p
 
@@ -40,7 +48,7 @@ module _ (c : tie.Start) where
   gives-first e =
       rw (back p c.ranges.p)
       (record {
-        gate = λ z. absurd (not-zero p c.requires.0 z);
+        gate = λ z. absurd (not-zero p c.requires.inside z);
         told = λ n. record { value = e; inside = λ h i j. i };
       })
 
@@ -48,7 +56,7 @@ module _ (c : tie.Start) where
   gives-second e =
       rw (back q c.ranges.q)
       (record {
-        gate = λ z. absurd (not-zero q c.requires.1 z);
+        gate = λ z. absurd (not-zero q c.requires.inside_2 z);
         told = λ n. record { value = e; inside = λ h i j. j };
       })
 
@@ -65,94 +73,78 @@ not-absent w n e = n (ap (of_z w32) (one_word w (negsuc 0) e))
 not-one : (w : ℤ) → (of_z w32 w ≡ 1 → ⊥) → literal_of w ≡ positive 1 → ⊥
 not-one w n e = n (ap (of_z w32) (one_word w (pos 1) e))
 
-returns : tie.Need-returns
-returns c =
+pub returns-then-p-eqminus1 : goal.returns-then-p-eqminus1
+returns-then-p-eqminus1 c =
     let start = c.before in
     let a = start.args in
     gives-second start
-    (λ g. or-absent-first (literal_of a.p) (literal_of a.q) g (ap literal_of (same-as a.p start.ranges.p c.if1.true)))
+    (λ g. or-absent-first (literal_of a.p) (literal_of a.q) g (ap literal_of (same-as a.p start.ranges.p c.if-p-eqminus1.true)))
 
-returns-2 : tie.Need-returns-2
-returns-2 c =
+pub returns-then-q-eqminus1 : goal.returns-then-q-eqminus1
+returns-then-q-eqminus1 c =
     let start = c.before.before in
     let a = start.args in
     gives-first start
     (λ g.
-    or-absent-second (literal_of a.p) (literal_of a.q) g (not-absent a.p c.before.if1.false)
-    (ap literal_of (same-as a.q start.ranges.q c.if2.true)))
+    or-absent-second (literal_of a.p) (literal_of a.q) g (not-absent a.p c.if-p-eqminus1.false)
+    (ap literal_of (same-as a.q start.ranges.q c.if-q-eqminus1.true)))
 
-returns-3 : tie.Need-returns-3
-returns-3 c =
+pub returns-then-p-q : goal.returns-then-p-q
+returns-then-p-q c =
     let start = c.before.before.before in
     let a = start.args in
     gives-first start
     (λ g.
-    or-repeat (literal_of a.p) (literal_of a.q) g (not-absent a.p c.before.before.if1.false)
-    (not-absent a.q c.before.if2.false) (ap literal_of (same_word a.p a.q start.ranges.p start.ranges.q c.if3.true)))
+    or-repeat (literal_of a.p) (literal_of a.q) g (not-absent a.p c.if-p-eqminus1.false)
+    (not-absent a.q c.if-q-eqminus1.false) (ap literal_of (same_word a.p a.q start.ranges.p start.ranges.q c.if-p-q.true)))
 
-returns-4 : tie.Need-returns-4
-returns-4 c =
+pub returns-then-p-eq1 : goal.returns-then-p-eq1
+returns-then-p-eq1 c =
     let start = c.before.before.before.before in
     let a = start.args in
     gives_one start
-    (λ g. or-one-first (literal_of a.p) (literal_of a.q) g (ap literal_of (same-as a.p start.ranges.p c.if4.true)))
+    (λ g. or-one-first (literal_of a.p) (literal_of a.q) g (ap literal_of (same-as a.p start.ranges.p c.if-p-eq1.true)))
 
-returns-5 : tie.Need-returns-5
-returns-5 c =
+pub returns-then-q-eq1 : goal.returns-then-q-eq1
+returns-then-q-eq1 c =
     let start = c.before.before.before.before.before in
     let a = start.args in
     gives_one start
-    (λ g. or-one-second (literal_of a.p) (literal_of a.q) g (ap literal_of (same-as a.q start.ranges.q c.if5.true)))
-
-opposite-requires : tie.Need-opposite-requires
-opposite-requires c κs = search rules
+    (λ g. or-one-second (literal_of a.p) (literal_of a.q) g (ap literal_of (same-as a.q start.ranges.q c.if-q-eq1.true)))
 
 -- the word of the opposite of q
-turned : (c : tie.After-opposite)
-    → literal_of c.opposite.result ≡ opposite (literal_of c.before.before.before.before.before.before.args.q)
+turned : (c : At-After-opposite)
+    → literal_of c.opposite.result ≡ opposite (literal_of c.args.q)
 turned c =
     let start = c.before.before.before.before.before.before in
-    let f : SFits w32 c.opposite.result = record { sfits = c.opposite.type-inv } in
+    let f : SFits w32 c.opposite.result = record { sfits = c.opposite.type_inv } in
     ap literal_of (sym (back c.opposite.result f))
-    ∙ opposite-read 16002 start.args.q c.opposite.result (omega arith) start.ranges.q start.requires.1 c.opposite.ensures f
+    ∙ opposite-read 16002 start.args.q c.opposite.result (omega arith) start.ranges.q start.requires.inside_2 c.opposite.ensures f
 
-returns-6 : tie.Need-returns-6
-returns-6 c =
+pub returns-then-p-opposite : goal.returns-then-p-opposite
+returns-then-p-opposite c =
     let start = c.before.before.before.before.before.before.before in
     let a = start.args in
-    let r = c.before.opposite in
+    let r = c.opposite in
     gives_one start
     (λ g.
     or-opposites (literal_of a.p) (literal_of a.q) g
-    (ap literal_of (same_word a.p r.result start.ranges.p (record { sfits = r.type-inv }) c.if6.true) ∙ turned c.before))
+    (ap literal_of (same_word a.p r.result start.ranges.p (record { sfits = r.type_inv }) c.if-p-opposite.true) ∙ turned c.before))
 
-returns-7 : tie.Need-returns-7
-returns-7 c =
+pub returns : goal.returns
+returns c =
     let at = c.before in
     let start = at.before.before.before.before.before.before in
     let p = start.args.p in
     let q = start.args.q in
     record {
       gate = λ z. record {
-        first_absent = not-absent p at.before.before.before.before.before.if1.false;
-        second_absent = not-absent q at.before.before.before.before.if2.false;
-        repeat = λ e. at.before.before.before.if3.false (ap (of_z w32) (one_word p q e));
-        first_one = not-one p at.before.before.if4.false;
-        second_one = not-one q at.before.if5.false;
-        opposites = λ e. c.if6.false (ap (of_z w32) (one_word p at.opposite.result (e ∙ sym (turned at))));
+        first_absent = not-absent p at.if-p-eqminus1.false;
+        second_absent = not-absent q at.if-q-eqminus1.false;
+        repeat = λ e. at.if-p-q.false (ap (of_z w32) (one_word p q e));
+        first_one = not-one p at.if-p-eq1.false;
+        second_one = not-one q at.if-q-eq1.false;
+        opposites = λ e. c.if-p-opposite.false (ap (of_z w32) (one_word p at.opposite.result (e ∙ sym (turned at))));
       };
       told = λ n. absurd (n refl);
     }
-
-pub told-spec : {M : Type 1} → statement M
-told-spec =
-    tie.close
-    (tie.spec
-    returns
-    returns-2
-    returns-3
-    returns-4
-    returns-5
-    opposite-requires
-    returns-6
-    returns-7)

@@ -1,0 +1,19 @@
+-- `list::write_clause` meets its contract. The loop's invariant: what is still to be put are the others from the next one on.
+use borrow.Author.Rules.{rules}
+use mathlib.Core.Path.{◌≡◌, refl, ap, ◌∙◌}
+use Prim.Native.Nat.{suc, ◌+◌, ◌-◌, ◌≤◌}
+use native.Mathlib.Omega.{arith}
+use lib.IntN.{pos}
+use lib.ListN.{length, get_or, set, drop}
+use Rattle.prelude.specs.Stores.{put_all}
+use Rattle.prelude.proofs.Stores.{length-put}
+use Rattle.literal.proofs.Signs.{read, back}
+use Rattle.literal.proofs.Words.{positive-is}
+use Rattle.clauses_emission.proofs.Writes.{put-others, put-done}
+use Rattle.clauses_emission.proofs.list.write_clause.Given as goal
+
+abbrev pub invariant-loop-k : goal.invariant-loop-k
+invariant-loop-k l = (l.k ≤ length l.others) × (put_all l.rest (2 + l.k) (drop l.k l.others) ≡ put_all l.initial.rest 2 l.others)
+
+abbrev pub decreases-loop-k : goal.decreases-loop-k
+decreases-loop-k l = length l.others - l.k
