@@ -1,0 +1,16 @@
+-- The invariant: k rounds are done.
+use borrow.Author.Rules.{rules}
+use mathlib.Core.Path.{◌≡◌, refl, sym, ap, ◌∙◌}
+use Prim.Native.Nat.{ℕ, ◌≤◌, ◌-◌}
+use native.Mathlib.Omega.{arith}
+use Rattle.relational.specs.Evaluation.{round_of, after_rounds}
+use native.Mathlib.Numerals.{add-one}
+use Rattle.instance_matrix.specs.Values.{matrix_of, Gives}
+use Rattle.instance_matrix.proofs.Results.{gives_as}
+use Rattle.instance_matrix.proofs.closures.closure.Given as goal
+
+abbrev pub invariant-loop-k : goal.invariant-loop-k
+invariant-loop-k l = (l.k ≤ l.n) × Gives l.closed (after_rounds l.k (matrix_of l.initial.closed))
+
+abbrev pub decreases-loop-k : goal.decreases-loop-k
+decreases-loop-k l = l.n - l.k

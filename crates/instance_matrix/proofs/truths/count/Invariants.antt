@@ -1,0 +1,15 @@
+-- The invariant: the flags before k are counted.
+use mathlib.Core.Path.{◌≡◌, refl}
+use Prim.Native.Nat.{◌≤◌, ◌<◌, ◌-◌, ◌*◌}
+use native.Mathlib.Omega.{arith}
+use mathlib.Core.Bool.{false}
+use lib.ListN.{get_or, take, length}
+use Rattle.relational.specs.Evaluation.{count}
+use Rattle.instance_matrix.proofs.Counting.{count-take, counted-most}
+use Rattle.instance_matrix.proofs.truths.count.Given as goal
+
+abbrev pub invariant-loop-k : goal.invariant-loop-k
+invariant-loop-k l = (l.k ≤ l.n) × ((l.total ≤ l.k) × (l.total ≡ count (take l.k l.p.cells)))
+
+abbrev pub decreases-loop-k : goal.decreases-loop-k
+decreases-loop-k l = l.n - l.k

@@ -1,0 +1,21 @@
+-- For all: the atoms are within the bodies; for some: at least one of both.
+use mathlib.Core.Path.{ap, ◌∙◌}
+use mathlib.Core.Bool.{Bool}
+use lib.Dec.{leb}
+use Rattle.relational.specs.Matrices.{Matrix}
+use Rattle.relational.specs.Evaluation.{count}
+use Rattle.nodes.proofs.Numbers.{at_all, at-exists}
+use borrow.Author.Rules.{rules}
+use Rattle.instance_matrix.proofs.truths.quantify.Goals as goal
+
+pub count-requires : goal.count-requires
+count-requires c = c.matched.ensures.fine
+
+pub returns-in-40 : goal.returns-in-40
+returns-in-40 c o s = rw (at_all _ c.in-40.is o s) c.all_matched.ensures
+
+pub returns-in_default : goal.returns-in_default
+returns-in_default c o s =
+    let x = c.matched in
+    rw (at-exists _ c.in_default.in_default-own.rest.1 o s)
+    (ap (leb 1) (c.count.ensures ∙ ap (λ (m : Matrix Bool). count m.cells) x.ensures.is))
