@@ -12,8 +12,7 @@ use Rattle.cells.proofs.Members.{full-first, full-second}
 use borrow.Author.Rules.{rules}
 use Rattle.instance_evaluation.specs.Walking.{of_members, row_inside, relation_inside}
 use Rattle.instance_evaluation.proofs.Layouts.{few}
-use Rattle.instance_evaluation.proofs.scopes.relation_inside.Statement.{statement}
-use Rattle.instance_evaluation.proofs.scopes.relation_inside.Tie as tie
+use Rattle.instance_evaluation.proofs.scopes.relation_inside.Goals as goal
 
 module _ (sheet : Sheet) (instance : List ℕ) (r : ℕ) (e : is_bounded sheet (first_sort sheet r) ≡ false)
     (f : is_bounded sheet (second_sort sheet r) ≡ false) where
@@ -30,23 +29,16 @@ module _ (sheet : Sheet) (instance : List ℕ) (r : ℕ) (e : is_bounded sheet (
       each_of (cell_inside sheet instance r i) (row_length sheet r) λ j _.
       or_right (not (flag_at sheet instance (cell sheet r i j))) (of_members sheet instance r i j) (all-members i j)
 
-over-bounded-requires : tie.Need-over-bounded-requires
-over-bounded-requires c κs = let s = c.before.before.before in
-    (s.requires.0.taken, omega (arith, few s.requires.0 s.requires.1))
+pub over_bounded-requires : goal.over_bounded-requires
+over_bounded-requires c = let s = c.before.before.before.before in record {
+      sheet_value = s.requires.located.taken;
+      r_bound = omega (arith, few s.requires.located s.requires.r_bound);
+    }
 
-rows-inside-requires : tie.Need-rows-inside-requires
-rows-inside-requires c κs = search rules
-
-returns : tie.Need-returns
-returns c = search rules
-
-returns-2 : tie.Need-returns-2
-returns-2 c =
-    let a = c.before.before.before.before.before.args in
+pub returns : goal.returns
+returns c =
+    let a = c.args in
     let sheet = sheet_of a.sheet.now in
-    let e = c.before.over-bounded.ensures in
-    sym (full-inside sheet a.instance.now a.r (full-first sheet a.r e c.if1.false)
-    (full-second sheet a.r e c.if1.false))
-
-pub relation-inside-spec : {M : Type 1} → statement M
-relation-inside-spec = tie.close (tie.spec over-bounded-requires rows-inside-requires returns returns-2)
+    let e = c.over_bounded.ensures in
+    sym (full-inside sheet a.instance.now a.r (full-first sheet a.r e c.if-over_bounded.false)
+    (full-second sheet a.r e c.if-over_bounded.false))

@@ -1,0 +1,17 @@
+-- The atoms of the variable's sort.
+use mathlib.Core.Path.{ap}
+use Prim.Native.Nat.{ℕ}
+use Rattle.sheet_rules.specs.Blocks.{sheet_of}
+use Rattle.relational.specs.Trees as trees
+use Rattle.relational.specs.Evaluation.{value_leaf}
+use Rattle.instance_matrix.proofs.Results.{gives_as}
+use borrow.Author.Rules.{rules}
+use Rattle.instance_evaluation.proofs.binders.range.Goals as goal
+
+pub returns : goal.returns
+returns c env =
+    let s = c.before.before.before.before.before in
+    gives_as _ _ _
+    (ap (λ (k : ℕ). value_leaf (sheet_of s.args.sheet.now) s.args.instance.now trees.atoms k env)
+    c.sort_of_variable.ensures)
+    (c.atoms.ensures env)

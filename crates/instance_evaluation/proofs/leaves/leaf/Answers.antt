@@ -1,0 +1,38 @@
+-- Kind by kind as the definition.
+use Rattle.nodes.specs.Environments.{environment}
+use Rattle.nodes.proofs.Numbers.{at-relation, at-variable, at-atoms, at-identity}
+use borrow.Author.Rules.{rules}
+use Rattle.instance_evaluation.proofs.leaves.leaf.Goals as goal
+
+pub relation-requires : goal.relation-requires
+relation-requires c =
+    let s = c.before.before.before.before.before in record {
+      located = s.requires.located;
+      r_bound = s.requires.a_bound c.in-1.is;
+    }
+
+pub identity-requires : goal.identity-requires
+identity-requires c = (c.atoms-in_default.ensures (λ x. 0)).fine
+
+pub returns-in-1 : goal.returns-in-1
+returns-in-1 c l s =
+    let env = c.args.env in
+    rw (at-relation _ c.in-1.is l s) (c.relation.ensures (environment env))
+
+pub returns-in-2 : goal.returns-in-2
+returns-in-2 c l s =
+    let a = c.before.before in
+    rw (at-variable _ a.in-2.is l s, ← a.atom_at.ensures, ← a.scope_of_variable.ensures.0)
+    c.single.ensures
+
+pub returns-in-3 : goal.returns-in-3
+returns-in-3 c l s =
+    let env = c.args.env in
+    rw (at-atoms _ c.in-3.is l s) (c.atoms.ensures (environment env))
+
+pub returns-in_default : goal.returns-in_default
+returns-in_default c l s =
+    let m = c.in_default.in_default-own.rest in
+    let env = c.args.env in
+    rw (at-identity _ m.0.0.1 m.0.1 m.1 l s)
+    (c.identity.ensures _ _ (c.atoms-in_default.ensures (environment env)).is)
