@@ -109,7 +109,7 @@ def main():
     to = names()
     for f in files(".antt", ".rt", ".edit"):
         t = read(f)
-        new = respelled(t, to, {} if f.endswith(".rt") else MOVED)
+        new = respelled(t, to, {} if f.endswith((".rt", ".edit")) else MOVED)
         if new != t:
             with open(f, "w", encoding="utf-8") as it:
                 it.write(new)
