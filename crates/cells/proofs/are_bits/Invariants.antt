@@ -1,13 +1,9 @@
 -- `are_bits` meets its contract. The loop's invariant: what is asked of all values is asked of those not yet passed.
-use mathlib.Core.Path.{◌≡◌, refl, sym, ◌∙◌}
+use mathlib.Core.Path.{◌≡◌}
 use Prim.Native.Nat.{ℕ, ◌≤◌, ◌-◌}
-use native.Mathlib.Omega.{arith}
 use lib.Dec.{leb}
-use lib.ListN.{length, get_or, drop}
-use borrow.Author.Rules.{rules}
-use borrow.Author.Tests.{le-leb, lt-leb}
+use lib.ListN.{length, drop}
 use Rattle.prelude.specs.Tests.{all}
-use Rattle.prelude.proofs.Laws.{and-not-left, and-rest, all_from, all-from-end}
 use Rattle.cells.proofs.are_bits.Given as goal
 
 abbrev pub invariant-loop-i : goal.invariant-loop-i

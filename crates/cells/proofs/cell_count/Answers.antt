@@ -1,5 +1,4 @@
 -- `cell_count` meets its contract.
-use borrow.Author.Rules.{rules}
 use Rattle.cells.proofs.cell_count.Goals as goal
 
 pub returns : goal.returns

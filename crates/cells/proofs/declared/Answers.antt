@@ -1,6 +1,5 @@
 -- `declared` meets its contract.
 use mathlib.Core.Path.{◌∙◌, ap}
-use borrow.Author.Rules.{rules}
 use Prim.Native.Nat.{◌+◌, ◌*◌}
 use Rattle.sheet_rules.specs.Blocks.{byte}
 use Rattle.cells.proofs.declared.Goals as goal

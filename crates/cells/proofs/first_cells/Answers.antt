@@ -1,12 +1,11 @@
 use mathlib.Core.Path.{◌≡◌, ap, ◌∙◌}
-use Prim.Native.Nat.{◌<◌, ◌≤◌, ◌-◌, ◌*◌}
+use Prim.Native.Nat.{◌<◌, ◌≤◌, ◌*◌}
 use native.Mathlib.Omega.{arith}
-use borrow.Author.Rules.{rules}
 use Rattle.sheet_rules.specs.Blocks.{sheet_of, relation_count}
 use Rattle.sheet_rules.proofs.Acceptance.{accepted-facts}
 use Rattle.relational.specs.Cells.{most_cells, first_member, first_cell}
 use Rattle.cells.proofs.Parts.{sorts-counted, relations-counted, few_relations}
-use Rattle.cells.proofs.Layouts.{first-most, Stored, stored-none, stored_more}
+use Rattle.cells.proofs.Layouts.{first-most, stored-none, stored_more}
 use Rattle.relational.proofs.Places.{square}
 use Rattle.cells.proofs.first_cells.Goals as goal
 use Rattle.cells.proofs.first_cells.Lts as lts
@@ -45,15 +44,15 @@ bounds-starts-r c = omega (arith, reached c.before, c.loop-r.invariant.1.long)
 
 pub row_count-requires : goal.row_count-requires
 row_count-requires c = record {
-      sheet_value = c.requires;
-      r_bound = omega (arith, reached c.before);
-    }
+  sheet_value = c.requires;
+  r_bound = omega (arith, reached c.before);
+}
 
 pub row_length-requires : goal.row_length-requires
 row_length-requires c = record {
-      sheet_value = c.requires;
-      r_bound = omega (arith, reached c.before.before);
-    }
+  sheet_value = c.requires;
+  r_bound = omega (arith, reached c.before.before);
+}
 
 -- the cells of relation r, and of those before
 few-more : (c : At-After-row_length) → c.row_count.result * c.row_length.result ≤ 64

@@ -1,14 +1,7 @@
 -- `first_cells` meets its contract: the loop adds up the cells of the relations before, and stores where each starts.
-use mathlib.Core.Path.{◌≡◌, ap, ◌∙◌}
-use Prim.Native.Nat.{◌<◌, ◌≤◌, ◌-◌, ◌*◌}
-use native.Mathlib.Omega.{arith}
-use borrow.Author.Rules.{rules}
-use Rattle.sheet_rules.specs.Blocks.{sheet_of, relation_count}
-use Rattle.sheet_rules.proofs.Acceptance.{accepted-facts}
-use Rattle.relational.specs.Cells.{most_cells, first_member, first_cell}
-use Rattle.cells.proofs.Parts.{sorts-counted, relations-counted, few_relations}
-use Rattle.cells.proofs.Layouts.{first-most, Stored, stored-none, stored_more}
-use Rattle.relational.proofs.Places.{square}
+use Prim.Native.Nat.{◌≤◌, ◌-◌}
+use Rattle.sheet_rules.specs.Blocks.{sheet_of}
+use Rattle.cells.proofs.Layouts.{Stored}
 use Rattle.cells.proofs.first_cells.Given as goal
 
 abbrev pub invariant-loop-r : goal.invariant-loop-r

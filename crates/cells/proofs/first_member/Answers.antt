@@ -1,7 +1,5 @@
 use mathlib.Core.Path.{◌≡◌, ap, ◌∙◌}
-use Prim.Native.Nat.{◌≤◌, ◌-◌, ◌*◌}
 use native.Mathlib.Omega.{arith}
-use borrow.Author.Rules.{rules}
 use Rattle.sheet_rules.specs.Blocks.{sheet_of}
 use Rattle.relational.specs.Cells.{first_member}
 use Rattle.cells.proofs.Layouts.{member-none, member-more}

@@ -1,11 +1,8 @@
 -- `first_member` meets its contract: the loop adds up the membership cells of the sorts before.
-use mathlib.Core.Path.{◌≡◌, ap, ◌∙◌}
+use mathlib.Core.Path.{◌≡◌}
 use Prim.Native.Nat.{◌≤◌, ◌-◌, ◌*◌}
-use native.Mathlib.Omega.{arith}
-use borrow.Author.Rules.{rules}
 use Rattle.sheet_rules.specs.Blocks.{sheet_of}
 use Rattle.relational.specs.Cells.{first_member}
-use Rattle.cells.proofs.Layouts.{member-none, member-more}
 use Rattle.cells.proofs.first_member.Given as goal
 
 abbrev pub invariant-loop-k : goal.invariant-loop-k

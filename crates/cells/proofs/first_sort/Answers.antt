@@ -1,5 +1,4 @@
 -- `first_sort` meets its contract.
-use borrow.Author.Rules.{rules}
 use Rattle.cells.proofs.first_sort.Goals as goal
 
 pub returns : goal.returns

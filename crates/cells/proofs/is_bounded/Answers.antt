@@ -1,6 +1,5 @@
 -- `is_bounded` meets its contract: its byte says it.
 use mathlib.Core.Path.{◌∙◌, ap}
-use borrow.Author.Rules.{rules}
 use lib.Dec.{leb}
 use Rattle.sheet_rules.specs.Blocks.{byte}
 use Rattle.cells.proofs.is_bounded.Goals as goal

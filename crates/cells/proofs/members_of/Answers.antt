@@ -1,6 +1,5 @@
 -- `members_of` meets its contract.
 use native.Mathlib.Omega.{arith}
-use borrow.Author.Rules.{rules}
 use Rattle.sheet_rules.specs.Blocks.{sheet_of}
 use Rattle.cells.proofs.Layouts.{bounded-members, full-members}
 use Rattle.cells.proofs.members_of.Goals as goal

@@ -1,5 +1,4 @@
 -- `multiplicity` meets its contract: byte 1 of the declaration.
-use borrow.Author.Rules.{rules}
 use Rattle.cells.proofs.multiplicity.Goals as goal
 
 pub returns : goal.returns

@@ -1,5 +1,4 @@
 -- `over_bounded` meets its contract: one of its sorts is bounded.
-use borrow.Author.Rules.{rules}
 use Rattle.cells.proofs.over_bounded.Goals as goal
 
 pub returns : goal.returns

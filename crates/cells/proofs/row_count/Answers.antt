@@ -1,6 +1,5 @@
 -- `row_count` meets its contract.
 use native.Mathlib.Omega.{arith}
-use borrow.Author.Rules.{rules}
 use Rattle.sheet_rules.specs.Blocks.{sheet_of}
 use Rattle.cells.proofs.Layouts.{set-rows, relation-rows}
 use Rattle.cells.proofs.row_count.Goals as goal

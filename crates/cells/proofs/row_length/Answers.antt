@@ -1,5 +1,4 @@
 -- `row_length` meets its contract.
-use borrow.Author.Rules.{rules}
 use Rattle.sheet_rules.specs.Blocks.{sheet_of}
 use Rattle.cells.proofs.Layouts.{set-length, relation-length}
 use Rattle.cells.proofs.row_length.Goals as goal

@@ -1,6 +1,5 @@
 -- `scope` meets its contract: a scope of an accepted sheet is at most 8.
 use mathlib.Core.Path.{◌∙◌, ap}
-use borrow.Author.Rules.{rules}
 use Rattle.sheet.specs.Filling.{scope_in}
 use Rattle.sheet_rules.proofs.Acceptance.{accepted-facts}
 use Rattle.cells.proofs.scope.Goals as goal

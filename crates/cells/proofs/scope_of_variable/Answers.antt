@@ -1,6 +1,5 @@
 -- `scope_of_variable` meets its contract.
 use mathlib.Core.Path.{◌∙◌, ap}
-use borrow.Author.Rules.{rules}
 use Rattle.sheet_rules.specs.Blocks.{sheet_of, scope}
 use Rattle.cells.proofs.scope_of_variable.Goals as goal
 

@@ -1,5 +1,4 @@
 -- `second_sort` meets its contract.
-use borrow.Author.Rules.{rules}
 use Rattle.cells.proofs.second_sort.Goals as goal
 
 pub returns : goal.returns

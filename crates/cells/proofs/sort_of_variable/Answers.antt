@@ -1,6 +1,5 @@
 -- `sort_of_variable` meets its contract.
 use mathlib.Core.Path.{◌∙◌, ap}
-use borrow.Author.Rules.{rules}
 use Rattle.sheet_rules.specs.Blocks.{byte}
 use Rattle.cells.proofs.sort_of_variable.Goals as goal
 

@@ -2,7 +2,6 @@
 use mathlib.Core.Path.{sym, ap, ◌∙◌}
 use Rattle.instance.proofs.Held.{declined, ensured}
 use Rattle.sheet.specs.Answers.{answer_of}
-use borrow.Author.Rules.{rules}
 use Rattle.instance.proofs.check.Goals as goal
 
 pub check_accepted-requires : goal.check_accepted-requires

@@ -1,11 +1,9 @@
 -- The length, the cells, and then the marks and the root.
 use mathlib.Core.Path.{◌≡◌, sym, ap, ◌∙◌}
 use mathlib.Core.Bool.{cond}
-use borrow.Author.Tests.{not-true, not-false}
 use Rattle.instance.specs.Answers.{yes, no}
 use Rattle.instance.specs.Held.{check_answer}
 use Rattle.instance.proofs.Held.{other_length, other-cells, evaluated}
-use borrow.Author.Rules.{rules}
 use Rattle.instance.proofs.check_accepted.Goals as goal
 use Rattle.instance.proofs.check_accepted.Lts as lts
 use Rattle.instance.proofs.check_accepted.Tie as tie

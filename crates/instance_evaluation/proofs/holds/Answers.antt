@@ -8,7 +8,6 @@ use Rattle.cells.proofs.Parts.{nodes-counted}
 use Rattle.nodes.proofs.Roots.{root_formula}
 use Rattle.instance_evaluation.proofs.Layouts.{facts-of}
 use Rattle.instance_evaluation.proofs.Steps.{root-truth}
-use borrow.Author.Rules.{rules}
 use Rattle.instance_evaluation.proofs.holds.Goals as goal
 
 pub overflow_sub-root : goal.overflow_sub-root

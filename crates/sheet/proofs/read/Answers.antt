@@ -9,7 +9,6 @@ use Rattle.sheet_rules.specs.Blocks.{byte, blocks_end}
 use Rattle.sheet_rules.specs.Reading.{reading, whole_judged}
 use Rattle.sheet.proofs.Parts.{end_is, parts_are}
 use Rattle.sheet.proofs.Verdicts.{refuse-false, pass-true}
-use borrow.Author.Rules.{rules}
 use Rattle.sheet.proofs.read.Goals as goal
 use Rattle.sheet.proofs.read.Lts as lts
 use Rattle.sheet.proofs.read.Tie as tie

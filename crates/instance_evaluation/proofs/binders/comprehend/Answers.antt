@@ -6,14 +6,13 @@ use Rattle.relational.specs.Matrices.{Matrix}
 use Rattle.relational.specs.Evaluation.{value_binary}
 use Rattle.instance_matrix.specs.Values.{matrix_of}
 use Rattle.instance_matrix.proofs.Results.{gives_as}
-use borrow.Author.Rules.{rules}
 use Rattle.instance_evaluation.proofs.binders.comprehend.Goals as goal
 
 pub binary-requires : goal.binary-requires
 binary-requires c = record {
-      fine = (c.range.ensures (λ x. 0)).fine;
-      fine_2 = c.requires.fine;
-    }
+  fine = (c.range.ensures (λ x. 0)).fine;
+  fine_2 = c.requires.fine;
+}
 
 six : symbol_of 6 ≡ binary-symbol intersection
 unfolding symbol_of

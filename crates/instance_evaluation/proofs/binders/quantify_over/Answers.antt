@@ -4,14 +4,13 @@ use mathlib.Core.Bool.{Bool}
 use Rattle.relational.specs.Matrices.{Matrix}
 use Rattle.relational.specs.Evaluation.{truth_quantifier}
 use Rattle.instance_matrix.specs.Values.{matrix_of}
-use borrow.Author.Rules.{rules}
 use Rattle.instance_evaluation.proofs.binders.quantify_over.Goals as goal
 
 pub quantify-requires : goal.quantify-requires
 quantify-requires c = record {
-      fine = (c.range.ensures (λ x. 0)).fine;
-      fine_2 = c.requires.fine;
-    }
+  fine = (c.range.ensures (λ x. 0)).fine;
+  fine_2 = c.requires.fine;
+}
 
 pub returns : goal.returns
 returns c env o e =

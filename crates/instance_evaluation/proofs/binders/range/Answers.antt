@@ -5,7 +5,6 @@ use Rattle.sheet_rules.specs.Blocks.{sheet_of}
 use Rattle.relational.specs.Trees as trees
 use Rattle.relational.specs.Evaluation.{value_leaf}
 use Rattle.instance_matrix.proofs.Results.{gives_as}
-use borrow.Author.Rules.{rules}
 use Rattle.instance_evaluation.proofs.binders.range.Goals as goal
 
 pub returns : goal.returns

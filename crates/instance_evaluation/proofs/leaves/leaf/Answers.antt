@@ -1,7 +1,6 @@
 -- Kind by kind as the definition.
 use Rattle.nodes.specs.Environments.{environment}
 use Rattle.nodes.proofs.Numbers.{at-relation, at-variable, at-atoms, at-identity}
-use borrow.Author.Rules.{rules}
 use Rattle.instance_evaluation.proofs.leaves.leaf.Goals as goal
 
 pub relation-requires : goal.relation-requires

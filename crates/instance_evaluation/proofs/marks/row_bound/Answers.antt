@@ -2,7 +2,6 @@
 use mathlib.Core.Path.{refl}
 use Rattle.sheet_rules.specs.Blocks.{sheet_of}
 use Rattle.cells.proofs.Layouts.{set_is, relation-is}
-use borrow.Author.Rules.{rules}
 use Rattle.instance_evaluation.proofs.marks.row_bound.Goals as goal
 
 pub returns-then-arity-eq1 : goal.returns-then-arity-eq1

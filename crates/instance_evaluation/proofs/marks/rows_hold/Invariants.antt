@@ -1,18 +1,11 @@
 -- The invariant: the rows before i hold.
-use borrow.Author.Rules.{rules}
-use mathlib.Core.Path.{◌≡◌, refl, ap, ap₂, ◌∙◌}
-use mathlib.Core.Logic.{inl}
+use mathlib.Core.Path.{◌≡◌}
 use mathlib.Core.Bool.{Bool}
 use mathlib.Core.List.{List}
-use Prim.Native.Nat.{ℕ, ◌≤◌, ◌<◌, ◌-◌, ◌*◌}
-use native.Mathlib.Nat.{mul-le-mul}
-use native.Mathlib.Omega.{arith}
+use Prim.Native.Nat.{ℕ, ◌≤◌, ◌-◌}
 use Rattle.prelude.specs.Tests.{each}
 use Rattle.sheet_rules.specs.Blocks.{Sheet, sheet_of, multiplicity}
-use Rattle.sheet.proofs.Loops.{each_none, each_more}
-use Rattle.relational.specs.Matrices.{Matrix}
 use Rattle.relational.specs.Evaluation.{row_holds, row_bound, row_cells}
-use Rattle.instance_evaluation.proofs.Layouts.{low, few, first-few, row-cells}
 use Rattle.instance_evaluation.proofs.marks.rows_hold.Given as goal
 
 -- whether the mark of relation r holds in row j

@@ -10,7 +10,6 @@ use Rattle.cells.proofs.Layouts.{sort-low}
 use Rattle.cells.proofs.Members.{bounded-atoms, full-atoms}
 use Rattle.instance_matrix.specs.Values.{flags_from}
 use Rattle.instance_matrix.proofs.Results.{gives_as}
-use borrow.Author.Rules.{rules}
 use Rattle.instance_evaluation.proofs.members.atoms.Goals as goal
 
 pub first_member-requires : goal.first_member-requires

@@ -7,7 +7,6 @@ use Rattle.sheet_rules.specs.Blocks.{byte, sheet_of}
 use Rattle.relational.specs.Evaluation.{flag_at}
 use Rattle.cells.proofs.Layouts.{sort-low}
 use Rattle.cells.proofs.Members.{bounded-member, full-member}
-use borrow.Author.Rules.{rules}
 use Rattle.instance_evaluation.proofs.members.is_member.Goals as goal
 
 pub first_member-requires : goal.first_member-requires

@@ -1,13 +1,8 @@
 -- The invariant: the cells of the relations before r are of members.
-use borrow.Author.Rules.{rules}
-use mathlib.Core.Path.{◌≡◌, ap, ◌∙◌}
-use Prim.Native.Nat.{ℕ, ◌≤◌, ◌-◌}
-use native.Mathlib.Omega.{arith}
+use mathlib.Core.Path.{◌≡◌}
+use Prim.Native.Nat.{◌≤◌, ◌-◌}
 use Rattle.prelude.specs.Tests.{each}
-use Rattle.sheet_rules.specs.Blocks.{sheet_of, relation_count}
-use Rattle.sheet.proofs.Loops.{each_none, each_more}
-use Rattle.relational.specs.Evaluation.{cells_inside}
-use Rattle.cells.proofs.Parts.{relations-counted}
+use Rattle.sheet_rules.specs.Blocks.{sheet_of}
 use Rattle.instance_evaluation.specs.Walking.{relation_inside}
 use Rattle.instance_evaluation.proofs.scopes.cells_inside.Given as goal
 

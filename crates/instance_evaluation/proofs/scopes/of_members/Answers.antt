@@ -1,7 +1,6 @@
 -- A cell of a set, and a cell of a relation.
 use Rattle.sheet_rules.specs.Blocks.{sheet_of}
 use Rattle.cells.proofs.Layouts.{set_is, relation-is}
-use borrow.Author.Rules.{rules}
 use Rattle.instance_evaluation.proofs.scopes.of_members.Goals as goal
 
 pub returns-then-arity-eq1 : goal.returns-then-arity-eq1

@@ -9,7 +9,6 @@ use Rattle.sheet_rules.specs.Blocks.{Sheet, sheet_of, is_bounded, first_sort, se
 use Rattle.relational.specs.Cells.{is_set, row_count, row_length, cell}
 use Rattle.relational.specs.Evaluation.{flag_at, cell_inside}
 use Rattle.cells.proofs.Members.{full-first, full-second}
-use borrow.Author.Rules.{rules}
 use Rattle.instance_evaluation.specs.Walking.{of_members, row_inside, relation_inside}
 use Rattle.instance_evaluation.proofs.Layouts.{few}
 use Rattle.instance_evaluation.proofs.scopes.relation_inside.Goals as goal
@@ -31,9 +30,9 @@ module _ (sheet : Sheet) (instance : List ℕ) (r : ℕ) (e : is_bounded sheet (
 
 pub over_bounded-requires : goal.over_bounded-requires
 over_bounded-requires c = let s = c.before.before.before.before in record {
-      sheet_value = s.requires.located.taken;
-      r_bound = omega (arith, few s.requires.located s.requires.r_bound);
-    }
+  sheet_value = s.requires.located.taken;
+  r_bound = omega (arith, few s.requires.located s.requires.r_bound);
+}
 
 pub returns : goal.returns
 returns c =

@@ -1,6 +1,6 @@
 use mathlib.Core.Path.{◌≡◌, ap, ap₂, ◌∙◌}
 use mathlib.Core.Bool.{Bool}
-use Prim.Native.Nat.{ℕ, ◌+◌, ◌≤◌, ◌-◌}
+use Prim.Native.Nat.{ℕ, ◌+◌}
 use native.Mathlib.Omega.{arith}
 use lib.Dec.{eqb}
 use Rattle.prelude.specs.Tests.{each}
@@ -8,7 +8,6 @@ use Rattle.sheet_rules.specs.Blocks.{byte, sheet_of}
 use Rattle.sheet.proofs.Loops.{each_none, each_more}
 use Rattle.relational.specs.Cells.{cell}
 use Rattle.relational.specs.Evaluation.{implies, cell_inside}
-use borrow.Author.Rules.{rules}
 use Rattle.instance_evaluation.proofs.scopes.row_inside.Goals as goal
 
 pub loop-j-init : goal.loop-j-init

@@ -1,15 +1,9 @@
 -- The invariant: the cells before j are of members.
-use mathlib.Core.Path.{◌≡◌, ap, ap₂, ◌∙◌}
-use mathlib.Core.Bool.{Bool}
-use Prim.Native.Nat.{ℕ, ◌+◌, ◌≤◌, ◌-◌}
-use native.Mathlib.Omega.{arith}
-use lib.Dec.{eqb}
+use mathlib.Core.Path.{◌≡◌}
+use Prim.Native.Nat.{◌≤◌, ◌-◌}
 use Rattle.prelude.specs.Tests.{each}
-use Rattle.sheet_rules.specs.Blocks.{byte, sheet_of}
-use Rattle.sheet.proofs.Loops.{each_none, each_more}
-use Rattle.relational.specs.Cells.{cell}
-use Rattle.relational.specs.Evaluation.{implies, cell_inside}
-use borrow.Author.Rules.{rules}
+use Rattle.sheet_rules.specs.Blocks.{sheet_of}
+use Rattle.relational.specs.Evaluation.{cell_inside}
 use Rattle.instance_evaluation.proofs.scopes.row_inside.Given as goal
 
 abbrev pub invariant-loop-j : goal.invariant-loop-j

@@ -1,6 +1,5 @@
-use borrow.Author.Rules.{rules}
 use mathlib.Core.Path.{◌≡◌, ap, ◌∙◌}
-use Prim.Native.Nat.{ℕ, ◌≤◌, ◌<◌, ◌-◌, ◌*◌}
+use Prim.Native.Nat.{ℕ, ◌≤◌, ◌<◌, ◌*◌}
 use native.Mathlib.Nat.{mul-le-mul}
 use native.Mathlib.Omega.{arith}
 use Rattle.prelude.specs.Tests.{each}
@@ -69,7 +68,7 @@ row_inside-requires c =
       sheet_value = s.requires.located.taken;
       r_bound = (omega (arith, few s.requires.located s.requires.r_bound), (row, omega (arith, inside c.before, first-few s.requires.located s.requires.r_bound)));
       first_value = row-start (sheet_of s.args.sheet.now) r c.loop-i.i (s.requires.located.cells.first r s.requires.r_bound)
-            c.row_length-columns.ensures.0;
+          c.row_length-columns.ensures.0;
     }
 
 pub loop-i-preserved : goal.loop-i-preserved

@@ -1,14 +1,9 @@
 -- The invariant: the cells of the rows before i are of members.
-use borrow.Author.Rules.{rules}
-use mathlib.Core.Path.{◌≡◌, ap, ◌∙◌}
-use Prim.Native.Nat.{ℕ, ◌≤◌, ◌<◌, ◌-◌, ◌*◌}
-use native.Mathlib.Nat.{mul-le-mul}
-use native.Mathlib.Omega.{arith}
+use mathlib.Core.Path.{◌≡◌}
+use Prim.Native.Nat.{◌≤◌, ◌-◌}
 use Rattle.prelude.specs.Tests.{each}
 use Rattle.sheet_rules.specs.Blocks.{sheet_of}
-use Rattle.sheet.proofs.Loops.{each_none, each_more}
 use Rattle.instance_evaluation.specs.Walking.{row_inside}
-use Rattle.instance_evaluation.proofs.Layouts.{low, few, first-few, row-start}
 use Rattle.instance_evaluation.proofs.scopes.rows_inside.Given as goal
 
 abbrev pub invariant-loop-i : goal.invariant-loop-i

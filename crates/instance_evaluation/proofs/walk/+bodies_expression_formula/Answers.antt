@@ -1,19 +1,18 @@
-use borrow.Author.Rules.{rules}
 use mathlib.Core.Path.{ap, ◌∙◌}
 use mathlib.Core.Bool.{Bool}
 use mathlib.Core.List.{map}
-use Prim.Native.Nat.{ℕ, ◌+◌, ◌*◌, ◌-◌, ◌≤◌, ◌<◌}
+use Prim.Native.Nat.{ℕ, ◌<◌}
 use native.Mathlib.Omega.{arith}
 use mathlib.Core.Path.{◌≡◌}
 use mathlib.Core.List.{List}
-use Rattle.sheet_rules.specs.Blocks.{Sheet, sheet_of}
+use Rattle.sheet_rules.specs.Blocks.{sheet_of}
 use Rattle.sheet_rules.specs.declared.Layout.{Layout}
 use Rattle.cells.specs.Private.{Located}
 use Rattle.nodes.specs.declared.forms.Node.{Node}
 use Rattle.nodes.specs.Nodes.{node_at}
 use Rattle.relational.specs.Matrices.{set_of, upto}
 use Rattle.relational.specs.Meaning.{bind}
-use Rattle.instance_matrix.proofs.Filling.{Filled, filled_none, filled_more}
+use Rattle.instance_matrix.proofs.Filling.{filled_none, filled_more}
 use Rattle.instance_matrix.proofs.Results.{gives_as, upto-law}
 use Rattle.nodes.specs.Environments.{environment}
 use Rattle.nodes.specs.Nodes.{tree_at, IsExpression, IsFormula}
@@ -102,9 +101,9 @@ expression-expression-q-requires t c =
 
 pub expression-binary-requires : goal.expression-binary-requires
 expression-binary-requires t c = record {
-      fine = c.expression-p.ensures.fine;
-      fine_2 = c.expression-q.ensures.fine;
-    }
+  fine = c.expression-p.ensures.fine;
+  fine_2 = c.expression-q.ensures.fine;
+}
 
 pub expression-returns-in-Binary : goal.expression-returns-in-Binary
 expression-returns-in-Binary t c =
@@ -165,9 +164,9 @@ formula-expression-q-requires t c =
 
 pub formula-compare-requires : goal.formula-compare-requires
 formula-compare-requires t c = record {
-      fine = c.expression-p.ensures.fine;
-      fine_2 = c.expression-q.ensures.fine;
-    }
+  fine = c.expression-p.ensures.fine;
+  fine_2 = c.expression-q.ensures.fine;
+}
 
 pub formula-returns-in-Comparison : goal.formula-returns-in-Comparison
 formula-returns-in-Comparison t c =

@@ -1,5 +1,4 @@
 -- The walk, form by form. The measure is twice the node, and one more in a binder.
-use mathlib.Core.Path.{◌≡◌}
 use Prim.Native.Nat.{ℕ, ◌+◌, ◌*◌, ◌-◌, ◌≤◌}
 use Rattle.sheet_rules.specs.Blocks.{sheet_of}
 use Rattle.relational.specs.Meaning.{bind}

@@ -1,11 +1,7 @@
 -- The invariant: the cells before k are filled.
-use borrow.Author.Rules.{rules}
-use mathlib.Core.Path.{refl}
 use Prim.Native.Nat.{◌≤◌, ◌-◌}
-use native.Mathlib.Omega.{arith}
 use mathlib.Core.Bool.{true}
-use Rattle.instance_matrix.proofs.Filling.{Filled, filled_none, filled_more}
-use Rattle.instance_matrix.proofs.Results.{upto-law}
+use Rattle.instance_matrix.proofs.Filling.{Filled}
 use Rattle.instance_matrix.proofs.basic.full.Given as goal
 
 abbrev pub invariant-loop-k : goal.invariant-loop-k

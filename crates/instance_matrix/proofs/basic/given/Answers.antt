@@ -1,10 +1,8 @@
-use borrow.Author.Rules.{rules}
 use mathlib.Core.Path.{ap}
-use Prim.Native.Nat.{ℕ, ◌≤◌, ◌-◌, ◌+◌}
+use Prim.Native.Nat.{ℕ}
 use native.Mathlib.Omega.{arith}
 use lib.Dec.{eqb}
-use Rattle.sheet_rules.specs.Blocks.{byte}
-use Rattle.instance_matrix.proofs.Filling.{Filled, filled_none, filled_more}
+use Rattle.instance_matrix.proofs.Filling.{filled_none, filled_more}
 use Rattle.instance_matrix.proofs.Results.{given-law}
 use Rattle.instance_matrix.proofs.basic.given.Goals as goal
 

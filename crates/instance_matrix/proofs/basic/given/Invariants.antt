@@ -1,12 +1,8 @@
 -- The invariant: the cells before k are filled from the bytes.
-use borrow.Author.Rules.{rules}
-use mathlib.Core.Path.{ap}
-use Prim.Native.Nat.{ℕ, ◌≤◌, ◌-◌, ◌+◌}
-use native.Mathlib.Omega.{arith}
+use Prim.Native.Nat.{◌≤◌, ◌-◌, ◌+◌}
 use lib.Dec.{eqb}
 use Rattle.sheet_rules.specs.Blocks.{byte}
-use Rattle.instance_matrix.proofs.Filling.{Filled, filled_none, filled_more}
-use Rattle.instance_matrix.proofs.Results.{given-law}
+use Rattle.instance_matrix.proofs.Filling.{Filled}
 use Rattle.instance_matrix.proofs.basic.given.Given as goal
 
 abbrev pub invariant-loop-k : goal.invariant-loop-k

@@ -1,11 +1,7 @@
-use borrow.Author.Rules.{rules}
-use mathlib.Core.Bool.{false, cond}
-use Prim.Native.Nat.{◌≤◌, ◌<◌, ◌-◌, ◌/◌, ◌%◌}
+use Prim.Native.Nat.{◌<◌}
 use native.Mathlib.Omega.{arith}
-use lib.Dec.{eqb}
-use lib.ListN.{get_or}
 use Rattle.relational.proofs.Places.{some-column, row_below}
-use Rattle.instance_matrix.proofs.Filling.{Filled, filled_none, filled_more}
+use Rattle.instance_matrix.proofs.Filling.{filled_none, filled_more}
 use Rattle.instance_matrix.proofs.Results.{identity-law}
 use Rattle.instance_matrix.proofs.basic.identity.Goals as goal
 use Rattle.instance_matrix.proofs.basic.identity.Lts as lts

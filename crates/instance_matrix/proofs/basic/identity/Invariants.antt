@@ -1,13 +1,9 @@
 -- The invariant: the cells before k are filled.
-use borrow.Author.Rules.{rules}
 use mathlib.Core.Bool.{false, cond}
-use Prim.Native.Nat.{◌≤◌, ◌<◌, ◌-◌, ◌/◌, ◌%◌}
-use native.Mathlib.Omega.{arith}
+use Prim.Native.Nat.{◌≤◌, ◌-◌, ◌/◌, ◌%◌}
 use lib.Dec.{eqb}
 use lib.ListN.{get_or}
-use Rattle.relational.proofs.Places.{some-column, row_below}
-use Rattle.instance_matrix.proofs.Filling.{Filled, filled_none, filled_more}
-use Rattle.instance_matrix.proofs.Results.{identity-law}
+use Rattle.instance_matrix.proofs.Filling.{Filled}
 use Rattle.instance_matrix.proofs.basic.identity.Given as goal
 
 abbrev pub invariant-loop-k : goal.invariant-loop-k

@@ -1,10 +1,5 @@
-use borrow.Author.Rules.{rules}
-use Prim.Native.Nat.{◌≤◌, ◌-◌}
 use native.Mathlib.Omega.{arith}
-use mathlib.Core.Bool.{false}
-use lib.ListN.{get_or}
-use Rattle.instance_matrix.specs.Values.{paired}
-use Rattle.instance_matrix.proofs.Filling.{Filled, filled_none, filled_more}
+use Rattle.instance_matrix.proofs.Filling.{filled_none, filled_more}
 use Rattle.instance_matrix.proofs.Results.{matched-law}
 use Rattle.instance_matrix.proofs.basic.matched.Goals as goal
 

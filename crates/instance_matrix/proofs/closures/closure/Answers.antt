@@ -1,10 +1,9 @@
-use borrow.Author.Rules.{rules}
 use mathlib.Core.Path.{◌≡◌, refl, sym, ap, ◌∙◌}
-use Prim.Native.Nat.{ℕ, ◌≤◌, ◌-◌}
+use Prim.Native.Nat.{ℕ}
 use native.Mathlib.Omega.{arith}
 use Rattle.relational.specs.Evaluation.{round_of, after_rounds}
 use native.Mathlib.Numerals.{add-one}
-use Rattle.instance_matrix.specs.Values.{matrix_of, Gives}
+use Rattle.instance_matrix.specs.Values.{matrix_of}
 use Rattle.instance_matrix.proofs.Results.{gives_as}
 use Rattle.instance_matrix.proofs.closures.closure.Goals as goal
 

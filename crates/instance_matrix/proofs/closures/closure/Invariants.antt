@@ -1,12 +1,7 @@
 -- The invariant: k rounds are done.
-use borrow.Author.Rules.{rules}
-use mathlib.Core.Path.{◌≡◌, refl, sym, ap, ◌∙◌}
-use Prim.Native.Nat.{ℕ, ◌≤◌, ◌-◌}
-use native.Mathlib.Omega.{arith}
-use Rattle.relational.specs.Evaluation.{round_of, after_rounds}
-use native.Mathlib.Numerals.{add-one}
+use Prim.Native.Nat.{◌≤◌, ◌-◌}
+use Rattle.relational.specs.Evaluation.{after_rounds}
 use Rattle.instance_matrix.specs.Values.{matrix_of, Gives}
-use Rattle.instance_matrix.proofs.Results.{gives_as}
 use Rattle.instance_matrix.proofs.closures.closure.Given as goal
 
 abbrev pub invariant-loop-k : goal.invariant-loop-k

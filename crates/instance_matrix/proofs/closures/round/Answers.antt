@@ -4,7 +4,6 @@ use Rattle.relational.specs.Evaluation.{value_binary}
 use Rattle.relational.specs.Trees.{union}
 use Rattle.instance_matrix.specs.Values.{matrix_of}
 use Rattle.instance_matrix.proofs.Results.{gives_as}
-use borrow.Author.Rules.{rules}
 use Rattle.instance_matrix.proofs.closures.round.Goals as goal
 
 pub returns : goal.returns

@@ -1,5 +1,4 @@
 -- The pairing as the definition.
-use borrow.Author.Rules.{rules}
 use Rattle.instance_matrix.proofs.flags.pair.Goals as goal
 
 pub returns-in-Either : goal.returns-in-Either

@@ -1,13 +1,8 @@
 -- The invariant: the cells before k are transposed.
-use borrow.Author.Rules.{rules}
-use mathlib.Core.Path.{ap}
-use Prim.Native.Nat.{ℕ, ◌≤◌, ◌<◌, ◌-◌, ◌+◌, ◌*◌, ◌/◌, ◌%◌}
-use native.Mathlib.Omega.{arith}
+use Prim.Native.Nat.{◌≤◌, ◌-◌, ◌+◌, ◌*◌, ◌/◌, ◌%◌}
 use mathlib.Core.Bool.{false}
 use lib.ListN.{get_or}
-use Rattle.instance_matrix.proofs.Filling.{Filled, filled_none, filled_more}
-use Rattle.relational.proofs.Places.{row_below, column-below, some-column}
-use Rattle.instance_matrix.proofs.Results.{inverse-law}
+use Rattle.instance_matrix.proofs.Filling.{Filled}
 use Rattle.instance_matrix.proofs.inverses.inverse.Given as goal
 
 abbrev pub invariant-loop-k : goal.invariant-loop-k

@@ -1,13 +1,7 @@
-use borrow.Author.Rules.{rules}
 use mathlib.Core.Path.{◌≡◌}
-use Prim.Native.Nat.{◌≤◌, ◌<◌, ◌-◌, ◌*◌, ◌/◌, ◌%◌}
+use Prim.Native.Nat.{◌<◌, ◌*◌}
 use native.Mathlib.Omega.{arith}
-use mathlib.Core.Bool.{false}
-use Rattle.prelude.specs.Tests.{any}
-use Rattle.relational.specs.Matrices.{middles}
-use Rattle.relational.specs.Evaluation.{both}
-use Rattle.instance_matrix.specs.Values.{matrix_of}
-use Rattle.instance_matrix.proofs.Filling.{Filled, filled_none, filled_more}
+use Rattle.instance_matrix.proofs.Filling.{filled_none, filled_more}
 use Rattle.relational.proofs.Places.{row_below, column-below, some-column}
 use Rattle.instance_matrix.proofs.Results.{join-law}
 use Rattle.instance_matrix.proofs.Arities.{arity-most}
@@ -44,15 +38,15 @@ join_cell-requires c =
       fine = a.requires.fine;
       fine_2 = a.requires.fine_2;
       columns_value = (
-          w.ensures.0,
+        w.ensures.0,
+        (
+          w.ensures.1,
           (
-            w.ensures.1,
-            (
-              omega (arith, row_below a.args.p.rows w.result k h, a.requires.fine.few_rows),
-              column-below a.args.p.rows w.result k h,
-            ),
+            omega (arith, row_below a.args.p.rows w.result k h, a.requires.fine.few_rows),
+            column-below a.args.p.rows w.result k h,
           ),
-        );
+        ),
+      );
     }
 
 pub bounds-cells-k : goal.bounds-cells-k

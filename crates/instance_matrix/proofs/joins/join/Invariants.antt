@@ -1,17 +1,11 @@
 -- The invariant: the cells before k are joined.
-use borrow.Author.Rules.{rules}
-use mathlib.Core.Path.{◌≡◌}
-use Prim.Native.Nat.{◌≤◌, ◌<◌, ◌-◌, ◌*◌, ◌/◌, ◌%◌}
-use native.Mathlib.Omega.{arith}
+use Prim.Native.Nat.{◌≤◌, ◌-◌, ◌/◌, ◌%◌}
 use mathlib.Core.Bool.{false}
 use Rattle.prelude.specs.Tests.{any}
 use Rattle.relational.specs.Matrices.{middles}
 use Rattle.relational.specs.Evaluation.{both}
 use Rattle.instance_matrix.specs.Values.{matrix_of}
-use Rattle.instance_matrix.proofs.Filling.{Filled, filled_none, filled_more}
-use Rattle.relational.proofs.Places.{row_below, column-below, some-column}
-use Rattle.instance_matrix.proofs.Results.{join-law}
-use Rattle.instance_matrix.proofs.Arities.{arity-most}
+use Rattle.instance_matrix.proofs.Filling.{Filled}
 use Rattle.instance_matrix.proofs.joins.join.Given as goal
 
 abbrev pub invariant-loop-k : goal.invariant-loop-k

@@ -1,16 +1,12 @@
 -- The invariant: a middle atom below k is found.
-use borrow.Author.Rules.{rules}
-use mathlib.Core.Path.{◌≡◌, ap, ◌∙◌}
+use mathlib.Core.Path.{◌≡◌}
 use Prim.Native.Nat.{ℕ, ◌≤◌, ◌-◌, ◌+◌, ◌*◌}
-use native.Mathlib.Omega.{arith}
 use mathlib.Core.Bool.{Bool, false}
 use lib.ListN.{get_or}
 use mathlib.Core.List.{map}
 use Rattle.prelude.specs.Tests.{any}
 use Rattle.relational.specs.Matrices.{upto}
 use Rattle.relational.specs.Evaluation.{both}
-use Rattle.instance_matrix.proofs.Counting.{any_none, any-more}
-use Rattle.instance_matrix.proofs.Results.{middle-cells}
 use Rattle.instance_matrix.proofs.joins.join_cell.Given as goal
 
 abbrev pub invariant-loop-k : goal.invariant-loop-k

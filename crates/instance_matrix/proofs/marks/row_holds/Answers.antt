@@ -1,7 +1,6 @@
 -- Mark by mark as the definition.
 use mathlib.Core.Path.{refl}
 use Rattle.instance_matrix.proofs.Counting.{exact-row}
-use borrow.Author.Rules.{rules}
 use Rattle.instance_matrix.proofs.marks.row_holds.Goals as goal
 
 pub returns-in-0 : goal.returns-in-0

@@ -1,6 +1,5 @@
 -- Kind by kind as the definition.
 use Rattle.nodes.proofs.Numbers.{at-union, at-intersection, at-difference, at_join, at-product}
-use borrow.Author.Rules.{rules}
 use Rattle.instance_matrix.proofs.operators.binary.Goals as goal
 
 pub returns-in-5 : goal.returns-in-5

@@ -1,6 +1,5 @@
 -- Kind by kind as the definition.
 use Rattle.nodes.proofs.Numbers.{at-inverse, at-closure}
-use borrow.Author.Rules.{rules}
 use Rattle.instance_matrix.proofs.operators.unary.Goals as goal
 
 pub returns-in-10 : goal.returns-in-10

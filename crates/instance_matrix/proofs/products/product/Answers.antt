@@ -1,10 +1,5 @@
-use borrow.Author.Rules.{rules}
-use Prim.Native.Nat.{◌≤◌, ◌-◌, ◌/◌, ◌%◌}
 use native.Mathlib.Omega.{arith}
-use mathlib.Core.Bool.{false}
-use lib.ListN.{get_or}
-use Rattle.relational.specs.Evaluation.{both}
-use Rattle.instance_matrix.proofs.Filling.{Filled, filled_none, filled_more}
+use Rattle.instance_matrix.proofs.Filling.{filled_none, filled_more}
 use Rattle.relational.proofs.Places.{row_below, column-below, some-column}
 use Rattle.instance_matrix.proofs.Results.{product_law}
 use Rattle.instance_matrix.proofs.products.product.Goals as goal

@@ -1,13 +1,9 @@
 -- The invariant: the cells before k are paired.
-use borrow.Author.Rules.{rules}
 use Prim.Native.Nat.{◌≤◌, ◌-◌, ◌/◌, ◌%◌}
-use native.Mathlib.Omega.{arith}
 use mathlib.Core.Bool.{false}
 use lib.ListN.{get_or}
 use Rattle.relational.specs.Evaluation.{both}
-use Rattle.instance_matrix.proofs.Filling.{Filled, filled_none, filled_more}
-use Rattle.relational.proofs.Places.{row_below, column-below, some-column}
-use Rattle.instance_matrix.proofs.Results.{product_law}
+use Rattle.instance_matrix.proofs.Filling.{Filled}
 use Rattle.instance_matrix.proofs.products.product.Given as goal
 
 abbrev pub invariant-loop-k : goal.invariant-loop-k

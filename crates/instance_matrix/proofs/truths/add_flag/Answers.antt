@@ -1,6 +1,5 @@
 -- A true flag adds one.
 use native.Mathlib.Numerals.{add-one}
-use borrow.Author.Rules.{rules}
 use Rattle.instance_matrix.proofs.truths.add_flag.Goals as goal
 
 pub returns-then-flag : goal.returns-then-flag

@@ -1,16 +1,12 @@
 -- The invariant: the cells before k compare.
-use borrow.Author.Rules.{rules}
-use mathlib.Core.Path.{◌≡◌, sym, ap, ◌∙◌}
-use Prim.Native.Nat.{ℕ, ◌≤◌, ◌-◌, ◌*◌}
-use native.Mathlib.Omega.{arith}
+use mathlib.Core.Path.{◌≡◌}
+use Prim.Native.Nat.{ℕ, ◌≤◌, ◌-◌}
 use mathlib.Core.Bool.{Bool, false}
 use lib.ListN.{get_or}
 use mathlib.Core.List.{map}
 use Rattle.prelude.specs.Tests.{all}
 use Rattle.relational.specs.Matrices.{upto}
 use Rattle.instance_matrix.specs.Values.{paired}
-use Rattle.instance_matrix.proofs.Counting.{all_none, all_more}
-use Rattle.instance_matrix.proofs.Results.{matched-cells}
 use Rattle.instance_matrix.proofs.truths.all_matched.Given as goal
 
 abbrev pub invariant-loop-k : goal.invariant-loop-k

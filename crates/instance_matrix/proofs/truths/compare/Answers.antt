@@ -1,6 +1,5 @@
 -- Kind by kind as the definition.
 use Rattle.nodes.proofs.Numbers.{at-equal, at-within}
-use borrow.Author.Rules.{rules}
 use Rattle.instance_matrix.proofs.truths.compare.Goals as goal
 
 pub returns-in-20 : goal.returns-in-20

@@ -1,6 +1,5 @@
 -- Kind by kind as the definition.
 use Rattle.nodes.proofs.Numbers.{at-conjunction, at-disjunction, at-implication, at-equivalence}
-use borrow.Author.Rules.{rules}
 use Rattle.instance_matrix.proofs.truths.connect.Goals as goal
 
 pub returns-in-31 : goal.returns-in-31

@@ -1,9 +1,8 @@
 use mathlib.Core.Path.{◌≡◌, refl}
-use Prim.Native.Nat.{◌≤◌, ◌<◌, ◌-◌, ◌*◌}
+use Prim.Native.Nat.{◌<◌, ◌*◌}
 use native.Mathlib.Omega.{arith}
 use mathlib.Core.Bool.{false}
-use lib.ListN.{get_or, take, length}
-use Rattle.relational.specs.Evaluation.{count}
+use lib.ListN.{get_or, length}
 use Rattle.instance_matrix.proofs.Counting.{count-take, counted-most}
 use Rattle.instance_matrix.proofs.truths.count.Goals as goal
 

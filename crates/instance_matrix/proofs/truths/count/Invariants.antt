@@ -1,11 +1,8 @@
 -- The invariant: the flags before k are counted.
-use mathlib.Core.Path.{◌≡◌, refl}
-use Prim.Native.Nat.{◌≤◌, ◌<◌, ◌-◌, ◌*◌}
-use native.Mathlib.Omega.{arith}
-use mathlib.Core.Bool.{false}
-use lib.ListN.{get_or, take, length}
+use mathlib.Core.Path.{◌≡◌}
+use Prim.Native.Nat.{◌≤◌, ◌-◌}
+use lib.ListN.{take}
 use Rattle.relational.specs.Evaluation.{count}
-use Rattle.instance_matrix.proofs.Counting.{count-take, counted-most}
 use Rattle.instance_matrix.proofs.truths.count.Given as goal
 
 abbrev pub invariant-loop-k : goal.invariant-loop-k

@@ -5,7 +5,6 @@ use lib.Dec.{leb}
 use Rattle.relational.specs.Matrices.{Matrix}
 use Rattle.relational.specs.Evaluation.{count}
 use Rattle.nodes.proofs.Numbers.{at_all, at-exists}
-use borrow.Author.Rules.{rules}
 use Rattle.instance_matrix.proofs.truths.quantify.Goals as goal
 
 pub count-requires : goal.count-requires

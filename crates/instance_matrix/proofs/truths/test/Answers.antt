@@ -1,7 +1,6 @@
 -- Kind by kind as the definition.
 use mathlib.Core.Path.{refl}
 use Rattle.nodes.proofs.Numbers.{at_some, at_none, at-lone}
-use borrow.Author.Rules.{rules}
 use Rattle.instance_matrix.proofs.truths.test.Goals as goal
 
 pub returns-in-22 : goal.returns-in-22

@@ -1,5 +1,4 @@
 -- A byte of the sheet, or 0 past its end.
-use borrow.Author.Rules.{rules}
 use lib.ListN.{get_or-eq_default}
 use mathlib.Core.Path.{sym}
 use native.Mathlib.Omega.{arith}

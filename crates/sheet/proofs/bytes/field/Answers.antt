@@ -1,7 +1,6 @@
 -- `field` meets its contract: the place of the byte is a small number.
 use native.Mathlib.Nat.{mul-le-mul}
 use native.Mathlib.Omega.{arith}
-use borrow.Author.Rules.{rules}
 use Rattle.sheet.proofs.bytes.field.Goals as goal
 
 pub overflow_mul-size : goal.overflow_mul-size

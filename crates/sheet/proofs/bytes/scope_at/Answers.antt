@@ -1,5 +1,4 @@
 -- A byte from 129 on is a limit.
-use borrow.Author.Rules.{rules}
 use native.Mathlib.Omega.{arith}
 use borrow.Author.Tests.{le-leb, lt-leb}
 use Rattle.sheet.proofs.bytes.scope_at.Goals as goal

@@ -1,6 +1,5 @@
 -- Each test of the definition in turn.
 use native.Mathlib.Nat.{add-zero}
-use borrow.Author.Rules.{rules}
 use Rattle.sheet.proofs.declarations.relation_fine.Goals as goal
 
 pub returns : goal.returns

@@ -1,10 +1,7 @@
-use borrow.Author.Rules.{rules}
 use mathlib.Core.Path.{◌≡◌}
-use Prim.Native.Nat.{◌≤◌, ◌-◌, ◌/◌}
+use Prim.Native.Nat.{◌/◌}
 use native.Mathlib.Omega.{arith}
 use lib.ListN.{length}
-use Rattle.prelude.specs.Tests.{each}
-use Rattle.sheet_rules.specs.Blocks.{Sheet, sort_count}
 use Rattle.sheet_rules.specs.Reading.{relation_declared}
 use Rattle.sheet.proofs.Loops.{each_none, each_more}
 use Rattle.sheet.proofs.declarations.relations_fine.Goals as goal

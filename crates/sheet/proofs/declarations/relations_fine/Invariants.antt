@@ -1,13 +1,9 @@
 -- The invariant: `fine` says of each relation passed that it is declared well.
-use borrow.Author.Rules.{rules}
 use mathlib.Core.Path.{◌≡◌}
-use Prim.Native.Nat.{◌≤◌, ◌-◌, ◌/◌}
-use native.Mathlib.Omega.{arith}
-use lib.ListN.{length}
+use Prim.Native.Nat.{◌≤◌, ◌-◌}
 use Rattle.prelude.specs.Tests.{each}
 use Rattle.sheet_rules.specs.Blocks.{Sheet, sort_count}
 use Rattle.sheet_rules.specs.Reading.{relation_declared}
-use Rattle.sheet.proofs.Loops.{each_none, each_more}
 use Rattle.sheet.proofs.declarations.relations_fine.Given as goal
 
 abbrev pub invariant-loop-r : goal.invariant-loop-r

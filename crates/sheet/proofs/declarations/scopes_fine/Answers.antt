@@ -1,10 +1,6 @@
-use borrow.Author.Rules.{rules}
 use mathlib.Core.Path.{◌≡◌}
-use Prim.Native.Nat.{◌≤◌, ◌-◌}
 use native.Mathlib.Omega.{arith}
 use lib.ListN.{length}
-use Rattle.prelude.specs.Tests.{each, between}
-use Rattle.sheet.specs.Filling.{scope_in}
 use Rattle.sheet.proofs.Loops.{each_none, each_more}
 use Rattle.sheet.proofs.declarations.scopes_fine.Goals as goal
 

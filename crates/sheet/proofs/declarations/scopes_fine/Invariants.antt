@@ -1,12 +1,9 @@
 -- The invariant: `fine` says of each sort passed that its scope is one of 1 to 8.
-use borrow.Author.Rules.{rules}
 use mathlib.Core.Path.{◌≡◌}
 use Prim.Native.Nat.{◌≤◌, ◌-◌}
-use native.Mathlib.Omega.{arith}
 use lib.ListN.{length}
 use Rattle.prelude.specs.Tests.{each, between}
 use Rattle.sheet.specs.Filling.{scope_in}
-use Rattle.sheet.proofs.Loops.{each_none, each_more}
 use Rattle.sheet.proofs.declarations.scopes_fine.Given as goal
 
 abbrev pub invariant-loop-k : goal.invariant-loop-k

@@ -1,5 +1,4 @@
 -- Count by count as the definition.
-use borrow.Author.Rules.{rules}
 use Rattle.sheet.proofs.judge.is_counted.Goals as goal
 
 pub returns : goal.returns

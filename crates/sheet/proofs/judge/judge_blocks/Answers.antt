@@ -4,14 +4,12 @@ use mathlib.Core.Bool.{◌&&◌}
 use Prim.Native.Nat.{◌/◌}
 use native.Mathlib.Omega.{arith}
 use lib.ListN.{length}
-use borrow.Author.Tests.{not-false}
 use Rattle.sheet_rules.specs.Blocks.{Sheet, four_blocks}
 use Rattle.sheet_rules.specs.Reading.{counted, scoped, declared, nodes_fine, Answer, whole_judged, count_judged, scope_judged}
 use Rattle.sheet_rules.specs.Reading.{declaration_judged, node_judged, walk_judged}
 use Rattle.sheet_rules.specs.Facts.{Counts}
 use Rattle.sheet_rules.proofs.Counts.{counts}
 use Rattle.sheet.proofs.Verdicts.{refuse, pass}
-use borrow.Author.Rules.{rules}
 use Rattle.sheet.proofs.judge.judge_blocks.Goals as goal
 use Rattle.sheet.proofs.judge.judge_blocks.Lts as lts
 use Rattle.sheet.proofs.judge.judge_blocks.Tie as tie

@@ -9,7 +9,6 @@ use Rattle.sheet_rules.specs.Tables.{visits}
 use Rattle.sheet.specs.Filling.{capped}
 use Rattle.sheet_rules.specs.Reading.{accepted, shaped, rooted, walkable}
 use Rattle.sheet.proofs.Verdicts.{refuse, pass, refuse-false, pass-true, over-limit, under-limit}
-use borrow.Author.Rules.{rules}
 use Rattle.sheet.proofs.judge.judge_walk.Goals as goal
 use Rattle.sheet.proofs.judge.judge_walk.Lts as lts
 use Rattle.sheet.proofs.judge.judge_walk.Tie as tie

@@ -1,6 +1,5 @@
 -- Each start from the lengths before it.
 use mathlib.Core.Path.{refl}
-use borrow.Author.Rules.{rules}
 use Rattle.sheet.proofs.judge.layout.Goals as goal
 
 pub returns : goal.returns

@@ -1,6 +1,5 @@
 -- The row of the node's kind, then its two fields.
 use native.Mathlib.Nat.{add-zero}
-use borrow.Author.Rules.{rules}
 use Rattle.sheet.proofs.nodes.node_fine.Goals as goal
 
 pub returns : goal.returns

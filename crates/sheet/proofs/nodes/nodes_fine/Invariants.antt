@@ -1,13 +1,9 @@
 -- The invariant: `fine` says of each node passed that its kind and fields are right.
-use borrow.Author.Rules.{rules}
 use mathlib.Core.Path.{◌≡◌}
-use Prim.Native.Nat.{◌≤◌, ◌-◌, ◌/◌}
-use native.Mathlib.Omega.{arith}
-use lib.ListN.{length}
+use Prim.Native.Nat.{◌≤◌, ◌-◌}
 use Rattle.prelude.specs.Tests.{each}
 use Rattle.sheet_rules.specs.Blocks.{Sheet, sort_count, variable_count, relation_count}
 use Rattle.sheet_rules.specs.Reading.{node_fine}
-use Rattle.sheet.proofs.Loops.{each_none, each_more}
 use Rattle.sheet.proofs.nodes.nodes_fine.Given as goal
 
 abbrev pub invariant-loop-v : goal.invariant-loop-v

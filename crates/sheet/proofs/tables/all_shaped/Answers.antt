@@ -1,11 +1,5 @@
-use borrow.Author.Rules.{rules}
 use mathlib.Core.Path.{◌≡◌}
-use Prim.Native.Nat.{◌≤◌, ◌-◌}
 use native.Mathlib.Omega.{arith}
-use lib.ListN.{get_or}
-use Rattle.prelude.specs.Tests.{each}
-use Rattle.shapes.specs.declared.Shape.TheVariants.{Ill}
-use Rattle.shapes.specs.Shapes.{is_shaped}
 use Rattle.sheet.proofs.Loops.{each_none, each_more}
 use Rattle.sheet.proofs.tables.all_shaped.Goals as goal
 

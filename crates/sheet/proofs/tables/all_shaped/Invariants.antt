@@ -1,13 +1,10 @@
 -- The invariant: `fine` says of each node passed that it has a shape.
-use borrow.Author.Rules.{rules}
 use mathlib.Core.Path.{◌≡◌}
 use Prim.Native.Nat.{◌≤◌, ◌-◌}
-use native.Mathlib.Omega.{arith}
 use lib.ListN.{get_or}
 use Rattle.prelude.specs.Tests.{each}
 use Rattle.shapes.specs.declared.Shape.TheVariants.{Ill}
 use Rattle.shapes.specs.Shapes.{is_shaped}
-use Rattle.sheet.proofs.Loops.{each_none, each_more}
 use Rattle.sheet.proofs.tables.all_shaped.Given as goal
 
 abbrev pub invariant-loop-v : goal.invariant-loop-v

@@ -1,14 +1,11 @@
 -- The invariant: `fine` says of each variable passed that it is not free in the root.
-use borrow.Author.Rules.{rules}
 use mathlib.Core.Path.{◌≡◌}
 use mathlib.Core.Bool.{not, false}
 use Prim.Native.Nat.{◌≤◌, ◌-◌}
-use native.Mathlib.Omega.{arith}
 use lib.ListN.{get_or}
 use Rattle.prelude.specs.Tests.{each}
 use Rattle.sheet_rules.specs.Blocks.{Sheet, root as root_of}
 use Rattle.sheet_rules.specs.Tables.{free}
-use Rattle.sheet.proofs.Loops.{each_none, each_more}
 use Rattle.sheet.proofs.tables.closed.Given as goal
 
 abbrev pub invariant-loop-x : goal.invariant-loop-x

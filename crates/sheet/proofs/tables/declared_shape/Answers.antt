@@ -1,6 +1,5 @@
 -- The three bytes of the declaration decide.
 use native.Mathlib.Nat.{add-zero}
-use borrow.Author.Rules.{rules}
 use Rattle.sheet.proofs.tables.declared_shape.Goals as goal
 
 pub returns : goal.returns

@@ -1,5 +1,4 @@
 -- Test by test as the definition.
-use borrow.Author.Rules.{rules}
 use Rattle.sheet.proofs.tables.free_by.Goals as goal
 
 pub returns : goal.returns

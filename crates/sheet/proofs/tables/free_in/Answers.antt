@@ -1,6 +1,5 @@
-use borrow.Author.Rules.{rules}
 use mathlib.Core.Path.{◌≡◌, refl, ◌∙◌}
-use Prim.Native.Nat.{ℕ, ◌≤◌, ◌-◌, ◌/◌}
+use Prim.Native.Nat.{ℕ, ◌/◌}
 use mathlib.Core.List.{List}
 use native.Mathlib.Nat.{add-zero}
 use native.Mathlib.Omega.{arith}
@@ -9,7 +8,7 @@ use Rattle.sheet_rules.specs.Blocks.{Sheet, field_a, field_b}
 use Rattle.sheet.specs.Filling.{Fills}
 use Rattle.sheet.proofs.FillingLaws.{fills-none, fills-more}
 use mathlib.Core.Bool.{Bool, false}
-use Rattle.sheet_rules.specs.Tables.{table, free_step}
+use Rattle.sheet_rules.specs.Tables.{free_step}
 use Rattle.sheet.proofs.tables.free_in.Goals as goal
 use Rattle.sheet.proofs.tables.free_in.Lts as lts
 use Rattle.sheet.proofs.tables.free_in.Tie as tie

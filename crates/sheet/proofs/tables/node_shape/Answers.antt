@@ -1,7 +1,6 @@
 -- The row of the kind, the fields, and the shapes of what they name.
 use Rattle.sheet_rules.specs.Tables.{shape_step}
 use native.Mathlib.Nat.{add-zero}
-use borrow.Author.Rules.{rules}
 use Rattle.sheet.proofs.tables.node_shape.Goals as goal
 
 pub returns : goal.returns

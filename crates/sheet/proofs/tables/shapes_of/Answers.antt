@@ -1,9 +1,9 @@
 use mathlib.Core.Path.{◌≡◌, refl}
-use Prim.Native.Nat.{ℕ, ◌≤◌, ◌-◌, ◌/◌}
+use Prim.Native.Nat.{ℕ, ◌/◌}
 use native.Mathlib.Omega.{arith}
 use lib.ListN.{length, length-set, length-replicate}
 use Rattle.sheet_rules.specs.Blocks.{Sheet, field_a, field_b}
-use Rattle.sheet_rules.specs.Tables.{table, shape_step}
+use Rattle.sheet_rules.specs.Tables.{shape_step}
 use Rattle.sheet.specs.Filling.{Fills}
 use Rattle.sheet.proofs.FillingLaws.{fills-none, fills-more}
 use Rattle.shapes.specs.declared.Shape.{Shape}

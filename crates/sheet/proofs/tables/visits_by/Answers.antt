@@ -2,7 +2,6 @@
 use Prim.Native.Nat.{◌≤◌}
 use native.Mathlib.Omega.{arith}
 use Rattle.sheet.proofs.Visits.{product-fits}
-use borrow.Author.Rules.{rules}
 use Rattle.sheet.proofs.tables.visits_by.Goals as goal
 use Rattle.sheet.proofs.tables.visits_by.Lts as lts
 use Rattle.sheet.proofs.tables.visits_by.Tie as tie

@@ -1,6 +1,5 @@
-use borrow.Author.Rules.{rules}
 use mathlib.Core.Path.{◌≡◌, refl, ◌∙◌}
-use Prim.Native.Nat.{ℕ, ◌≤◌, ◌-◌, ◌/◌}
+use Prim.Native.Nat.{ℕ, ◌≤◌, ◌/◌}
 use mathlib.Core.List.{List, []}
 use native.Mathlib.Nat.{add-zero}
 use native.Mathlib.Omega.{arith}
@@ -9,7 +8,7 @@ use Rattle.sheet_rules.specs.Blocks.{Sheet, scope, sort_of, kind, field_a, field
 use Rattle.kinds.specs.Kinds.{row_of}
 use Rattle.sheet.specs.Filling.{Fills, capped}
 use Rattle.sheet.proofs.FillingLaws.{fills-none, fills-more}
-use Rattle.sheet_rules.specs.Tables.{table, visits_step}
+use Rattle.sheet_rules.specs.Tables.{visits_step}
 use Rattle.sheet.proofs.Visits.{capped_le, capped-visits}
 use Rattle.sheet.proofs.tables.visits_of.Goals as goal
 use Rattle.sheet.proofs.tables.visits_of.Lts as lts
