@@ -5,13 +5,11 @@ use mathlib.Core.Bool.{Bool, true, false}
 use Prim.Native.Nat.{ℕ, ◌+◌, ◌<◌}
 use native.Mathlib.Omega.{arith}
 use lib.Dec.{ltb}
-use borrow.Author.Rules.{rules}
 use borrow.Author.Tests.{lt-ltb, le-ltb, ltb-true, ltb-false}
 use Rattle.search_rules.specs.declared.Steps.{Steps}
 use Rattle.search_rules.specs.Run.{total}
 use Rattle.search_rules.specs.Held.{steps_of, step_limit, too_many}
-use Rattle.search_state.proofs.too_many.Statement.{statement}
-use Rattle.search_state.proofs.too_many.Tie as tie
+use Rattle.search_state.proofs.too_many.Goals as goal
 
 module _ (done : Steps) (allowed : ℕ) where
   passed : step_limit < total done → true ≡ too_many done allowed
@@ -24,26 +22,20 @@ module _ (done : Steps) (allowed : ℕ) where
       by true h = h ∙ sym (lt-ltb step_limit (total done + allowed) (omega (arith, ltb-true left allowed h)))
       by false h = h ∙ sym (le-ltb step_limit (total done + allowed) (omega (arith, ltb-false left allowed h)))
 
-sub-after-propagations : tie.Need-overflow-sub-after-propagations
-sub-after-propagations c = search rules
+pub returns-then-after_propagations-done : goal.returns-then-after_propagations-done
+unfolding total
+returns-then-after_propagations-done c =
+    let a = c.args in
+    passed (steps_of a.done) a.budget (let h = c.if-after_propagations-done.true in omega arith)
 
-returns : tie.Need-returns
+pub returns-then-after_decisions-done : goal.returns-then-after_decisions-done
+unfolding total
+returns-then-after_decisions-done c =
+    let a = c.args in
+    passed (steps_of a.done) a.budget (let h = c.if-after_decisions-done.true in omega arith)
+
+pub returns : goal.returns
 unfolding total
 returns c =
-    let a = c.before.before.before.args in
-    passed (steps_of a.done) a.budget (let h = c.if1.true in omega arith)
-
-returns-2 : tie.Need-returns-2
-unfolding total
-returns-2 c =
-    let a = c.before.before.before.before.before.before.args in
-    passed (steps_of a.done) a.budget (let h = c.if2.true in omega arith)
-
-returns-3 : tie.Need-returns-3
-unfolding total
-returns-3 c =
-    let a = c.before.before.before.before.before.before.before.args in
-    less-left (steps_of a.done) a.budget _ (let h = c.before.if2.false in omega arith)
-
-pub too-many-spec : {M : Type 1} → statement M
-too-many-spec = tie.close (tie.spec sub-after-propagations returns returns-2 returns-3)
+    let a = c.args in
+    less-left (steps_of a.done) a.budget _ (let h = c.if-after_decisions-done.false in omega arith)
