@@ -1,11 +1,10 @@
 use mathlib.Core.Path.{sym, ap}
 use mathlib.Core.List.{◌∷◌, [], ◌++◌}
-use Prim.Native.Nat.{suc, ◌-◌, ◌≤◌}
+use Prim.Native.Nat.{suc}
 use native.Mathlib.Numerals.{add-one}
 use native.Mathlib.Omega.{arith}
 use lib.IntN.{pos}
-use lib.ListN.{length, get_or, drop, length-set}
-use borrow.Author.Rules.{rules}
+use lib.ListN.{get_or, drop, length-set}
 use Rattle.text.proofs.Puts.{put_byte, put_two, put-length, put_as, room-first}
 use Rattle.text.proofs.Puts.{Left, left-all, left_as, left-room, left-put, left-last}
 use Rattle.literal.proofs.Signs.{back}

@@ -1,14 +1,14 @@
 use mathlib.Core.Path.{◌≡◌, sym, ap, ◌∙◌}
 use mathlib.Core.List.{◌++◌}
-use Prim.Native.Nat.{suc, ◌+◌, ◌-◌}
+use Prim.Native.Nat.{◌+◌, ◌-◌}
 use native.Mathlib.Omega.{arith}
-use lib.ListN.{length, take, drop, drop_of_length-le}
+use lib.ListN.{take, drop, drop_of_length-le}
 use Rattle.text.proofs.Puts.{put_as, put-length, room-first, Left, left-all, left_as, left-room, left-put, left-none}
 use Rattle.clause_list.specs.ClauseList.{clauses_of}
 use Rattle.clause_list.proofs.Laws.{ClauseAt, clauses-nil}
 use Rattle.dimacs.specs.Text.{clause_line, clause_lines}
 use Rattle.dimacs.proofs.Lines.{lines_none, lines_more}
-use Rattle.dimacs.proofs.Walks.{At, at-start, count_at, clause_at, here, next, part, proper}
+use Rattle.dimacs.proofs.Walks.{at-start, count_at, clause_at, here, next, part, proper}
 use Rattle.dimacs.proofs.put_clauses.Goals as goal
 use Rattle.dimacs.proofs.put_clauses.Lts as lts
 use Rattle.dimacs.proofs.put_clauses.Tie as tie

@@ -3,7 +3,6 @@ use mathlib.Core.List.{List, [], ◌∷◌, ◌++◌}
 use Prim.Native.Nat.{ℕ, ◌+◌}
 use native.Mathlib.Omega.{arith}
 use lib.ListN.{set}
-use borrow.Author.Rules.{rules}
 use Rattle.text.specs.Texts.{bytes_of, decimal}
 use Rattle.text.proofs.Puts.{put_byte, put-length, room-first, Left, left-all, left-room, left-put, left-last}
 use Rattle.dimacs.specs.Text.{header}

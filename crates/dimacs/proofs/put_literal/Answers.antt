@@ -3,7 +3,6 @@ use mathlib.Core.Path.{◌≡◌, sym, ap, ◌∙◌}
 use mathlib.Core.List.{◌∷◌}
 use native.Mathlib.Omega.{arith}
 use lib.ListN.{length, length-set}
-use borrow.Author.Rules.{rules}
 use Rattle.text.specs.Texts.{decimal}
 use Rattle.text.proofs.Puts.{put_byte, put_both, put_as, put-length}
 use Rattle.literal.proofs.Signs.{back}

@@ -1,8 +1,6 @@
 -- `dimacs::size` meets its contract.
 use mathlib.Core.Path.{◌≡◌, sym, ap, ◌∙◌}
 use mathlib.Core.Bool.{true}
-use borrow.Author.Rules.{rules}
-use borrow.Author.Tests.{not-true, not-false}
 use Rattle.clause_list.specs.ClauseList.{is_list}
 use Rattle.dimacs.specs.Answers.{bytes}
 use Rattle.dimacs.proofs.Answers.{size-refused, size-bytes}

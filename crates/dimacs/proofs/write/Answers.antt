@@ -3,9 +3,6 @@ use mathlib.Core.Path.{◌≡◌, sym, ap, ◌∙◌}
 use mathlib.Core.Bool.{true}
 use mathlib.Core.List.{◌++◌}
 use native.Mathlib.Omega.{arith}
-use lib.ListN.{length}
-use borrow.Author.Rules.{rules}
-use borrow.Author.Tests.{not-true, not-false}
 use Rattle.text.specs.Puts.{Put, Room}
 use Rattle.text.proofs.Puts.{put_both, put_as, room-first, put-length, Left, left-all, left_as, left-put, left-room}
 use Rattle.clause_list.specs.ClauseList.{clauses_of, is_list}

@@ -1,7 +1,6 @@
 -- `header_length` meets its contract.
 use Prim.Native.Nat.{◌+◌, ◌≤◌}
 use native.Mathlib.Omega.{arith}
-use borrow.Author.Rules.{rules}
 use Rattle.text.proofs.Decimals.{decimal-short}
 use Rattle.dimacs.proofs.Lines.{header-length}
 use Rattle.dimacs.proofs.measure.header_length.Goals as goal

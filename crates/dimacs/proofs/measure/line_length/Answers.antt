@@ -1,9 +1,8 @@
 use mathlib.Core.Path.{◌≡◌, ap}
-use Prim.Native.Nat.{◌+◌, ◌-◌, ◌≤◌}
+use Prim.Native.Nat.{◌+◌}
 use native.Mathlib.Omega.{arith}
 use lib.IntN.{pos}
 use lib.ListN.{length, get_or, drop}
-use borrow.Author.Rules.{rules}
 use Rattle.literal.proofs.Signs.{back}
 use Rattle.dimacs.specs.Text.{literal_text, clause_line}
 use Rattle.dimacs.proofs.Lines.{line-length, line-end}

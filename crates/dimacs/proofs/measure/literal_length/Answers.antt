@@ -3,7 +3,6 @@ use mathlib.Core.Path.{sym, ap, ◌∙◌}
 use Prim.Native.Nat.{◌^◌, ◌<◌}
 use native.Mathlib.Omega.{arith}
 use lib.ListN.{length}
-use borrow.Author.Rules.{rules}
 use Rattle.text.proofs.Decimals.{decimal-short}
 use Rattle.literal.proofs.Signs.{back}
 use Rattle.dimacs.proofs.Lines.{positive-word, negative-word}

@@ -1,8 +1,7 @@
 use mathlib.Core.Path.{◌≡◌, refl, ap, ◌∙◌}
-use Prim.Native.Nat.{◌+◌, ◌-◌, ◌<◌, ◌^◌}
+use Prim.Native.Nat.{◌+◌, ◌<◌, ◌^◌}
 use native.Mathlib.Omega.{arith}
 use lib.ListN.{length}
-use borrow.Author.Rules.{rules}
 use Rattle.clause_list.specs.ClauseList.{clauses_of}
 use Rattle.clause_list.proofs.Laws.{ClauseAt, clauses-few}
 use Rattle.dimacs.specs.Text.{clause_line, clause_lines, header, text_of}
@@ -131,9 +130,9 @@ overflow_add-bytes c =
 
 pub returns : goal.returns
 returns c = record {
-      clauses_value = (counted-all c.loop-i.invariant c.loop-i-test.false).0;
-      bytes_value = whole c;
-    }
+  clauses_value = (counted-all c.loop-i.invariant c.loop-i-test.false).0;
+  bytes_value = whole c;
+}
 
 pub slice_bounds-line_length-end : goal.slice_bounds-line_length-end
 slice_bounds-line_length-end c = omega (arith, c.clause_end-end.ensures, (clause c).fits)

@@ -3,7 +3,6 @@ use mathlib.Core.Path.{ap}
 use native.Mathlib.Omega.{arith}
 use lib.IntN.{pos}
 use lib.ListN.{get_or}
-use borrow.Author.Rules.{rules}
 use Rattle.literal.specs.Words.{count_of}
 use Rattle.literal.proofs.Signs.{back}
 use Rattle.dimacs.proofs.walk.clause_end.Goals as goal
