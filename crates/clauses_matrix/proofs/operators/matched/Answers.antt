@@ -3,22 +3,14 @@ use mathlib.Core.Path.{refl}
 use Rattle.relational.specs.Matrices.{same_size}
 use Rattle.clauses_matrix.specs.Matrices.{matrix_of, paired}
 use Rattle.clauses_emission.proofs.Steps.{emits-map}
-use borrow.Author.Rules.{rules}
-use Rattle.clauses_matrix.proofs.operators.matched.Statement.{statement}
-use Rattle.clauses_matrix.proofs.operators.matched.Tie as tie
+use Rattle.clauses_matrix.proofs.operators.matched.Goals as goal
 
-matched-cells-requires : tie.Need-matched-cells-requires
-matched-cells-requires c κs = search rules
-
-same_length : tie.Need-same-length
-same_length c = search rules
-
-returns : tie.Need-returns
+pub returns : goal.returns
 returns c =
     let start = c.before.before.before.before.before in
     let p = start.args.p in
-    let o = start.requires.1.0 in
-    let made = c.before.before.before.matched-cells.ensures in
+    let o = start.requires.operand in
+    let made = c.matched_cells-made.ensures in
     emits-map (same_size (matrix_of p)) (paired start.args.kind (matrix_of p) (matrix_of start.args.q)) made refl
     (record {
       arity_low = o.arity_low;
@@ -28,6 +20,3 @@ returns c =
       columns = o.columns;
       cells = made.fine;
     })
-
-pub matched-spec : {M : Type 1} → statement M
-matched-spec = tie.close (tie.spec matched-cells-requires same_length returns)
