@@ -3,10 +3,9 @@ use mathlib.Core.Path.{refl}
 use native.Mathlib.Omega.{arith}
 use Rattle.clauses_rules.specs.Translation.{absent}
 use Rattle.clauses_kinds.proofs.Lists.{filled_none, filled-fine}
-use Rattle.clauses_kinds.proofs.leaves.nothing.Statement.{statement}
-use Rattle.clauses_kinds.proofs.leaves.nothing.Tie as tie
+use Rattle.clauses_kinds.proofs.leaves.nothing.Goals as goal
 
-returns : tie.Need-returns
+pub returns : goal.returns
 returns c n two =
     record {
       arity_low = omega arith;
@@ -16,6 +15,3 @@ returns c n two =
       columns = omega arith;
       cells = filled-fine (λ i. absent) (filled_none (λ i. absent)) (omega arith) two λ i p. absurd (omega arith);
     }
-
-pub nothing-spec : {M : Type 1} → statement M
-nothing-spec = tie.close (tie.spec returns)
