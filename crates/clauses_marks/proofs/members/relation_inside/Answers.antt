@@ -12,11 +12,9 @@ use Rattle.cells.proofs.Members.{full-first, full-second}
 use Rattle.clauses_rules.specs.Gates.{Clause}
 use Rattle.clauses_rules.specs.Whole.{series, cell_members, cell_clauses}
 use Rattle.clauses_emission.specs.Emission.{literals_of}
-use borrow.Author.Rules.{rules}
 use Rattle.clauses_marks.specs.Marking.{row_inside, relation_inside}
 use Rattle.clauses_marks.proofs.Adding.{adds_none, adds-as, adds-most}
-use Rattle.clauses_marks.proofs.members.relation_inside.Statement.{statement}
-use Rattle.clauses_marks.proofs.members.relation_inside.Tie as tie
+use Rattle.clauses_marks.proofs.members.relation_inside.Goals as goal
 
 series-none : (n : ℕ) (f : ℕ → List Clause) → ((i : ℕ) → f i ≡ []) → series n f ≡ []
 unfolding series
@@ -40,30 +38,19 @@ module _ (sheet : Sheet) (cells : List Literal) (r : ℕ) (e : is_bounded sheet 
       series-none (row_count sheet r) (row_inside sheet cells r) λ i.
       series-none (row_length sheet r) (cell_clauses sheet cells r i) (no-clause i)
 
-over-bounded-requires : tie.Need-over-bounded-requires
-over-bounded-requires c κs =
-    let g = c.before.before.requires.1 in
-    let facts = accepted-facts _ _ g.0.located.taken in
-    (g.0.located.taken, omega (arith, g.1, facts.counts.few_relations))
+pub over_bounded-requires : goal.over_bounded-requires
+over_bounded-requires c =
+    let g = c.requires in
+    let facts = accepted-facts _ _ g.given.located.taken in record {
+      sheet_value = g.given.located.taken;
+      r_bound = omega (arith, g.r_bound, facts.counts.few_relations);
+    }
 
-rows-inside-requires : tie.Need-rows-inside-requires
-rows-inside-requires c κs = search rules
-
-same_length : tie.Need-same-length
-same_length c = search rules
-
-returns : tie.Need-returns
-returns c = search rules
-
-returns-2 : tie.Need-returns-2
-returns-2 c =
-    let a = c.before.before.before.before.args in
+pub returns : goal.returns
+returns c =
+    let a = c.args in
     let sheet = sheet_of a.sheet.now in
-    let e = c.before.over-bounded.ensures in
-    let none = none_inside sheet (literals_of a.given.now) a.r (full-first sheet a.r e c.if1.false)
-    (full-second sheet a.r e c.if1.false) in
+    let e = c.over_bounded.ensures in
+    let none = none_inside sheet (literals_of a.given.now) a.r (full-first sheet a.r e c.if-over_bounded.false)
+    (full-second sheet a.r e c.if-over_bounded.false) in
     adds-as (adds-most (adds_none a.list.now a.tape) (omega arith)) (sym none)
-
-pub relation-inside-spec : {M : Type 1} → statement M
-relation-inside-spec =
-    tie.close (tie.spec over-bounded-requires rows-inside-requires same_length returns returns-2)
