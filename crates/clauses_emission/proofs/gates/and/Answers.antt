@@ -6,7 +6,6 @@ use Rattle.clauses_rules.specs.Gates.{or}
 use Rattle.clauses_emission.specs.Emission.{literals_of}
 use Rattle.clauses_emission.proofs.Ranges.{all-grows, all-opposites}
 use Rattle.clauses_emission.proofs.Ors.{emits-negated}
-use borrow.Author.Rules.{rules}
 use Rattle.clauses_emission.proofs.gates.and.Goals as goal
 
 pub turn-requires : goal.turn-requires

@@ -4,7 +4,6 @@ use Rattle.literal.specs.Literals.{opposite}
 use Rattle.literal.specs.Words.{literal_of}
 use Rattle.literal.proofs.Signs.{read}
 use Rattle.clauses_emission.proofs.Ranges.{opposite-read, inside-opposite}
-use borrow.Author.Rules.{rules}
 use Rattle.clauses_emission.proofs.gates.apart.Goals as goal
 use Rattle.clauses_emission.proofs.gates.apart.Lts as lts
 use Rattle.clauses_emission.proofs.gates.apart.Tie as tie

@@ -14,7 +14,6 @@ use Rattle.clauses_emission.proofs.Writes.{appends-as}
 use Rattle.clauses_emission.proofs.Ranges.{opposite-read}
 use Rattle.clauses_emission.proofs.Steps.{given-up, emits-literal}
 use Rattle.clauses_emission.proofs.Ors.{regular-gate, inputs-room, length-literals, gate-emits}
-use borrow.Author.Rules.{rules}
 use Rattle.clauses_emission.proofs.gates.gate.Goals as goal
 use Rattle.clauses_emission.proofs.gates.gate.Lts as lts
 use Rattle.clauses_emission.proofs.gates.gate.Tie as tie

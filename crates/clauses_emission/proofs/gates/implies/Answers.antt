@@ -4,7 +4,6 @@ use Rattle.literal.specs.Literals.{opposite}
 use Rattle.literal.specs.Words.{literal_of}
 use Rattle.literal.proofs.Signs.{read, back}
 use Rattle.clauses_emission.proofs.Ranges.{opposite-read, inside-opposite}
-use borrow.Author.Rules.{rules}
 use Rattle.clauses_emission.proofs.gates.implies.Goals as goal
 use Rattle.clauses_emission.proofs.gates.implies.Lts as lts
 use Rattle.clauses_emission.proofs.gates.implies.Tie as tie
@@ -25,7 +24,7 @@ either-requires c =
       bounded = start.requires.bounded;
       inside = rw (turned c) (inside-opposite (literal_of start.args.p) start.requires.inside);
       inside_2 = rw (back start.args.q start.ranges.q)
-            start.requires.inside_2;
+          start.requires.inside_2;
     }
 
 pub returns : goal.returns

@@ -17,7 +17,6 @@ use Rattle.clauses_emission.specs.Emission.{Inside}
 use Rattle.clauses_emission.specs.Settling.{Tells}
 use Rattle.clauses_emission.proofs.Ranges.{opposite-read, inside_one}
 use Rattle.clauses_emission.proofs.Twos.{or-absent-first, or-absent-second, or-repeat, or-one-first, or-one-second, or-opposites}
-use borrow.Author.Rules.{rules}
 use Rattle.clauses_emission.proofs.gates.told.Goals as goal
 use Rattle.clauses_emission.proofs.gates.told.Lts as lts
 use Rattle.clauses_emission.proofs.gates.told.Tie as tie

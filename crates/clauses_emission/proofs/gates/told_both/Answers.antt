@@ -10,7 +10,6 @@ use Rattle.literal.proofs.Signs.{read, back}
 use Rattle.clauses_emission.specs.Emission.{Inside}
 use Rattle.clauses_emission.proofs.Ranges.{opposite-read, inside-opposite}
 use Rattle.clauses_emission.proofs.Twos.{told-turned}
-use borrow.Author.Rules.{rules}
 use Rattle.clauses_emission.proofs.gates.told_both.Goals as goal
 use Rattle.clauses_emission.proofs.gates.told_both.Lts as lts
 use Rattle.clauses_emission.proofs.gates.told_both.Tie as tie
@@ -41,9 +40,9 @@ inside-q c = rw (turned-q c) (inside-opposite (literal_of c.args.q) c.requires.i
 
 pub told-requires : goal.told-requires
 told-requires c = record {
-      inside = inside-p c;
-      inside_2 = inside-q c;
-    }
+  inside = inside-p c;
+  inside_2 = inside-q c;
+}
 
 pub returns : goal.returns
 returns c n =

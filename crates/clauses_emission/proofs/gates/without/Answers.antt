@@ -6,14 +6,13 @@ use Rattle.literal.proofs.Signs.{back}
 use Rattle.clauses_rules.specs.Gates.{or}
 use Rattle.literal.proofs.Same.{opposite-twice}
 use Rattle.clauses_emission.proofs.Ors.{emits-negated}
-use borrow.Author.Rules.{rules}
 use Rattle.clauses_emission.proofs.gates.without.Goals as goal
 
 pub negate-requires : goal.negate-requires
 negate-requires c = record {
-      bounded = c.implies-made.ensures.bounded;
-      inside = c.implies-made.ensures.fine;
-    }
+  bounded = c.implies-made.ensures.bounded;
+  inside = c.implies-made.ensures.fine;
+}
 
 pub returns : goal.returns
 returns c =

@@ -1,15 +1,13 @@
-use borrow.Author.Rules.{rules}
 use mathlib.Core.Path.{◌≡◌, refl, ap, ◌∙◌}
-use mathlib.Core.List.{map}
-use Prim.Native.Nat.{◌-◌, ◌≤◌, ◌<◌}
+use Prim.Native.Nat.{◌<◌}
 use native.Mathlib.Numerals.{add-one}
 use native.Mathlib.Omega.{arith}
 use lib.IntN.{pos}
-use lib.ListN.{length, get_or, take, drop, length-set}
+use lib.ListN.{length, get_or, length-set}
 use Rattle.literal.specs.Literals.{opposite}
 use Rattle.literal.specs.Words.{literal_of}
 use Rattle.literal.proofs.Signs.{read}
-use Rattle.clauses_emission.specs.Emission.{literals_of, Inside}
+use Rattle.clauses_emission.specs.Emission.{Inside}
 use Rattle.clauses_emission.proofs.Ranges.{opposite-read, literal-at}
 use Rattle.clauses_emission.proofs.Rests.{rest_at, rest-set}
 use Rattle.clauses_emission.proofs.Ors.{opposites-next, opposites-all}

@@ -5,7 +5,6 @@ use lib.ListN.{length}
 use Rattle.prelude.specs.Stores.{put_all}
 use Rattle.literal.proofs.Signs.{back}
 use Rattle.clauses_emission.proofs.Writes.{words-one}
-use borrow.Author.Rules.{rules}
 use Rattle.clauses_emission.proofs.list.emit_clause.Goals as goal
 
 pub write_at-requires : goal.write_at-requires

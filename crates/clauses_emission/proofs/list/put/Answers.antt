@@ -1,7 +1,6 @@
 -- `list::put` meets its contract: past the end nothing is stored.
 use mathlib.Core.Path.{sym}
 use lib.Seq.{set_out}
-use borrow.Author.Rules.{rules}
 use Rattle.clauses_emission.proofs.list.put.Goals as goal
 
 pub returns-else-at-list : goal.returns-else-at-list

@@ -6,7 +6,6 @@ use lib.ListN.{get_or-eq_default}
 use mir.Syntax.{w32}
 use mir.ValLaws.{to_z-of_z}
 use Rattle.clauses_emission.proofs.Ranges.{get_d_any}
-use borrow.Author.Rules.{rules}
 use Rattle.clauses_emission.proofs.list.word_at.Goals as goal
 
 pub returns-then-i-given : goal.returns-then-i-given

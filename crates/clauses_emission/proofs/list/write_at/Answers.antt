@@ -5,7 +5,6 @@ use native.Mathlib.Omega.{arith}
 use lib.ListN.{length}
 use Rattle.prelude.proofs.Stores.{put-home, put-past}
 use Rattle.literal.proofs.Signs.{back}
-use borrow.Author.Rules.{rules}
 use Rattle.clauses_emission.proofs.list.write_at.Goals as goal
 
 pub returns-then-at-list : goal.returns-then-at-list

@@ -1,15 +1,8 @@
 -- `list::write_clause` meets its contract. The loop's invariant: what is still to be put are the others from the next one on.
-use borrow.Author.Rules.{rules}
-use mathlib.Core.Path.{◌≡◌, refl, ap, ◌∙◌}
-use Prim.Native.Nat.{suc, ◌+◌, ◌-◌, ◌≤◌}
-use native.Mathlib.Omega.{arith}
-use lib.IntN.{pos}
-use lib.ListN.{length, get_or, set, drop}
+use mathlib.Core.Path.{◌≡◌}
+use Prim.Native.Nat.{◌+◌, ◌-◌, ◌≤◌}
+use lib.ListN.{length, drop}
 use Rattle.prelude.specs.Stores.{put_all}
-use Rattle.prelude.proofs.Stores.{length-put}
-use Rattle.literal.proofs.Signs.{read, back}
-use Rattle.literal.proofs.Words.{positive-is}
-use Rattle.clauses_emission.proofs.Writes.{put-others, put-done}
 use Rattle.clauses_emission.proofs.list.write_clause.Given as goal
 
 abbrev pub invariant-loop-k : goal.invariant-loop-k

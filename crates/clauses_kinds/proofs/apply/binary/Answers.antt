@@ -1,0 +1,20 @@
+-- `binary` meets its contract, kind by kind.
+use Rattle.nodes.proofs.Numbers.{at-union, at-intersection, at-difference, at_join, at-product}
+use Rattle.clauses_kinds.proofs.apply.binary.Goals as goal
+
+pub returns-in-5 : goal.returns-in-5
+returns-in-5 c o s = rw (at-union _ c.in-5.is o s) c.matched.ensures
+
+pub returns-in-6 : goal.returns-in-6
+returns-in-6 c o s = rw (at-intersection _ c.in-6.is o s) c.matched-in-6.ensures
+
+pub returns-in-7 : goal.returns-in-7
+returns-in-7 c o s = rw (at-difference _ c.in-7.is o s) c.matched-in-7.ensures
+
+pub returns-in-8 : goal.returns-in-8
+returns-in-8 c o s = rw (at_join _ c.in-8.is o s) c.join.ensures
+
+pub returns-in_default : goal.returns-in_default
+returns-in_default c o s =
+    let m = c.in_default.in_default-own in
+    rw (at-product _ m.rest.0.0.0.1 m.rest.0.0.1 m.rest.0.1 m.rest.1 o s) c.product.ensures

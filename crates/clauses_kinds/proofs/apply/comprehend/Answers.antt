@@ -1,0 +1,25 @@
+-- `comprehend` meets its contract: AND with the atoms.
+use mathlib.Core.Path.{ap, refl}
+use Rattle.literal.specs.Literals.{Literal}
+use Rattle.relational.specs.Trees.{intersection}
+use Rattle.relational.specs.Matrices.{Matrix}
+use Rattle.clauses_rules.specs.Translation.{translate_binary}
+use Rattle.clauses_emission.proofs.Steps.{emits-as}
+use Rattle.clauses_matrix.specs.Matrices.{matrix_of}
+use Rattle.clauses_kinds.proofs.apply.comprehend.Goals as goal
+
+pub matched-requires : goal.matched-requires
+matched-requires c =
+    let b = c.requires.bodies in record {
+      bounded = b.bounded;
+      operand = (c.range-atoms.ensures (λ x. 0)).fine _ b.inside;
+      operand_2 = b.fine;
+    }
+
+pub returns : goal.returns
+returns c env =
+    let p = c.args.p in
+    emits-as
+    (ap (λ (m : Matrix Literal). translate_binary intersection m (matrix_of p.matrix) p.tape.next)
+    (c.range-atoms.ensures env).matrix)
+    refl c.matched.ensures

@@ -1,0 +1,24 @@
+-- `quantify_over` meets its contract: the quantifier over the variable's atoms.
+use mathlib.Core.Path.{ap, refl}
+use Rattle.literal.specs.Literals.{Literal}
+use Rattle.relational.specs.Matrices.{Matrix}
+use Rattle.clauses_rules.specs.Translation.{translate_quantifier}
+use Rattle.clauses_emission.proofs.Steps.{emits-as}
+use Rattle.clauses_matrix.specs.Matrices.{matrix_of}
+use Rattle.clauses_kinds.proofs.apply.quantify_over.Goals as goal
+
+pub quantify-requires : goal.quantify-requires
+quantify-requires c =
+    let b = c.requires.bodies in record {
+      bounded = b.bounded;
+      operand = (c.range-atoms.ensures (λ x. 0)).fine _ b.inside;
+      operand_2 = b.fine;
+    }
+
+pub returns : goal.returns
+returns c env o e =
+    let p = c.args.p in
+    emits-as
+    (ap (λ (m : Matrix Literal). translate_quantifier o m (matrix_of p.matrix) p.tape.next)
+    (c.range-atoms.ensures env).matrix)
+    refl (c.quantify.ensures o e)

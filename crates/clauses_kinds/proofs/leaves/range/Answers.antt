@@ -1,0 +1,5 @@
+-- `range` meets its contract: the atoms of the variable's sort.
+use Rattle.clauses_kinds.proofs.leaves.range.Goals as goal
+
+pub returns : goal.returns
+returns c env = rw (← c.sort_of_variable.ensures) (c.atoms.ensures env)

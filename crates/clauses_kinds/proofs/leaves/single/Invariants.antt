@@ -1,0 +1,12 @@
+-- `single` meets its contract.
+use Rattle.clauses_rules.specs.Translation.{constant}
+use Rattle.clauses_kinds.specs.Leaves.{Filled}
+use Prim.Native.Nat.{◌≤◌, ◌-◌}
+use lib.Dec.{eqb}
+use Rattle.clauses_kinds.proofs.leaves.single.Given as goal
+
+abbrev pub invariant-loop-k : goal.invariant-loop-k
+invariant-loop-k l = (l.k ≤ l.n) × Filled (λ i. constant (eqb i l.atom)) l.k l.cells
+
+abbrev pub decreases-loop-k : goal.decreases-loop-k
+decreases-loop-k l = l.n - l.k

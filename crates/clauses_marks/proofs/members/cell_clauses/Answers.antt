@@ -1,0 +1,33 @@
+-- `cell_clauses` meets its contract: of a set one column, of a relation two.
+use mathlib.Core.Path.{ap, ◌∙◌}
+use mathlib.Core.List.{◌++◌}
+use native.Mathlib.Omega.{arith}
+use lib.IntN.{ℤ}
+use Rattle.literal.specs.Words.{literal_of}
+use Rattle.literal.proofs.Signs.{back}
+use Rattle.sheet_rules.specs.Blocks.{sheet_of}
+use Rattle.clauses_emission.specs.Emission.{literals_of}
+use Rattle.clauses_marks.specs.Marking.{atom_clauses}
+use Rattle.clauses_marks.proofs.Adding.{adds-as, adds-most, adds_then}
+use Rattle.clauses_marks.proofs.Guards.{relation-columns}
+use Rattle.clauses_marks.proofs.members.cell_clauses.Goals as goal
+
+pub returns : goal.returns
+returns c =
+    let s = c.before.before.before.before.before.before.before.before.before.before.before.before in
+    let a = s.args in
+    let sheet = sheet_of a.sheet.now in
+    let cells = literals_of a.given.now in
+    let first = c.first_sort-first in
+    let second = c.second_sort-second in
+    adds-most
+    (adds-as (adds_then c.atom_clause-after.ensures
+    c.atom_clause-2.ensures)
+    (ap (λ (w : ℤ). atom_clauses sheet cells (literal_of w) first.result a.i ++ atom_clauses sheet cells
+    (literal_of w) second.result a.j)
+    (back a.cell s.ranges.cell)
+    ∙ relation-columns sheet cells (literal_of a.cell) a.r a.i a.j
+    c.arity.ensures first.ensures
+    c.if-arity-eq1.false
+    second.ensures))
+    (omega arith)
