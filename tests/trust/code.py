@@ -6,8 +6,10 @@ from .names import Scope, names_in
 NO_CODE = re.compile(r'(extern "C")|//[^\n]*|"(?:\\.|[^"\\])*"|\'(?:\\.|[^\\\'])\'')
 STRING = re.compile(r'"(?:\\.|[^"\\])*"')
 USED = re.compile(r"^((?:ghost )?)(?:pub )?use ([^;]+);", re.M)
+GROUP = re.compile(r"([^{}]*)\{(.*)\}", re.S)
 FUNCTION = re.compile(r'^[ \t]*(pub(?:\(\w+\))? )?(?:const )?(extern "C" )?fn (\w+)', re.M)
-CLAUSE = re.compile(r"(requires|ensures)\s*(?=\{)")
+CLAUSE = re.compile(r"\b(requires|ensures)(?:\s+\w+)?\s*(?=\{)")
+CLAUSE_BEGUN = re.compile(r"\s(?:requires|ensures)(?:\s+\w+)?\s*$")
 TYPE = re.compile(r"^[ \t]*(?:pub(?:\(\w+\))? )?(?:struct|enum) (\w+)\s*(?=[{(;])", re.M)
 CALL = re.compile(r"(?<![\w.:])([a-z_]\w*(?:::[a-z_]\w*)*)\(")
 BRACKETS = {"(": re.compile(r"[()]"), "{": re.compile(r"[{}]")}
@@ -19,6 +21,26 @@ def blank(text):
     return re.sub(r"[^\n]", " ", text)
 
 
+def imported(path):
+    """The names that a `use` of code brings, each with its path."""
+    group = GROUP.fullmatch(path.strip())
+    if group:
+        depth, parts = 0, [""]
+        for sign in group[2]:
+            depth += {"{": 1, "}": -1}.get(sign, 0)
+            if sign == "," and depth == 0:
+                parts.append("")
+            else:
+                parts[-1] += sign
+        for part in filter(None, map(str.strip, parts)):
+            yield from imported(group[1].strip() + part)
+    else:
+        whole, _, new = path.strip().partition(" as ")
+        words = whole.split("::")
+        words = words[:-1] if words[-1] == "self" and len(words) > 1 else words
+        yield new.strip() or words[-1], words
+
+
 class Function:
     def __init__(self, source, found):
         self.source, self.name = source, found[3]
@@ -26,15 +48,18 @@ class Function:
         self.clauses, self.places = {"requires": [], "ensures": []}, []
         at = source.closing(source.code.index("(", found.end()))
         head = source.text[found.end() : source.code.index("{", at)]
-        self.signature = re.sub(r"\s(?:requires|ensures)\s*$", "", head)
+        self.signature = CLAUSE_BEGUN.sub("", head)
         for clause in iter(lambda: CLAUSE.search(source.code, at, source.code.index("{", at) + 1), None):
             at = source.closing(clause.end())
             self.clauses[clause[1]].append(source.text[clause.end() : at])
             self.places.append((clause.start(), at))
         end = source.closing(source.code.index("{", at))
         self.body = source.code[at:end]
-        if re.match(r"\s*(\{|requires|ensures)", source.code[end:]):
+        if re.match(r"\s*(\{|requires|ensures)", source.code[end:]) or re.search(r"\b(requires|ensures)\b", self.signature):
             source.project.problem(f"{source.path}: cannot read the contract of `{self.name}`")
+
+    def folded_signature(self):
+        return " ".join(self.signature.split()).replace("( ", "(").replace(", )", ")")
 
     def promises(self):
         """What its promises name."""
@@ -83,7 +108,8 @@ class Source:
         self.text = NO_CODE.sub(lambda found: blank(found[0]) if found[0].startswith("//") else found[0], text)
         for ghost, path in USED.findall(self.code):
             if not ghost:
-                self.imports[path.split("::")[-1]] = path.split("::")
+                for name, words in imported(path):
+                    self.imports[name] = words
             elif not self.scope.use(f"use {path}"):
                 project.problem(f"{self.path}: cannot read `ghost use {path}`")
             elif ".proofs." in path:

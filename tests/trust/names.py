@@ -11,14 +11,14 @@ USE = re.compile(r"(?:(?:ghost|unfoldable|pub) )*use ([^{};\s]+?)(?:\.\{([^}]*)\
 
 def forms(name):
     """How a text writes a name: whole, or by the parts of an operator; `do` is short for two operators."""
-    parts = {part for part in name.split("_") if part}
-    return {name} | parts | ({"do"} if name in ("_>>=_", "_>>_") else set())
+    parts = {part for part in name.split("◌") if part}
+    return {name} | parts | ({"do"} if name in ("◌>>=◌", "◌>>◌") else set())
 
 
 def names_in(text):
-    """The paths that a text writes. A field (`.x`) is none, nor a label (`x =` in the braces of a record)."""
+    """The paths that a text writes. The field of a bracket (`).x`) is none, nor a label (`x =` in the braces of a record)."""
     paths = {path for dot, path in PATH.findall(LABEL.sub(r"\1", STRING.sub(" ", text))) if not dot}
-    return paths.union(*(forms(path) for path in paths if "." not in path))  # `_+` of a section is written for `+`
+    return paths.union(*(forms(path) for path in paths if "." not in path))  # `◌+` of a section is written for `+`
 
 
 class Scope:

@@ -64,7 +64,7 @@ class Project:
 
     def meanings(self, path, user):
         """The definition or the type that a whole path names; nothing where it is the kit's, or a module."""
-        found = re.fullmatch(r"Rattle·(\w+?)(?:·\w+)?\.(\w+)\.(.+)", path)
+        found = re.fullmatch(r"Rattle\.(\w+)\.(\w+)\.(.+)", path)
         if not found or found[1] not in self.sources:
             return set()
         crate, part, words = found[1], found[2], found[3].split(".")

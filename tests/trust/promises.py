@@ -18,7 +18,7 @@ EVIDENCE = ("cases",)
 
 def contract(function):
     """The lines of a function."""
-    lines = [f"fn {function}{folded(function.signature).replace('( ', '(').replace(', )', ')')}"]
+    lines = [f"fn {function}{function.folded_signature()}"]
     for kind in ("requires", "ensures"):
         lines += [f"    {kind} {folded(clause)}" for clause in function.clauses[kind]]
     files = {}

@@ -19,13 +19,42 @@ def public_calls(project, readme):
                 calls.append(other)
     for function in exported(project):
         for called in function.calls():
-            if called.source.crate != function.source.crate and called not in calls:
+            if called.source.crate not in (function.source.crate, library_of(function.source.crate)) and called not in calls:
                 project.problem(f"README.md: the table of calls does not have {called}, which {function} exports")
     return calls
 
 
+def library_of(crate):
+    """The library that a static library NAME_c gives to C, and NAME of any other crate."""
+    return crate.removesuffix("_c")
+
+
+def twins(project, function):
+    """The functions of the library that an export calls by its own name."""
+    path = library_of(function.source.crate), function.source.module
+    return [called for called in function.calls() if called.name == function.name and (called.source.crate, called.source.module) == path]
+
+
 def exported(project):
-    return [function for function in project.all_functions() if function.exported]
+    """The functions that C calls, and those of the libraries that they stand for, which promise the same, word for word."""
+    exports = [function for function in project.all_functions() if function.exported]
+    behind = []
+    for function in exports:
+        if function.source.crate == library_of(function.source.crate):
+            project.problem(f"{function.source.path}: {function} is exported, and only a crate NAME_c is built for C")
+        for twin in twins(project, function):
+            behind.append(twin)
+            if not same_promises(function, twin):
+                project.problem(f"{function.source.path}: {function} promises otherwise than {twin}")
+    return exports + behind
+
+
+def same_promises(function, other):
+    """Whether two functions take and answer the same, with the same clauses of the same words."""
+    def told(it):
+        clauses = [[" ".join(clause.split()) for clause in it.clauses[kind]] for kind in ("requires", "ensures")]
+        return it.folded_signature(), clauses, it.named("\n".join(sum(it.clauses.values(), [])))
+    return told(function) == told(other)
 
 
 def printed(project):

@@ -47,21 +47,22 @@ def added(more):
 
 ONE_MORE = "// One more.\npub fn one_more(v: u32) -> u32\n{}{{\n    v\n}}\n"
 EXPORTED = """\
-#[no_mangle]
+#[unsafe(no_mangle)]
 pub extern "C" fn fawnloom_more(v: u32) -> u32
-    ensures {{ λ r. ⌜ {} ⌝ }}
+    ensures {{ {} }}
 {{
     v
 }}
 """
 CHECK, SIZE = "crates/instance/src/lib.rt", "crates/dimacs/src/lib.rt"
 FINDER, BOUNDARY = "crates/report/src/finder.rt", "crates/boundary/src/runs.rt"
-DEMAND3, ENTRY = "crates/solve_rules/proofs/Demand3.antt", "crates/console_finder/src/lib.rt"
+EXPORTS, ENTRY = "crates/boundary_c/src/runs.rt", "crates/console_finder_c/src/lib.rt"
+DEMAND3 = "crates/solve_rules/proofs/Demand3.antt"
 THEOREM = r"^pub demand3 : Demand3$"
 NO_THEOREM = "no `pub demand3 : Demand3`"
 OTHER_SIZE = """\
-ghost use Rattle·clauses.specs.Answers.{countAnswer as sizeAnswer};
-ghost use Rattle·dimacs·specs.specs.Answers.{answerOf, """
+ghost use Rattle.clauses.specs.Answers.{count_answer as size_answer};
+ghost use Rattle.dimacs.specs.Answers.{answer_of, """
 FIGURE = r"([\d,]+)(\s+lines\s+of\s+definitions\s+in\s+\d+\s+files\s+\(`tests/trusted)"
 
 # Told by the stored file.
@@ -71,19 +72,20 @@ STORED_ALONE = [
            contract("find_on_text", clause("Tells"), ""), "Tells"),
     Change("`check` without `CheckAnswers`", CHECK, contract("check", clause("CheckAnswers"), ""), "CheckAnswers"),
     Change("`find` without `Finds`", "crates/solve/src/lib.rt", contract("find", clause("Finds"), ""), "Finds"),
-    Change("`dimacs::write` without its slice", SIZE, contract("write", clause("textAfter"), ""), "textAfter"),
+    Change("`dimacs::write` without its slice", SIZE, contract("write", clause("text_after"), ""), "text_after"),
     Change("`size` by another definition of that name", SIZE,
-           replaced(r"^ghost use Rattle·dimacs·specs\.specs\.Answers\.\{answerOf, sizeAnswer, ", OTHER_SIZE),
-           "countAnswer of clauses/specs/Answers.antt"),
+           replaced(r"^ghost use Rattle\.dimacs\.specs\.Answers\.\{answer_of, size_answer, ", OTHER_SIZE),
+           "count_answer of clauses/specs/Answers.antt"),
     Change("a `requires` of a printed function", FINDER,
-           contract("find_text", r"-> usize\n", "-> usize\n    requires { ⌜ 1 ≤ 0 ⌝ }\n"), "1 ≤ 0"),
+           contract("find_text", r"-> usize\n", "-> usize\n    requires { 1 ≤ 0 }\n"), "1 ≤ 0"),
     Change("a \"stated as\" row dropped", DOCUMENT,
-           replaced(r"^\|.*\(`same-as-one`\).*stated as `SameAsOne` in .*\n", ""), "-theorem same-as-one"),
+           replaced(r"^\|.*\(`same_as_one`\).*stated as `SameAsOne` in .*\n", ""), "-theorem same_as_one"),
     Change("a statement in proofs/ weakened", "crates/solve_rules/proofs/Smallest.antt",
            replaced(r"Smallest other j → i ≡ j$", "Smallest other j → j ≡ j"), "Smallest other j → j ≡ j"),
     Change("a hypothesis in a field of demand 3", "crates/solve_rules/specs/Demand3.antt",
-           replaced(r"pub none-only : GoesBack \(lentAt p\) → OpenOrFalse", "pub none-only : ⊥ → GoesBack (lentAt p) → OpenOrFalse"),
-           "⊥ → GoesBack (lentAt p)"),
+           replaced(r"pub none_only : GoesBack \(lent_at p\) → OpenOrFalse",
+                    "pub none_only : ⊥ → GoesBack (lent_at p) → OpenOrFalse"),
+           "⊥ → GoesBack (lent_at p)"),
     Change("another word told by `every`", "crates/console_every/specs/Listed.antt",
            replaced(r'StartsWith "none" text', 'StartsWith "nonesuch" text'), '"nonesuch"'),
     Change("a hypothesis of a theorem", "crates/clauses_rules/proofs/Theorems.antt",
@@ -92,26 +94,32 @@ STORED_ALONE = [
 
 # Told whatever the stored file says.
 ALWAYS = [
-    Change("`size` with equal sides", SIZE, contract("size", r"≡ sizeAnswer v [^⌝]*⌝", "≡ answerOf r ⌝"),
+    Change("`size` with equal sides", SIZE, contract("size", r"≡ size_answer v [^}]*\}", "≡ answer_of result }"),
            "dimacs::size promises nothing"),
     Change("equal sides beside a promise", SIZE,
-           contract("write", r"⌜ (now \(text \.exit\) ≡ .*) ⌝", r"⌜ (\1) × (answerOf r ≡ answerOf r) ⌝"),
-           "dimacs::write promises nothing by: answerOf r ≡ answerOf r"),
-    Change("a promise without the answer", SIZE, contract("size", r"⌜ answerOf r ≡", "⌜ writeAnswer v [] [] ≡"),
+           contract("write", r"\{ (text\.new ≡ .*) \}", r"{ (\1) × (answer_of result ≡ answer_of result) }"),
+           "dimacs::write promises nothing by: answer_of result ≡ answer_of result"),
+    Change("a promise without the answer", SIZE, contract("size", r"\{ answer_of result ≡", "{ write_answer v [] [] ≡"),
            "dimacs::size promises nothing"),
-    Change("a public call without a promise", SIZE, contract("size", clause("sizeAnswer"), ""),
+    Change("a public call without a promise", SIZE, contract("size", clause("size_answer"), ""),
            "dimacs::size is public and has no `ensures`"),
-    Change("an exported function with `r ≤ 1`", BOUNDARY, added(EXPORTED.format("r ≤ 1")), "fawnloom_more has a word"),
-    Change("an exported function with equal sides", BOUNDARY, added(EXPORTED.format("endNumbers 1 r ≡ endNumbers 1 r")),
-           "fawnloom_more promises nothing"),
-    Change("another promise of a program's entry", ENTRY, contract("fawnloom_finder", "r ≤ 1", "r ≤ 2"),
-           "console_finder::fawnloom_finder has a word"),
+    Change("an exported function with `result ≤ 1`", EXPORTS, added(EXPORTED.format("result ≤ 1")),
+           "fawnloom_more has a word"),
+    Change("an exported function with equal sides", EXPORTS,
+           added(EXPORTED.format("end_numbers 1 result ≡ end_numbers 1 result")), "fawnloom_more promises nothing"),
+    Change("an export of a library", BOUNDARY, added(EXPORTED.format("result ≤ 1")), "only a crate NAME_c is built for C"),
+    Change("an export without a promise of its library", EXPORTS, contract("fawnloom_find", clause("FindsNumbers"), ""),
+           "fawnloom_find promises otherwise than boundary::runs::fawnloom_find"),
+    Change("another promise of a program's entry", ENTRY, contract("fawnloom_finder", "result ≤ 1", "result ≤ 2"),
+           "console_finder_c::fawnloom_finder has a word"),
     Change("a function of a public module without a contract", FINDER, added(ONE_MORE.format("")),
            "report::finder::one_more is `pub`"),
     Change("a function of the boundary without a contract", BOUNDARY, added(ONE_MORE.format("")),
            "boundary::runs::one_more is `pub`"),
+    Change("a function beside the exports without a contract", EXPORTS, added(ONE_MORE.format("")),
+           "boundary_c::runs::one_more is `pub`"),
     Change("a public function with a `requires` alone", "crates/sheet/src/bytes.rt",
-           added(ONE_MORE.format("    requires { ⌜ v ≡ 0 ⌝ }\n")), "sheet::bytes::one_more is `pub`"),
+           added(ONE_MORE.format("    requires { v ≡ 0 }\n")), "sheet::bytes::one_more is `pub`"),
     Change("`demand3` deleted", DEMAND3, replaced(THEOREM + r"\ndemand3 = .*\n", ""), NO_THEOREM),
     Change("`demand3` a comment", DEMAND3, replaced(THEOREM, "-- pub demand3 : Demand3"), NO_THEOREM),
     Change("`demand3` weaker", DEMAND3, replaced(THEOREM, "pub demand3 : Demand3 ⊎ Unit"), NO_THEOREM),
@@ -122,8 +130,8 @@ ALWAYS = [
            replaced(r"^pub same-smallest : SameSmallest\n", ""), "no `pub same-smallest : SameSmallest`"),
     Change("proofs that the prover does not read", "crates/solve_rules/proofs/Lib.antt",
            replaced(r"^pub mod Narrower\n", ""), "has no `mod Narrower`"),
-    Change("a theorem's name", DOCUMENT, replaced(r"\(`same-as-one`\)(.*stated as `SameAsOne`)", r"(`same-as-two`)\1"),
-           "no `pub same-as-two : SameAsOne`"),
+    Change("a theorem's name", DOCUMENT, replaced(r"\(`same_as_one`\)(.*stated as `SameAsOne`)", r"(`same_as_two`)\1"),
+           "no `pub same_as_two : SameAsOne`"),
     Change("a theorem's file", DOCUMENT,
            replaced("`solve_rules/proofs/Demand3.antt`, stated as", "`solve_rules/proofs/Finds.antt`, stated as"),
            f"{NO_THEOREM} in solve_rules/proofs/Finds.antt"),
@@ -141,7 +149,7 @@ ALWAYS = [
 # Told by tests/trusted.
 BELIEVED = [
     Change("a contract that names an unbelieved file", "crates/sheet/src/lib.rt",
-           contract("read", "≡ reading", "≡ Rattle·sheet·specs.specs.Filling.capped reading"),
+           contract("read", "≡ reading", "≡ Rattle.sheet.specs.Filling.capped reading"),
            "Filling.antt is reached"),
     Change("a row of contracts dropped", DOCUMENT, replaced(r"^\| `kinds/specs/Kinds.antt` \| .*\n", ""),
            "kinds/specs/Kinds.antt is reached"),

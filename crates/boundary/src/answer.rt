@@ -2,7 +2,7 @@
 
 // Whether an instance is within the scopes and satisfies marks and formula: 1 yes, 0 no.
 #[repr(C)]
-#[derive(Drop)]
+#[derive(Clone, Copy)]
 pub struct CheckAnswer {
     pub refusal: u32,
     pub satisfies: u32,
@@ -10,7 +10,7 @@ pub struct CheckAnswer {
 
 // The numbers of variables, clauses and words.
 #[repr(C)]
-#[derive(Drop)]
+#[derive(Clone, Copy)]
 pub struct CountAnswer {
     pub refusal: u32,
     pub variables: usize,
@@ -20,7 +20,7 @@ pub struct CountAnswer {
 
 // The bytes that a clause text has, which are those written; 0 under a refusal.
 #[repr(C)]
-#[derive(Drop)]
+#[derive(Clone, Copy)]
 pub struct TextAnswer {
     pub refusal: u32,
     pub bytes: usize,
@@ -28,7 +28,7 @@ pub struct TextAnswer {
 
 // How a search ended, 1 found, 2 none, 3 spent, and its steps by kind: forces, choices and turns. All are 0 under a refusal.
 #[repr(C)]
-#[derive(Drop)]
+#[derive(Clone, Copy)]
 pub struct SearchAnswer {
     pub refusal: u32,
     pub end: u32,
@@ -38,7 +38,7 @@ pub struct SearchAnswer {
 }
 
 // The numbers of a resumed search, and the position that it leaves.
-#[derive(Drop)]
+#[derive(Clone, Copy)]
 pub struct ResumedAnswer {
     pub answer: SearchAnswer,
     pub position: search::answer::Position,
@@ -46,7 +46,7 @@ pub struct ResumedAnswer {
 
 // The cells that read-back copied.
 #[repr(C)]
-#[derive(Drop)]
+#[derive(Clone, Copy)]
 pub struct ReadBackAnswer {
     pub refusal: u32,
     pub cells: usize,

@@ -1,5 +1,5 @@
-// The C boundary: the library's functions for tests, measures and callers in other languages. A slice passes as
-// its address and its length. The first number of an answer is that of a refusal, 0 where nothing is refused.
+// The library's functions with their answers in numbers, for tests, measures and callers in other languages, to whom crate `boundary_c`
+// exports them. The first number of an answer is that of a refusal, 0 where nothing is refused.
 #![tactic(auto)]
 
 pub mod answer; // answer.rt: the answers, in numbers

@@ -27,15 +27,13 @@ fn count_numbers(answer: Count) -> CountAnswer
     }
 }
 
-#[unsafe(no_mangle)]
-pub extern "C" fn fawnloom_count(sheet: &[u8]) -> CountAnswer
+pub fn fawnloom_count(sheet: &[u8]) -> CountAnswer
     ensures { result ≡ count_numbers (counted.count_answer sheet.now) }
 {
     count_numbers(clauses::count(sheet))
 }
 
-#[unsafe(no_mangle)]
-pub extern "C" fn fawnloom_write(sheet: &[u8], list: &mut [i32]) -> CountAnswer
+pub fn fawnloom_write(sheet: &[u8], list: &mut [i32]) -> CountAnswer
     ensures value { result ≡ count_numbers (counted.write_answer sheet.now list.old) }
     ensures list_after { list.new ≡ counted.list_after sheet.now list.old }
 {
@@ -57,15 +55,13 @@ fn text_numbers(answer: TextSize) -> TextAnswer
     }
 }
 
-#[unsafe(no_mangle)]
-pub extern "C" fn fawnloom_text_size(list: &[i32], v: u32) -> TextAnswer
+pub fn fawnloom_text_size(list: &[i32], v: u32) -> TextAnswer
     ensures { result ≡ text_numbers (texts.size_answer v list.now) }
 {
     text_numbers(dimacs::size(list, v))
 }
 
-#[unsafe(no_mangle)]
-pub extern "C" fn fawnloom_text(list: &[i32], v: u32, text: &mut [u8]) -> TextAnswer
+pub fn fawnloom_text(list: &[i32], v: u32, text: &mut [u8]) -> TextAnswer
     ensures value { result ≡ text_numbers (texts.write_answer v list.now text.old) }
     ensures text_after { text.new ≡ texts.text_after v list.now text.old }
 {

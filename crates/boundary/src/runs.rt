@@ -42,8 +42,7 @@ fn search_numbers(answer: Search) -> SearchAnswer
     }
 }
 
-#[unsafe(no_mangle)]
-pub extern "C" fn fawnloom_search(
+pub fn fawnloom_search(
     list: &[i32],
     v: u32,
     values: &mut [u8],
@@ -89,8 +88,7 @@ fn resumed_answer(
 }
 
 // The search taken up again at the position that is lent by its address.
-#[unsafe(no_mangle)]
-pub extern "C" fn fawnloom_resume(
+pub fn fawnloom_resume(
     list: &[i32],
     v: u32,
     values: &mut [u8],
@@ -135,8 +133,7 @@ fn followed_answer(
 }
 
 // The call for the next at the position that is lent by its address.
-#[unsafe(no_mangle)]
-pub extern "C" fn fawnloom_next(
+pub fn fawnloom_next(
     list: &[i32],
     v: u32,
     values: &mut [u8],
@@ -171,20 +168,14 @@ fn copy_numbers(answer: ReadBack) -> ReadBackAnswer
     }
 }
 
-#[unsafe(no_mangle)]
-pub extern "C" fn fawnloom_read_back(
-    sheet: &[u8],
-    values: &[u8],
-    instance: &mut [u8],
-) -> ReadBackAnswer
+pub fn fawnloom_read_back(sheet: &[u8], values: &[u8], instance: &mut [u8]) -> ReadBackAnswer
     ensures value { result ≡ copy_numbers (back.read_back_answer sheet.now values.now instance.old) }
     ensures instance_after { instance.new ≡ back.instance_after sheet.now values.now instance.old }
 {
     copy_numbers(solve::read_back(sheet, values, instance))
 }
 
-#[unsafe(no_mangle)]
-pub extern "C" fn fawnloom_find(
+pub fn fawnloom_find(
     sheet: &[u8],
     list: &mut [i32],
     values: &mut [u8],

@@ -20,8 +20,7 @@ fn read_number(answer: Reading) -> u32
 }
 
 // The number of a sheet's refusal, 0 for an accepted sheet.
-#[unsafe(no_mangle)]
-pub extern "C" fn fawnloom_read(sheet: &[u8]) -> u32
+pub fn fawnloom_read(sheet: &[u8]) -> u32
     ensures { result ≡ read_number (reading sheet.now) }
 {
     read_number(sheet::read(sheet))
@@ -46,8 +45,7 @@ fn check_numbers(answer: Check) -> CheckAnswer
     }
 }
 
-#[unsafe(no_mangle)]
-pub extern "C" fn fawnloom_check(sheet: &[u8], instance: &[u8]) -> CheckAnswer
+pub fn fawnloom_check(sheet: &[u8], instance: &[u8]) -> CheckAnswer
     ensures checked { Checked sheet.now instance.now result }
     ensures value { result ≡ check_numbers (check_answer sheet.now instance.now) }
 {

@@ -1,82 +1,93 @@
 // The stored inputs of data/, through the finder, through the finder that goes on, through `every`, and through `cnf`.
 #![tactic(auto)]
 
-fn open(name: &[u8]) -> i32 {
-    let fd = os::open_read(name);
-    if fd < 0 {
-        io::write_all(1, b"no file\n");
+use std::fs::File;
+use std::io;
+
+// The file of that name, or a line that says that there is none.
+fn open(rt: &HostRuntime, name: &str) -> io::Result<Option<File>> {
+    match File::open(rt, name) {
+        Ok(file) => Ok(Some(file)),
+        Err(_) => {
+            println!(rt; "no file")?;
+            Ok(None)
+        }
     }
-    fd
 }
 
-fn find(name: &[u8]) {
-    io::write_all(1, b"finder ");
-    io::write_all(1, name);
-    io::write_all(1, b"\n");
-    let fd = open(name);
-    console_finder::find(fd);
-    libc::close(fd);
+fn find(rt: &HostRuntime, name: &str) -> io::Result<()> {
+    println!(rt; "finder {name}")?;
+    if let Some(mut file) = open(rt, name)? {
+        console_finder::find(&mut file, rt.stdout(), rt.stderr());
+    }
+    Ok(())
 }
 
-fn find_on(name: &[u8]) {
-    io::write_all(1, b"finder_on ");
-    io::write_all(1, name);
-    io::write_all(1, b"\n");
-    let fd = open(name);
-    console_finder_on::find_on(fd);
-    libc::close(fd);
+fn find_on(rt: &HostRuntime, name: &str) -> io::Result<()> {
+    println!(rt; "finder_on {name}")?;
+    if let Some(mut file) = open(rt, name)? {
+        console_finder_on::find_on(&mut file, rt.stdout(), rt.stderr());
+    }
+    Ok(())
 }
 
-fn every(name: &[u8]) {
-    io::write_all(1, b"every ");
-    io::write_all(1, name);
-    io::write_all(1, b"\n");
-    let fd = open(name);
-    console_every::every(fd);
-    libc::close(fd);
+fn every(rt: &HostRuntime, name: &str) -> io::Result<()> {
+    println!(rt; "every {name}")?;
+    if let Some(mut file) = open(rt, name)? {
+        console_every::every(&mut file, rt.stdout(), rt.stderr());
+    }
+    Ok(())
 }
 
-fn clauses(name: &[u8]) {
-    io::write_all(1, b"cnf ");
-    io::write_all(1, name);
-    io::write_all(1, b"\n");
-    let fd = open(name);
-    let mut list = [0i32; 262144];
-    let mut text = [0u8; 1835022];
-    console_cnf::print_clauses(fd, &mut list, &mut text);
-    libc::close(fd);
+fn clauses(rt: &HostRuntime, name: &str) -> io::Result<()> {
+    println!(rt; "cnf {name}")?;
+    if let Some(mut file) = open(rt, name)? {
+        let mut list = [0i32; 262144];
+        let mut text = [0u8; 1835022];
+        console_cnf::print_clauses(&mut file, &mut list, &mut text, rt.stdout(), rt.stderr());
+    }
+    Ok(())
 }
 
-fn both(name: &[u8]) {
-    find(name);
-    clauses(name);
+fn both(rt: &HostRuntime, name: &str) -> io::Result<()> {
+    find(rt, name)?;
+    clauses(rt, name)
 }
 
-fn main() {
-    both(b"k1");
-    both(b"k2");
-    both(b"k3");
-    both(b"k5");
-    both(b"k6");
-    both(b"k7");
-    both(b"k8");
-    both(b"k8_nine");
-    both(b"k9");
-    both(b"k10");
-    both(b"rows");
-    both(b"bytes_4096");
-    both(b"bytes_4097");
-    find(b"cycle");
-    find(b"spent");
-    find_on(b"spent");
-    find_on(b"rows");
-    find_on(b"closure_8");
-    find(b"closure_8");
-    both(b"some_4096");
-    both(b"closures_12");
-    every(b"k1");
-    every(b"k3");
-    every(b"closure_8");
-    both(b"k1_up_to_2");
-    every(b"k1_up_to_2");
+fn searches(rt: &HostRuntime) -> io::Result<()> {
+    find(rt, "cycle")?;
+    find(rt, "spent")?;
+    find_on(rt, "spent")?;
+    find_on(rt, "rows")?;
+    find_on(rt, "closure_8")?;
+    find(rt, "closure_8")
+}
+
+fn main(rt: HostRuntime) -> io::Result<()> {
+    let names = [
+        "k1",
+        "k2",
+        "k3",
+        "k5",
+        "k6",
+        "k7",
+        "k8",
+        "k8_nine",
+        "k9",
+        "k10",
+        "rows",
+        "bytes_4096",
+        "bytes_4097",
+    ];
+    for name in names {
+        both(&rt, name)?;
+    }
+    searches(&rt)?;
+    both(&rt, "some_4096")?;
+    both(&rt, "closures_12")?;
+    every(&rt, "k1")?;
+    every(&rt, "k3")?;
+    every(&rt, "closure_8")?;
+    both(&rt, "k1_up_to_2")?;
+    every(&rt, "k1_up_to_2")
 }

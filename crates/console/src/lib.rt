@@ -2,37 +2,60 @@
 // the input or for a text that was printed.
 #![tactic(auto)]
 
-ghost use Rattle.io.specs.Counts.{IsPrefixLen};
+ghost use Rattle.std.specs.Prelude.{◌≡◌, ◌≤◌, length, take};
 
+use arrayvec::ArrayString;
 use clauses::answer::Count;
-use libc::{STDERR_FILENO, STDOUT_FILENO};
+use std::fmt::Write;
+use std::io::{Error, Read, Stderr, Stdout};
 
 // What reading came to: the bytes that were read, and whether a read failed after them.
-#[derive(Drop)]
+#[derive(Clone, Copy)]
 pub struct Input {
     pub bytes: usize,
     pub failed: bool,
 }
 
+// Says on standard error what failed, and the system's reason.
+fn say_failure(what: &[u8], failure: Error, errors: Stderr) {
+    let mut said = ArrayString::<128>::new();
+    let _ = write!(said, "{failure}");
+    let words = said.as_str();
+    // std puts the number of an error behind the system's words
+    let reason = match words.split_once(" (os error ") {
+        Some((before, _)) => before,
+        None => words,
+    };
+    let _ = errors.write_all(what);
+    let _ = errors.println(format_args!(": {reason}"));
+}
+
 // One read: the bytes that came, 0 at the end of the input.
-fn read_some(fd: i32, part: &mut [u8]) -> Input
-    ensures { IsPrefixLen result.bytes part.new }
+fn read_some<I: Read>(from: &mut I, part: &mut [u8], what: &[u8], errors: Stderr) -> Input
+    ensures { (result.bytes ≤ length part.new) × (result.bytes ≡ length (take result.bytes part.new)) }
 {
-    let got = libc::read(fd, part);
-    let bytes = io::count(got, part);
-    Input {
-        bytes,
-        failed: got < 0,
+    match from.read(part) {
+        Ok(bytes) => Input {
+            bytes,
+            failed: false,
+        },
+        Err(failure) => {
+            say_failure(what, failure, errors);
+            Input {
+                bytes: 0,
+                failed: true,
+            }
+        }
     }
 }
 
-// Reads until buf is full, the input ends or a read fails.
-fn fill(fd: i32, buf: &mut [u8]) -> Input
-    ensures { IsPrefixLen result.bytes buf.new }
+// Reads from a reader until buf is full, the input ends or a read fails. A failure is said as that of `what`, with the system's reason.
+pub fn read_input<I: Read>(from: &mut I, buf: &mut [u8], what: &[u8], errors: Stderr) -> Input
+    ensures { (result.bytes ≤ length buf.new) × (result.bytes ≡ length (take result.bytes buf.new)) }
 {
     let mut done: usize = 0;
     while done < buf.len() {
-        let some = read_some(fd, &mut buf[done..]);
+        let some = read_some(from, &mut buf[done..], what, errors);
         let n = some.bytes;
         if n == 0 {
             return Input {
@@ -48,45 +71,34 @@ fn fill(fd: i32, buf: &mut [u8]) -> Input
     }
 }
 
-// Reads an input from a descriptor. A failure is said as that of `what`, with the system's reason.
-pub fn read_input(fd: i32, buf: &mut [u8], what: &[u8]) -> Input
-    ensures { IsPrefixLen result.bytes buf.new }
-{
-    let input = fill(fd, buf);
-    if input.failed {
-        os::fail(what);
-    }
-    input
-}
-
 // Prints a text on standard output, and answers whether all of it was written.
-pub fn print(text: &[u8], what: &[u8]) -> bool {
-    let is_written = io::write_all(STDOUT_FILENO, text);
-    if !is_written {
-        os::fail(what);
+pub fn print(text: &[u8], what: &[u8], output: Stdout, errors: Stderr) -> bool {
+    match output.write_all(text) {
+        Ok(()) => true,
+        Err(failure) => {
+            say_failure(what, failure, errors);
+            false
+        }
     }
-    is_written
 }
 
 // Says on standard error how many words a list has, and how many there is room for.
-fn say_words(name: &[u8], words: usize, room: usize) {
-    io::write_all(STDERR_FILENO, name);
-    io::write_all(STDERR_FILENO, b": the clauses have ");
-    io::print_decimal(STDERR_FILENO, words as u64);
-    io::write_all(STDERR_FILENO, b" words, and there is room for ");
-    io::print_decimal(STDERR_FILENO, room as u64);
-    io::write_all(STDERR_FILENO, b"\n");
+fn say_words(name: &[u8], words: usize, room: usize, errors: Stderr) {
+    let _ = errors.write_all(name);
+    let _ = errors.println(format_args!(
+        ": the clauses have {words} words, and there is room for {room}"
+    ));
 }
 
 // Says of a refused input whether its list has more words than the program has room for. An input of over 4,096 bytes has none.
-pub fn say_short(name: &[u8], input: &[u8], room: usize) {
+pub fn say_short(name: &[u8], input: &[u8], room: usize, errors: Stderr) {
     if input.len() > 4096 {
         return;
     }
     let counted = clauses::count(input);
     if let Count::Fits(size) = counted {
         if size.words > room {
-            say_words(name, size.words, room);
+            say_words(name, size.words, room, errors);
         }
     }
 }

@@ -1,14 +1,13 @@
 // The program of `./find --on`: the finder, with a search that goes on until it ends. It shows the steps done on standard error.
 #![tactic(auto)]
 
-ghost use Rattle.std.specs.Prelude.{◌≤◌};
-
 use cells::MOST_CELLS;
 use console_finder::{print_answer, read_sheet};
 use onward::find_on_text;
+use std::io::{Read, Stderr, Stdout};
 
 // Prints the answer to an input, with as much room as the finder has.
-fn answer(input: &[u8]) -> bool {
+fn answer(input: &[u8], output: Stdout, errors: Stderr) -> bool {
     let mut list = [0i32; 16384];
     let mut values = [0u8; 16000];
     let mut trail = [0i32; 16000];
@@ -21,25 +20,18 @@ fn answer(input: &[u8]) -> bool {
         &mut trail,
         &mut instance,
         &mut text,
+        errors,
     );
-    print_answer(input, &text[..k])
+    print_answer(input, &text[..k], output, errors)
 }
 
 // Reads an input, prints the answer, and answers whether both went well.
-pub fn find_on(fd: i32) -> bool {
+pub fn find_on<I: Read>(from: &mut I, output: Stdout, errors: Stderr) -> bool {
     let mut input = [0u8; 4097];
-    let read = read_sheet(fd, &mut input);
+    let read = read_sheet(from, &mut input, errors);
     if read.failed {
         return false;
     }
     let n = read.bytes;
-    answer(&input[..n])
-}
-
-// The program's exit status: 0, or 1 where reading or printing failed.
-#[unsafe(no_mangle)]
-pub extern "C" fn fawnloom_finder_on() -> u32
-    ensures { result ≤ 1 }
-{
-    if find_on(0) { 0 } else { 1 }
+    answer(&input[..n], output, errors)
 }

@@ -1,6 +1,7 @@
 // The program of `./find --every`: a sheet on standard input, its cases on standard output.
 #![tactic(auto)]
 
-fn main() {
-    console_every::every(0);
+fn main(rt: HostRuntime) {
+    let mut input = rt.stdin();
+    console_every::every(&mut input, rt.stdout(), rt.stderr());
 }

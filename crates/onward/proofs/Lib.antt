@@ -1,3 +1,4 @@
 mod CallByCall
 mod TakenUp
 mod AtOnce
+mod Ends

@@ -12,6 +12,7 @@ use clauses::answer::{Count, Size};
 use clauses::count;
 use search::answer::Search;
 use solve::read_back;
+use std::io::Stderr;
 
 // The search over the clauses that were written, from open values on, and read-back after `found`.
 fn run_on(
@@ -21,6 +22,7 @@ fn run_on(
     values: &mut [u8],
     trail: &mut [i32],
     instance: &mut [u8],
+    errors: Stderr,
 ) -> Search
     requires sheet_value { count_answer sheet.now ≡ fits size.variables size.clauses size.words }
     requires some_begun { SomeBegun sheet.now (slices list.now values.old trail.old instance.old) }
@@ -32,7 +34,7 @@ fn run_on(
 {
     let v = size.variables;
     let w = size.words;
-    let ended = go_on(&list[..w], v as u32, values, trail);
+    let ended = go_on(&list[..w], v as u32, values, trail, errors);
     let answer = ended.answer;
     if let Search::Found(_) = answer {
         read_back(sheet, &values[..v], instance);
@@ -48,6 +50,7 @@ pub(crate) fn take_up(
     values: &mut [u8],
     trail: &mut [i32],
     instance: &mut [u8],
+    errors: Stderr,
 ) -> Search
     requires { SomeBegun sheet.now (slices list.now values.old trail.old instance.old) }
     ensures { (lent : Slices)
@@ -59,6 +62,6 @@ pub(crate) fn take_up(
     let counted = count(sheet);
     match counted {
         Count::Refused(r) => Search::Refused(r),
-        Count::Fits(size) => run_on(sheet, size, list, values, trail, instance),
+        Count::Fits(size) => run_on(sheet, size, list, values, trail, instance, errors),
     }
 }

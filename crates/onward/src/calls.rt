@@ -9,6 +9,7 @@ use super::shown::{end_line, show};
 use report::finder::step_figure;
 use search::answer::{Position, Resumed, Search};
 use search::resumed;
+use std::io::Stderr;
 
 // The steps that one call is allowed.
 const STEPS: u64 = 1000000;
@@ -18,7 +19,13 @@ const CALLS: u64 = 18446744073709;
 
 // Takes the search up from a record of zeros on, call after call, until one is not spent. Its answer, its position and all that it
 // leaves are those of one call of all the steps.
-pub(crate) fn go_on(list: &[i32], v: u32, values: &mut [u8], trail: &mut [i32]) -> Resumed
+pub(crate) fn go_on(
+    list: &[i32],
+    v: u32,
+    values: &mut [u8],
+    trail: &mut [i32],
+    errors: Stderr,
+) -> Resumed
     ensures { left (answer_of result.answer) values.new trail.new result.position
         ≡ resumption list.now v values.old trail.old start most_steps }
 {
@@ -34,14 +41,14 @@ pub(crate) fn go_on(list: &[i32], v: u32, values: &mut [u8], trail: &mut [i32]) 
         let answer = call.answer;
         if let Search::Spent(steps) = answer {
             position = call.position;
-            show(step_figure(steps));
+            show(step_figure(steps), errors);
         } else {
             // a call before this one was spent, and shown
-            end_line(left < CALLS);
+            end_line(left < CALLS, errors);
             return call;
         }
         left -= 1;
     }
-    end_line(true);
+    end_line(true, errors);
     resumed(list, v, values, trail, position, 0)
 }

@@ -15,6 +15,7 @@ use cells::MOST_CELLS;
 use report::finder::put_report;
 use search::answer::Search;
 use solve::find;
+use std::io::Stderr;
 use text::put_end;
 
 mod begun; // begun.rt: a search that was begun with no steps, and is taken up
@@ -29,6 +30,7 @@ pub fn find_on(
     values: &mut [u8],
     trail: &mut [i32],
     instance: &mut [u8],
+    errors: Stderr,
 ) -> Search
     ensures result_value { answer_of result
         ≡ (finding sheet.now
@@ -42,7 +44,7 @@ pub fn find_on(
 {
     let begun = find(sheet, list, values, trail, instance, 0);
     if let Search::Spent(_) = begun {
-        return take_up(sheet, list, values, trail, instance);
+        return take_up(sheet, list, values, trail, instance, errors);
     }
     begun
 }
@@ -56,6 +58,7 @@ pub fn find_on_text(
     trail: &mut [i32; 16000],
     instance: &mut [u8; MOST_CELLS],
     text: &mut [u8; 2048],
+    errors: Stderr,
 ) -> usize
     ensures upper_bound { (result ≤ length text.new) × (result ≡ length (take result text.new)) }
     ensures prints { Prints
@@ -70,6 +73,6 @@ pub fn find_on_text(
     if input.len() > 4096 {
         return put_end(text, b"refused ", 2);
     }
-    let ended = find_on(input, list, values, trail, instance);
+    let ended = find_on(input, list, values, trail, instance, errors);
     put_report(text, input, ended, instance)
 }
