@@ -12,9 +12,8 @@ use Rattle.prelude.specs.Order.{Some, Lists}
 use Rattle.clause_list.specs.ClauseList.{clauses_of, is_list}
 use Rattle.clause_list.proofs.Laws.{list-some-variable}
 use Rattle.search_rules.specs.declared.Steps.{Steps}
-use Rattle.search_rules.specs.declared.Position.{Position}
 use Rattle.search_rules.specs.Rules.{State, values_of, end_none, end_found, next}
-use Rattle.search_rules.specs.Run.{zeros, total, End, was_none, was_found, was_spent, run}
+use Rattle.search_rules.specs.Run.{zeros, total, End, was_none, was_found, run}
 use Rattle.search_rules.specs.Held.{steps_of, position_of, step_limit, no_state, Stored}
 use Rattle.search_rules.specs.Following.{first_step, FollowingEnded}
 use Rattle.search_rules.specs.Reached.{Settles, Reached, all-open}
@@ -24,7 +23,7 @@ use Rattle.search_rules.proofs.Invariant.{length-values}
 use Rattle.search_rules.proofs.Trails.{length-trail}
 use Rattle.search_rules.proofs.Ending.{following-ends}
 use Rattle.search_rules.proofs.StateHeld.{read-stored, stored-passes}
-use Rattle.search_rules.proofs.Passed.{Sound, sound-fresh}
+use Rattle.search_rules.proofs.Passed.{sound-fresh}
 use Rattle.search_rules.proofs.Reaching.{reached-sound, reached-lists, reached-all, found-reached}
 use Rattle.search_rules.proofs.Reaching.{spent-reached, none-reached}
 use Rattle.search_rules.proofs.Found.{found-ended}

@@ -17,5 +17,3 @@ pub mod Every
 pub mod MoreSteps
 pub mod AnswerTests
 pub mod OpenSlices
-pub mod Lent
-pub mod LentWalk

@@ -1,6 +1,6 @@
 -- What is promised of resumed calls (document 02, Changes 1 and 3): a fresh start, a chain of calls that comes to one,
 -- and each counter.
-use Rattle.std.specs.Prelude.{◌≡◌, cond, List, [], ◌∷◌, ℕ, suc, ◌+◌, ◌≤◌, eqb, ℤ, nat_abs, length, take}
+use Rattle.std.specs.Prelude.{◌≡◌, cond, List, [], ◌∷◌, ℕ, suc, ◌+◌, ◌≤◌, eqb, ℤ, nat_abs, take}
 use Rattle.std.proofs.Math.Option.{none, some}
 use Rattle.clause_list.specs.ClauseList.{clauses_of}
 use Rattle.search_rules.specs.declared.Steps.{Steps}

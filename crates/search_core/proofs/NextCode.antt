@@ -1,18 +1,15 @@
 -- A call for the next in the code is that of the rules.
 use mathlib.Core.Path.{◌≡◌, refl, sym, ◌∙◌, ap}
 use mathlib.Core.Bool.{true, false}
-use mathlib.Core.Logic.{◌⊎◌, ⊎_elim}
+use mathlib.Core.Logic.{⊎_elim}
 use mathlib.Core.List.{List, []}
 use Prim.Native.Nat.{ℕ, suc, ◌-◌}
 use native.Mathlib.Omega.{arith}
 use lib.IntN.{ℤ}
-use lib.ListN.{length}
-use denote.Enum.Declared.{tag_of}
 use Rattle.prelude.specs.Tests.{any}
 use Rattle.prelude.proofs.Laws.{clash}
 use Rattle.search_rules.specs.declared.Steps.{Steps}
 use Rattle.search_rules.specs.declared.Position.{Position}
-use Rattle.search_core.specs.contracts.run.End.{the_type}
 use Rattle.search_core.specs.declared.run.End.{End}
 use Rattle.search_core.specs.declared.run.End.TheVariants.{None, Found, Spent}
 use Rattle.search_core.specs.declared.run.Ran.{Ran}
@@ -79,17 +76,12 @@ module _ (clauses : List (List ℤ)) (v : ℕ) (state : State) (full : next clau
       ∙ sym (ap (λ k. following_run clauses v k (steps_of p) state) g
       ∙ follow-step clauses v (budget - 1) (steps_of p) state backtrack to (first-is ∙ t))
 
--- elsewhere, which the code tells by the end's tag
-not_found : (end : End) → (tag_of the_type end ≡ 0) ⊎ (tag_of the_type end ≡ 2) → Found ≡ end → ⊥
-not_found None e d = let z : ◌≡◌ {A = ℕ} 0 1 = cc in omega arith
-not_found Found e d = ⊎_elim (λ x. omega arith) (λ x. omega arith) e
-not_found Spent e d = let z : ◌≡◌ {A = ℕ} 0 1 = cc in omega arith
-
+-- elsewhere
 pub not_full : (clauses : List (List ℤ)) (v n : ℕ) (p : Position) (state : State) (r : Ran) (values : List ℕ) (trail : List ℤ)
-    → (end : End) → end ≡ end_after (next clauses v state) → (tag_of the_type end ≡ 0) ⊎ (tag_of the_type end ≡ 2)
+    → (end : End) → end ≡ end_after (next clauses v state) → (end ≡ Found → ⊥)
     → Ended v (run clauses v n (steps_of p) state) r values trail → Ended v (following_run clauses v n (steps_of p) state) r values trail
 not_full clauses v n p state r values trail end h k e =
-    rw (follow-resumes clauses v n (steps_of p) state (λ d. not_found end k (sym (h ∙ ap end_after d)))) e
+    rw (follow-resumes clauses v n (steps_of p) state (λ d. k (h ∙ ap end_after d))) e
 
 -- where the code tells that it is full
 pub is-full : (x : Next) → Found ≡ end_after x → x ≡ end_found

@@ -8,6 +8,7 @@ use lib.ListN.{length, get_or, set, length-set}
 use Rattle.clause_list.specs.ClauseList.{clauses_of}
 use Rattle.literal.specs.Words.{last_variable}
 use Rattle.search_rules.specs.Inner.{Fine}
+use Rattle.search_scan.proofs.Words.{default}
 use Rattle.search_index.specs.Index.{Watched}
 
 -- a value that is set and set back
@@ -26,3 +27,12 @@ touches list values values' p b was chains weights e h z f l w =
       subst (λ m. Fine m list) (sym n) f,
       (omega (arith, n, l), (omega (arith, n, h), subst (λ vs. Watched (clauses_of list) vs chains weights) (sym r) w)),
     )
+
+-- the same where the value was open
+pub set-open : (list : List ℤ) (values values' : List ℕ) (p b : ℕ) (chains weights : List ℕ) → values' ≡ set values p b
+    → p < length values → get_or values p 2 ≡ 2 → Fine (length values) list → length values ≤ last_variable
+    → Watched (clauses_of list) values chains weights
+    → Fine (length values') list
+    × ((length values' ≤ last_variable) × ((p < length values') × Watched (clauses_of list) (set values' p 2) chains weights))
+set-open list values values' p b chains weights e h o =
+    touches list values values' p b 2 chains weights e h (sym o ∙ default values p 2 0 h)

@@ -18,7 +18,7 @@ use search_index::watch::build;
 use search_rules::Position;
 use search_scan::{Seen, scan};
 
-#[derive(Drop)]
+#[derive(Clone, Copy)]
 pub enum End {
     None,
     Found,

@@ -1,7 +1,7 @@
 -- What holds of the assignments that were given where a state is reached (specs/Reached): each satisfies, they ascend,
 -- and
 -- one that was not given comes later and waits. So they are all where a call ends with "none"; and a call leads on.
-use mathlib.Core.Path.{◌≡◌, refl, sym, ◌∙◌, ap, subst}
+use mathlib.Core.Path.{◌≡◌, refl, ◌∙◌, subst}
 use mathlib.Core.Logic.{◌⊎◌, inl, inr, ⊎_elim}
 use mathlib.Core.List.{List, [], ◌∷◌, ◌++◌, map, map-append}
 use Prim.Native.Nat.{ℕ, ◌≤◌}
@@ -11,7 +11,7 @@ use Rattle.prelude.specs.Order.{Before, Each, Some, Pairs, Lists}
 use Rattle.prelude.proofs.Order.{each_map, each_more, some_more, pairs-more, ascending-different}
 use Rattle.clause_list.specs.ClauseList.{Satisfying}
 use Rattle.search_rules.specs.declared.Steps.{Steps}
-use Rattle.search_rules.specs.Rules.{State, values_of, settle, Kind, Next, end_none, end_found, step, next}
+use Rattle.search_rules.specs.Rules.{State, values_of, settle, Kind, end_none, end_found, step, next}
 use Rattle.search_rules.specs.Run.{End, was_none, was_found, was_spent}
 use Rattle.search_rules.specs.Following.{first_step, following_run}
 use Rattle.search_rules.specs.Reached.{Settles, Reached, all-open, on, gives}

@@ -2,7 +2,7 @@
 #![tactic(auto)]
 
 // The steps done, by kind: the paper's forces, choices and turns.
-#[derive(Drop)]
+#[derive(Clone, Copy)]
 pub struct Steps {
     pub propagations: u64,
     pub decisions: u64,
@@ -11,7 +11,7 @@ pub struct Steps {
 
 // The position of a stopped search: the trail's length, and the steps done so far by kind. A caller in C lends it by its address.
 #[repr(C)]
-#[derive(Drop)]
+#[derive(Clone, Copy)]
 pub struct Position {
     pub length: usize,
     pub propagations: u64,

@@ -7,14 +7,13 @@ use Prim.Native.Nat.{ℕ, zero, suc, ◌+◌, ◌-◌, ◌<◌, ◌≤◌}
 use native.Mathlib.Omega.{arith}
 use native.Mathlib.Nat.{zero-add, suc-add}
 use native.Mathlib.Numerals.{add-one}
-use lib.IntN.{ℤ, pos, nat_abs}
+use lib.IntN.{ℤ, pos, negsuc, nat_abs}
 use lib.ListN.{length, get_or, take, drop, length-drop, drop_of_length-le}
 use lib.Seq.{drop-cons, drop-drop, slice, slice-cons, slice_empty, take-nil}
 use mir.Syntax.{w32}
-use mir.Val.{SFits, to_z, of_z}
-use mir.Facts.{to_z-of_z}
+use mir.Val.{Fits, SFits, to_z, of_z}
+use mir.Facts.{to_z-of_z, of_z-to_z, to_z_inj}
 use Rattle.literal.specs.Words.{count_of}
-use Rattle.literal.proofs.Signs.{same_word}
 use Rattle.clause_list.specs.ClauseList.{cut, clauses_of}
 use Rattle.search_rules.specs.Held.{InRange}
 use Rattle.search_rules.specs.Inner.{AllIn, FineIn, Fine}
@@ -23,6 +22,19 @@ use Rattle.search_rules.specs.Rules.{Truth, falsified, satisfied, unassigned, li
 use Rattle.search_rules.proofs.Booleans.{bool_false}
 use Rattle.search_rules.proofs.Assignments.{same_true, same_refl}
 use Rattle.search_scan.proofs.Scans.{Clause, all_false, sole, several, is_held, meet, look, keep, pass, pass-seen}
+
+-- what the bits of a word say of it
+pub word-zero : (b : ℕ) → b ≡ 0 → to_z w32 b ≡ pos 0
+word-zero b e = ap (to_z w32) e
+
+pub word-some : (b : ℕ) → Fits w32 b → (b ≡ 0 → ⊥) → to_z w32 b ≡ pos 0 → ⊥
+word-some b f h e = h (to_z_inj f (record { fits = omega arith }) e)
+
+pub word-same : (b : ℕ) (l : ℤ) → SFits w32 l → b ≡ of_z w32 l → to_z w32 b ≡ l
+word-same b l f e = ap (to_z w32) e ∙ to_z-of_z f
+
+pub word-other : (b : ℕ) (l : ℤ) → Fits w32 b → (b ≡ of_z w32 l → ⊥) → to_z w32 b ≡ l → ⊥
+word-other b l f h e = h (sym (of_z-to_z f) ∙ ap (of_z w32) e)
 
 pub look-false : (vs : List ℕ) (s : Clause) (l : ℤ) (ls : List ℤ) → literal vs l ≡ falsified → look vs s (l ∷ ls) ≡ look vs s ls
 unfolding look
@@ -72,27 +84,26 @@ pub pass-held : (vs : List ℕ) (s : Sight) (c : List ℤ) (cs : List (List ℤ)
 unfolding pass
 pass-held vs s c cs d = rw (d, pass)
 
--- a literal's bits, as a local holds them: those of no literal are 0
-pub record Bits (k : ℤ) (o : ℕ) : Type 0 where
-  pub bits : o ≡ of_z w32 k
-  pub fits : SFits w32 k
-  pub some : o ≡ 0 → ⊥
+-- a literal as a local holds it: no literal is 0
+pub record Bits (k o : ℤ) : Type 0 where
+  pub bits : o ≡ k
+  pub some : o ≡ pos 0 → ⊥
 
 -- what the local `open` says
-abbrev pub Found : Clause → ℕ → Type 0
-Found all_false o = o ≡ 0
+abbrev pub Found : Clause → ℤ → Type 0
+Found all_false o = o ≡ pos 0
 Found (sole k) o = Bits k o
 Found several o = ⊥
 Found is_held o = ⊥
 
 -- what the local `unit` says
-abbrev pub Kept : Sight → ℕ → Type 0
+abbrev pub Kept : Sight → ℤ → Type 0
 Kept conflicting u = ⊥
 Kept (unit k) u = Bits k u
-Kept neither u = u ≡ 0
+Kept neither u = u ≡ pos 0
 
 -- the outer loop at the clause head `at`
-pub record Outer (ws : List ℤ) (vs : List ℕ) (at u : ℕ) : Type 0 where
+pub record Outer (ws : List ℤ) (vs : List ℕ) (at : ℕ) (u : ℤ) : Type 0 where
   pub within : at ≤ length ws
   pub fuel : ℕ
   pub fine : FineIn (length vs) fuel (drop at ws)
@@ -101,10 +112,10 @@ pub record Outer (ws : List ℤ) (vs : List ℕ) (at u : ℕ) : Type 0 where
   pub same : pass vs so (cut fuel (drop at ws)) ≡ seen vs (clauses_of ws)
 
 -- the inner loop at `i` of the clause from `i₀` to `at`
-pub record Inner (ws : List ℤ) (vs : List ℕ) (i₀ at i o u : ℕ) : Type 0 where
+pub record Inner (ws : List ℤ) (vs : List ℕ) (i₀ at i : ℕ) (o u : ℤ) : Type 0 where
   pub within : i ≤ at
   pub fine : AllIn (length vs) (slice i at ws)
-  pub once : (u ≡ 0 → ⊥) → o ≡ 0
+  pub once : (u ≡ pos 0 → ⊥) → o ≡ pos 0
   pub so : Clause
   pub seen : Found so o
   pub same : look vs so (slice i at ws) ≡ look vs all_false (slice i₀ at ws)
@@ -115,7 +126,7 @@ end-cut vs zero s = refl
 end-cut vs (suc f) s = refl
 
 -- a clause's head
-pub record Head (ws : List ℤ) (vs : List ℕ) (at u n : ℕ) : Type 0 where
+pub record Head (ws : List ℤ) (vs : List ℕ) (at : ℕ) (u : ℤ) (n : ℕ) : Type 0 where
   pub head : get_or ws at (pos 0) ≡ pos n
   pub within : at + 1 + n ≤ length ws
   pub all : AllIn (length vs) (slice (at + 1) (at + 1 + n) ws)
@@ -130,11 +141,11 @@ drop-take zero n l = rw (zero-add n)
 drop-take (suc f) n [] = rw (suc-add f n) (sym (take-nil n))
 drop-take (suc f) n (x ∷ l) = rw (suc-add f n) (drop-take f n l)
 
-pub start : (ws : List ℤ) (vs : List ℕ) → Fine (length vs) ws → Outer ws vs 0 0
+pub start : (ws : List ℤ) (vs : List ℕ) → Fine (length vs) ws → Outer ws vs 0 (pos 0)
 unfolding Fine
 start ws vs h = record { within = omega arith; fuel = length ws; fine = h; so = neither; kept = refl; same = pass-seen vs (clauses_of ws) }
 
-module _ (ws : List ℤ) (vs : List ℕ) (at u : ℕ) where
+module _ (ws : List ℤ) (vs : List ℕ) (at : ℕ) (u : ℤ) where
   by-fuel : (w : ℤ) (rest : List ℤ) → at < length ws → w ≡ get_or ws at (pos 0) → rest ≡ drop (at + 1) ws → (s : Sight) → Kept s u
       → (f : ℕ) → FineIn (length vs) f (w ∷ rest) → pass vs s (cut f (w ∷ rest)) ≡ seen vs (clauses_of ws)
       → Head ws vs at u (nat_abs w)
@@ -164,34 +175,29 @@ module _ (ws : List ℤ) (vs : List ℕ) (at u : ℕ) where
 eq_z-ne : (k l : ℤ) → (k ≡ l → ⊥) → same_literal k l ≡ false
 eq_z-ne k l h = bool_false (same_literal k l) (λ e. h (same_true k l e))
 
--- the bits of a literal are not 0
-bits-some : (l : ℤ) → 1 ≤ nat_abs l → SFits w32 l → of_z w32 l ≡ 0 → ⊥
-bits-some l h f e =
-    let q : nat_abs l ≡ 0 = ap nat_abs (same_word l (pos 0) f (record { sfits = omega arith }) e) in omega arith
+-- an open literal `l`, where the locals say `o`
+module _ (v : ℕ) (l : ℤ) (r : InRange v l) where
+  of-l : Bits l l
+  of-l = record { bits = refl; some = λ e. let h = r.0 in let z : nat_abs l ≡ 0 = ap nat_abs e in omega arith }
 
--- an open literal `l` with the bits `b`, where the locals say `o`
-module _ (v : ℕ) (l : ℤ) (b : ℕ) (r : InRange v l) (f : SFits w32 l) (d : b ≡ of_z w32 l) where
-  of-l : Bits l b
-  of-l = record { bits = d; fits = f; some = λ e. bits-some l r.0 f (sym d ∙ e) }
-
-  pub meets-first : (s : Clause) (o : ℕ) → Found s o → o ≡ 0 → Found (meet s l) b
+  pub meets-first : (s : Clause) (o : ℤ) → Found s o → o ≡ pos 0 → Found (meet s l) l
   unfolding meet
   meets-first all_false o h e = of-l
   meets-first (sole k) o h e = absurd (h.some e)
   meets-first several o h e = absurd h
   meets-first is_held o h e = absurd h
 
-  pub meets-other : (s : Clause) (o : ℕ) → Found s o → (o ≡ 0 → ⊥) → (o ≡ b → ⊥) → meet s l ≡ several
+  pub meets-other : (s : Clause) (o : ℤ) → Found s o → (o ≡ pos 0 → ⊥) → (o ≡ l → ⊥) → meet s l ≡ several
   unfolding meet
   meets-other all_false o h p q = absurd (p h)
-  meets-other (sole k) o h p q = rw (eq_z-ne k l (λ e. q (h.bits ∙ ap (of_z w32) e ∙ sym d)))
+  meets-other (sole k) o h p q = rw (eq_z-ne k l (λ e. q (h.bits ∙ e)))
   meets-other several o h p q = refl
   meets-other is_held o h p q = absurd h
 
-  pub meets-same : (s : Clause) (o : ℕ) → Found s o → (o ≡ 0 → ⊥) → o ≡ b → Found (meet s l) o
+  pub meets-same : (s : Clause) (o : ℤ) → Found s o → (o ≡ pos 0 → ⊥) → o ≡ l → Found (meet s l) o
   unfolding meet
   meets-same all_false o h p q = absurd (p h)
-  meets-same (sole k) o h p q = rw (same_refl k l (same_word k l h.fits f (sym h.bits ∙ q ∙ d))) h
+  meets-same (sole k) o h p q = rw (same_refl k l (sym h.bits ∙ q)) h
   meets-same several o h p q = absurd h
   meets-same is_held o h p q = absurd h
 
@@ -231,7 +237,7 @@ module _ (ws : List ℤ) (vs : List ℕ) (i₀ at i : ℕ) (b : at ≤ length ws
   unfolding AllIn
   head_in l ls h = h
 
-  module _ (o u : ℕ) (n : Inner ws vs i₀ at i o u) where
+  module _ (o u : ℤ) (n : Inner ws vs i₀ at i o u) where
     pub literal-in : InRange (length vs) (get_or ws i (pos 0))
     literal-in = (head_in _ _ (rw cons at n.fine)).0
 
@@ -252,7 +258,7 @@ module _ (ws : List ℤ) (vs : List ℕ) (i₀ at i : ℕ) (b : at ≤ length ws
       same = sym (look-false vs n.so _ _ e) ∙ (rw cons at n.same);
     }
 
-    pub is_open : (o' : ℕ) → u ≡ 0 → literal vs (get_or ws i (pos 0)) ≡ unassigned → Found (meet n.so (get_or ws i (pos 0))) o'
+    pub is_open : (o' : ℤ) → u ≡ pos 0 → literal vs (get_or ws i (pos 0)) ≡ unassigned → Found (meet n.so (get_or ws i (pos 0))) o'
         → Inner ws vs i₀ at (i + 1) o' u
     is_open o' z e s = record {
       within = omega arith;
@@ -270,11 +276,12 @@ module _ (ws : List ℤ) (vs : List ℕ) (i₀ at i : ℕ) (b : at ≤ length ws
     pub not-conflict : literal vs (get_or ws i (pos 0)) ≡ unassigned → look vs all_false (slice i₀ at ws) ≡ all_false → ⊥
     not-conflict e = rw (← rest e) (stays_open vs _ (slice (i + 1) at ws) (meet-not-false n.so (get_or ws i (pos 0))))
 
-pub enter : (ws : List ℤ) (vs : List ℕ) (at u n : ℕ) → Head ws vs at u n → Inner ws vs (at + 1) (at + 1 + n) (at + 1) 0 u
+pub enter : (ws : List ℤ) (vs : List ℕ) (at : ℕ) (u : ℤ) (n : ℕ) → Head ws vs at u n
+    → Inner ws vs (at + 1) (at + 1 + n) (at + 1) (pos 0) u
 enter ws vs at u n h = record { within = omega arith; fine = h.all; once = λ z. refl; so = all_false; seen = refl; same = refl }
 
 -- the loop over a clause is done
-pub done : (ws : List ℤ) (vs : List ℕ) (i₀ at i o u : ℕ) → at ≤ i → Inner ws vs i₀ at i o u
+pub done : (ws : List ℤ) (vs : List ℕ) (i₀ at i : ℕ) (o u : ℤ) → at ≤ i → Inner ws vs i₀ at i o u
     → (s : Clause) × (look vs all_false (slice i₀ at ws) ≡ s) × Found s o
 unfolding look
 done ws vs i₀ at i o u h n =
@@ -282,7 +289,7 @@ done ws vs i₀ at i o u h n =
     let q : slice i at ws ≡ [] = rw e (slice_empty at ws) in
     (n.so, sym (rw q at n.same), n.seen)
 
-module _ (ws : List ℤ) (vs : List ℕ) (at u n : ℕ) (h : Head ws vs at u n) where
+module _ (ws : List ℤ) (vs : List ℕ) (at : ℕ) (u : ℤ) (n : ℕ) (h : Head ws vs at u n) where
   pub on-held : look vs all_false (slice (at + 1) (at + 1 + n) ws) ≡ is_held → Outer ws vs (at + 1 + n) u
   on-held e = record {
     within = h.within;
@@ -303,7 +310,7 @@ module _ (ws : List ℤ) (vs : List ℕ) (at u n : ℕ) (h : Head ws vs at u n) 
     same = sym (pass-several vs h.so _ _ e) ∙ h.same;
   }
 
-  pub on-unit : (k : ℤ) (u' : ℕ) → look vs all_false (slice (at + 1) (at + 1 + n) ws) ≡ sole k → Kept (keep h.so k) u' → Outer ws vs (at + 1 + n) u'
+  pub on-unit : (k u' : ℤ) → look vs all_false (slice (at + 1) (at + 1 + n) ws) ≡ sole k → Kept (keep h.so k) u' → Outer ws vs (at + 1 + n) u'
   on-unit k u' e g = record {
     within = h.within;
     fuel = h.fuel;
@@ -316,28 +323,28 @@ module _ (ws : List ℤ) (vs : List ℕ) (at u n : ℕ) (h : Head ws vs at u n) 
   pub on-conflict : look vs all_false (slice (at + 1) (at + 1 + n) ws) ≡ all_false → conflicting ≡ seen vs (clauses_of ws)
   on-conflict e = sym (pass-conflict vs h.so _ _ e) ∙ h.same
 
-  keep-kept : (s : Sight) (k : ℤ) → Kept s u → (u ≡ 0 → ⊥) → Kept (keep s k) u
+  keep-kept : (s : Sight) (k : ℤ) → Kept s u → (u ≡ pos 0 → ⊥) → Kept (keep s k) u
   unfolding keep
   keep-kept conflicting k g e = g
   keep-kept (unit j) k g e = g
   keep-kept neither k g e = absurd (e g)
 
-  keep-new : (s : Sight) (k : ℤ) (o : ℕ) → Kept s u → u ≡ 0 → Bits k o → Kept (keep s k) o
+  keep-new : (s : Sight) (k o : ℤ) → Kept s u → u ≡ pos 0 → Bits k o → Kept (keep s k) o
   unfolding keep
   keep-new conflicting k o g e p = absurd g
   keep-new (unit j) k o g e p = absurd (g.some e)
   keep-new neither k o g e p = p
 
-  abbrev Over : ℕ → Type 0
+  abbrev Over : ℤ → Type 0
   Over o = (s : Clause) × (look vs all_false (slice (at + 1) (at + 1 + n) ws) ≡ s) × Found s o
 
-  pub over-conflict : (o : ℕ) → Over o → o ≡ 0 → conflicting ≡ seen vs (clauses_of ws)
+  pub over-conflict : (o : ℤ) → Over o → o ≡ pos 0 → conflicting ≡ seen vs (clauses_of ws)
   over-conflict o (all_false, q, g) e = on-conflict q
   over-conflict o (sole k, q, g) e = absurd (g.some e)
   over-conflict o (several, q, g) e = absurd g
   over-conflict o (is_held, q, g) e = absurd g
 
-  pub over-new : (o : ℕ) → Over o → (o ≡ 0 → ⊥) → u ≡ 0 → Outer ws vs (at + 1 + n) o
+  pub over-new : (o : ℤ) → Over o → (o ≡ pos 0 → ⊥) → u ≡ pos 0 → Outer ws vs (at + 1 + n) o
   over-new o (all_false, q, g) e d = absurd (e g)
   over-new o (sole k, q, g) e d = on-unit k o q (keep-new h.so k o h.kept d g)
   over-new o (several, q, g) e d = absurd g
@@ -347,26 +354,26 @@ module _ (ws : List ℤ) (vs : List ℕ) (at u n : ℕ) (h : Head ws vs at u n) 
   on-skip = ⊎_elim on-several on-held
 
   pub on-open : (s : Clause) → look vs all_false (slice (at + 1) (at + 1 + n) ws) ≡ s
-      → (look vs all_false (slice (at + 1) (at + 1 + n) ws) ≡ all_false → ⊥) → (u ≡ 0 → ⊥) → Outer ws vs (at + 1 + n) u
+      → (look vs all_false (slice (at + 1) (at + 1 + n) ws) ≡ all_false → ⊥) → (u ≡ pos 0 → ⊥) → Outer ws vs (at + 1 + n) u
   on-open all_false q p d = absurd (p q)
   on-open (sole k) q p d = on-unit k u q (keep-kept h.so k h.kept d)
   on-open several q p d = on-several q
   on-open is_held q p d = on-held q
 
-pub head_at : (ws : List ℤ) (vs : List ℕ) (at u : ℕ) → Outer ws vs at u → at < length ws → (n : ℕ) → n ≡ count_of (get_or ws at (pos 0))
+pub head_at : (ws : List ℤ) (vs : List ℕ) (at : ℕ) (u : ℤ) → Outer ws vs at u → at < length ws → (n : ℕ) → n ≡ count_of (get_or ws at (pos 0))
     → Head ws vs at u n
 head_at ws vs at u o b n e =
     let h = head_of ws vs at u o b in
     rw (e ∙ ap count_of h.head) h
 
-pub head-counts : (ws : List ℤ) (vs : List ℕ) (at u : ℕ) → Outer ws vs at u → at < length ws
+pub head-counts : (ws : List ℤ) (vs : List ℕ) (at : ℕ) (u : ℤ) → Outer ws vs at u → at < length ws
     → get_or ws at (pos 0) ≡ pos (count_of (get_or ws at (pos 0)))
 head-counts ws vs at u o b =
     let e = (head_of ws vs at u o b).head in
     e ∙ ap (λ z. pos (count_of z)) (sym e)
 
 -- the list is done
-pub end_none : (ws : List ℤ) (vs : List ℕ) (at u : ℕ) → Outer ws vs at u → length ws ≤ at → (s : Sight) × (s ≡ seen vs (clauses_of ws)) × Kept s u
+pub end_none : (ws : List ℤ) (vs : List ℕ) (at : ℕ) (u : ℤ) → Outer ws vs at u → length ws ≤ at → (s : Sight) × (s ≡ seen vs (clauses_of ws)) × Kept s u
 end_none ws vs at u o b =
     let q : drop at ws ≡ [] = drop_of_length-le ws b in
     (o.so, last o.fuel o.so (rw q at o.same), o.kept)
@@ -374,14 +381,14 @@ end_none ws vs at u o b =
     last : (f : ℕ) (s : Sight) → pass vs s (cut f []) ≡ seen vs (clauses_of ws) → s ≡ seen vs (clauses_of ws)
     last f s e = end-cut vs f s ∙ e
 
-pub ends-neither : (vs : List ℕ) (u : ℕ) (x : Sight) → (s : Sight) × (s ≡ x) × Kept s u → u ≡ 0 → neither ≡ x
+pub ends-neither : (vs : List ℕ) (u : ℤ) (x : Sight) → (s : Sight) × (s ≡ x) × Kept s u → u ≡ pos 0 → neither ≡ x
 ends-neither vs u x (conflicting, q, g) e = absurd g
 ends-neither vs u x (unit k, q, g) e = absurd (g.some e)
 ends-neither vs u x (neither, q, g) e = q
 
-pub ends-unit : (vs : List ℕ) (u : ℕ) (x : Sight) → (s : Sight) × (s ≡ x) × Kept s u → (u ≡ 0 → ⊥) → unit (to_z w32 u) ≡ x
+pub ends-unit : (vs : List ℕ) (u : ℤ) (x : Sight) → (s : Sight) × (s ≡ x) × Kept s u → (u ≡ pos 0 → ⊥) → unit u ≡ x
 ends-unit vs u x (conflicting, q, g) e = absurd g
-ends-unit vs u x (unit k, q, g) e = ap unit (ap (to_z w32) g.bits ∙ to_z-of_z g.fits) ∙ q
+ends-unit vs u x (unit k, q, g) e = ap unit g.bits ∙ q
 ends-unit vs u x (neither, q, g) e = absurd (e g)
 
 pub code-true : (t : Truth) (r : ℕ) → r ≡ truth_code t → r ≡ 1 → t ≡ satisfied
@@ -402,6 +409,7 @@ code-false falsified r e h k = refl
 code-false satisfied r e h k = absurd (h e)
 code-false unassigned r e h k = absurd (k e)
 
-pub was-none : (u o : ℕ) → ((u ≡ 0 → ⊥) → o ≡ 0) → (o ≡ 0 → ⊥) → u ≡ 0
-was-none zero o f p = refl
-was-none (suc u) o f p = absurd (p (f (λ e. omega arith)))
+pub was-none : (u o : ℤ) → ((u ≡ pos 0 → ⊥) → o ≡ pos 0) → (o ≡ pos 0 → ⊥) → u ≡ pos 0
+was-none (pos zero) o f p = refl
+was-none (pos (suc u)) o f p = absurd (p (f (λ e. let z : suc u ≡ 0 = ap nat_abs e in omega arith)))
+was-none (negsuc u) o f p = absurd (p (f (λ e. let z : suc u ≡ 0 = ap nat_abs e in omega arith)))

@@ -1,0 +1,182 @@
+use mathlib.Core.Path.{refl, ◌∙◌}
+use Prim.Native.Nat.{◌<◌}
+use native.Mathlib.Omega.{arith}
+use Rattle.search_core.proofs.RunCode.{figure-on, far_none, far-found, far-on, far-emptied, far-full, far-spent}
+use Rattle.search_core.proofs.run.go.Goals as goal
+use Rattle.search_core.proofs.run.go.Lts as lts
+use Rattle.search_core.proofs.run.go.Tie as tie
+use Rattle.search_core.proofs.run.go.Reads as reads
+
+abbrev At-In-loop : Type 0
+At-In-loop = lts.In-loop tie.the-claims reads.Pre reads.Post goal.the-invariant-loop-left goal.the-decreases-loop-left tie.handed_clauses
+
+pub loop-left-init : goal.loop-left-init
+loop-left-init c = (
+  record { figure = refl; wide = refl; deep = refl; far = λ state i. record { at = state; stored = i; alike = refl } },
+  c.requires.watched,
+  refl,
+)
+
+-- a step is left in a turn of the loop
+some_left : (c : At-In-loop) → 0 < c.loop-left.left
+some_left c = omega (arith, c.loop-left-test.true)
+
+pub step-moved-requires : goal.step-moved-requires
+step-moved-requires c =
+    let l = c.loop-left.invariant in
+    let f = l.0.far c.requires.some_stored.state c.requires.some_stored.stored in record {
+      fine = rw l.0.wide c.requires.fine;
+      values_len_bound = rw l.0.wide c.requires.values_len_bound;
+      some_stored = record { state = f.at; stored = rw l.0.wide f.stored };
+      watched = l.1;
+    }
+
+pub shape_of-values-in-NoneLeft : goal.shape_of-values-in-NoneLeft
+shape_of-values-in-NoneLeft c =
+    c.step-moved.auto.values
+    ∙ c.loop-left.invariant.0.wide
+
+pub shape_of-trail-in-NoneLeft : goal.shape_of-trail-in-NoneLeft
+shape_of-trail-in-NoneLeft c =
+    c.step-moved.auto.trail
+    ∙ c.loop-left.invariant.0.deep
+
+pub shape_of-weights-in-NoneLeft : goal.shape_of-weights-in-NoneLeft
+shape_of-weights-in-NoneLeft c =
+    c.step-moved.auto.weights
+    ∙ c.loop-left.invariant.2
+
+pub returns-in-NoneLeft : goal.returns-in-NoneLeft
+returns-in-NoneLeft c state i =
+    let l = c.loop-left.invariant.0 in
+    let f = l.far state i in
+    let s = (rw l.wide at c.in-NoneLeft.ensures.stepped) f.at f.stored in
+    far_none _ _ _ _ _ _ _ _ _ f _ _ _ _ refl c.emptied-position.ensures s
+
+pub shape_of-values-in-AllSet : goal.shape_of-values-in-AllSet
+shape_of-values-in-AllSet c =
+    c.step-moved.auto.values
+    ∙ c.loop-left.invariant.0.wide
+
+pub shape_of-trail-in-AllSet : goal.shape_of-trail-in-AllSet
+shape_of-trail-in-AllSet c =
+    c.step-moved.auto.trail
+    ∙ c.loop-left.invariant.0.deep
+
+pub shape_of-weights-in-AllSet : goal.shape_of-weights-in-AllSet
+shape_of-weights-in-AllSet c =
+    c.step-moved.auto.weights
+    ∙ c.loop-left.invariant.2
+
+pub returns-in-AllSet : goal.returns-in-AllSet
+returns-in-AllSet c state i =
+    let l = c.loop-left.invariant.0 in
+    let f = l.far state i in
+    let s = (rw l.wide at c.in-AllSet.ensures.stepped) f.at f.stored in
+    far-found _ _ _ _ _ _ _ _ _ f _ _ _ refl s
+
+pub advance-position-requires : goal.advance-position-requires
+advance-position-requires c =
+    omega (
+      arith,
+      c.loop-left.invariant.0.figure,
+      c.loop-left-test.true,
+      c.requires.budget_bound,
+    )
+
+pub overflow_sub-left : goal.overflow_sub-left
+overflow_sub-left c = some_left c.before.before.before.before.before.before.before.before.before.before.before.before
+
+pub loop-left-smaller : goal.loop-left-smaller
+loop-left-smaller c =
+    omega (arith, c.loop-left-test.true)
+
+pub loop-left-preserved : goal.loop-left-preserved
+loop-left-preserved c =
+    let loop = c.loop-left in
+    let l = loop.invariant.0 in
+    let t = some_left c.before.before.before.before.before.before.before.before.before.before.before.before in (
+      record {
+        figure = figure-on loop.position _ c.in-To.kind _ _ _ c.advance-position.ensures t l.figure;
+        wide = c.step-moved.auto.values ∙ l.wide;
+        deep = c.step-moved.auto.trail ∙ l.deep;
+        far = λ state i.
+            let f = l.far state i in
+            let s = (rw l.wide at c.in-To.ensures.stepped) f.at f.stored in
+            far-on _ _ _ _ _ _ _ _ _ f _ _ _ _ _ t c.advance-position.ensures _ refl s;
+      },
+      c.step-moved.ensures.watched_2,
+      c.step-moved.auto.weights ∙ loop.invariant.2,
+    )
+
+pub ends-end-requires : goal.ends-end-requires
+ends-end-requires c =
+    let l = c.loop-left.invariant.0 in record {
+      fine = rw l.wide c.requires.fine;
+      values_len_bound = rw l.wide c.requires.values_len_bound;
+    }
+
+pub back-requires : goal.back-requires
+back-requires c =
+    let l = c.loop-left.invariant in
+    let f = l.0.far c.requires.some_stored.state c.requires.some_stored.stored in record {
+      fine = rw l.0.wide c.requires.fine;
+      values_len_bound = rw l.0.wide c.requires.values_len_bound;
+      some_stored = record { state = f.at; stored = rw l.0.wide f.stored };
+      watched = l.1;
+    }
+
+pub shape_of-values-in-None : goal.shape_of-values-in-None
+shape_of-values-in-None c =
+    c.back.auto.values
+    ∙ c.loop-left.invariant.0.wide
+
+pub shape_of-trail-in-None : goal.shape_of-trail-in-None
+shape_of-trail-in-None c =
+    c.back.auto.trail
+    ∙ c.loop-left.invariant.0.deep
+
+pub shape_of-weights-in-None : goal.shape_of-weights-in-None
+shape_of-weights-in-None c =
+    c.back.auto.weights
+    ∙ c.loop-left.invariant.2
+
+pub returns-in-None : goal.returns-in-None
+returns-in-None c state i =
+    let l = c.loop-left.invariant.0 in
+    let f = l.far state i in
+    let e = (rw l.wide at c.in-None.ensures) f.at f.stored.was_open f.stored.values_are in
+    let b = (rw l.wide at c.back.ensures.turned) f.at f.stored in
+    rw c.in-None.is (far-emptied _ _ _ _ _ _ _ _ _ f _ _ _ _ _ refl e c.emptied-position-in-None.ensures b)
+
+pub shape_of-values-in-Found : goal.shape_of-values-in-Found
+shape_of-values-in-Found c = c.loop-left.invariant.0.wide
+
+pub shape_of-trail-in-Found : goal.shape_of-trail-in-Found
+shape_of-trail-in-Found c = c.loop-left.invariant.0.deep
+
+pub shape_of-weights-in-Found : goal.shape_of-weights-in-Found
+shape_of-weights-in-Found c = c.loop-left.invariant.2
+
+pub returns-in-Found : goal.returns-in-Found
+returns-in-Found c state i =
+    let l = c.loop-left.invariant.0 in
+    let f = l.far state i in
+    let e = (rw l.wide at c.in-Found.ensures) f.at f.stored.was_open f.stored.values_are in
+    rw c.in-Found.is (far-full _ _ _ _ _ _ _ _ _ f _ refl e)
+
+pub shape_of-values-in-Spent : goal.shape_of-values-in-Spent
+shape_of-values-in-Spent c = c.loop-left.invariant.0.wide
+
+pub shape_of-trail-in-Spent : goal.shape_of-trail-in-Spent
+shape_of-trail-in-Spent c = c.loop-left.invariant.0.deep
+
+pub shape_of-weights-in-Spent : goal.shape_of-weights-in-Spent
+shape_of-weights-in-Spent c = c.loop-left.invariant.2
+
+pub returns-in-Spent : goal.returns-in-Spent
+returns-in-Spent c state i =
+    let l = c.loop-left.invariant.0 in
+    let f = l.far state i in
+    let e = (rw l.wide at c.in-Spent.ensures) f.at f.stored.was_open f.stored.values_are in
+    rw c.in-Spent.is (far-spent _ _ _ _ _ _ _ _ _ f _ c.loop-left-test.false refl e)
