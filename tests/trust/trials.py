@@ -107,6 +107,8 @@ ALWAYS = [
            "fawnloom_more has a word"),
     Change("an exported function with equal sides", EXPORTS,
            added(EXPORTED.format("end_numbers 1 result ≡ end_numbers 1 result")), "fawnloom_more promises nothing"),
+    Change("an export that stands for nothing", EXPORTS, added(EXPORTED.format("end_numbers 1 Steps ≡ result")),
+           "fawnloom_more stands for no function of a library"),
     Change("an export of a library", BOUNDARY, added(EXPORTED.format("result ≤ 1")), "only a crate NAME_c is built for C"),
     Change("an export without a promise of its library", EXPORTS, contract("fawnloom_find", clause("FindsNumbers"), ""),
            "fawnloom_find promises otherwise than boundary::runs::fawnloom_find"),
