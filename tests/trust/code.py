@@ -6,6 +6,7 @@ from .names import Scope, names_in
 NO_CODE = re.compile(r'(extern "C")|//[^\n]*|"(?:\\.|[^"\\])*"|\'(?:\\.|[^\\\'])\'')
 STRING = re.compile(r'"(?:\\.|[^"\\])*"')
 USED = re.compile(r"^((?:ghost )?)(?:pub )?use ([^;]+);", re.M)
+PROOFS = re.compile(r"\s*Rattle\.(\w+)\.proofs\b")  # the kit has its words on options in a module of that name
 GROUP = re.compile(r"([^{}]*)\{(.*)\}", re.S)
 FUNCTION = re.compile(r'^[ \t]*(pub(?:\(\w+\))? )?(?:const )?(extern "C" )?fn (\w+)', re.M)
 CLAUSE = re.compile(r"\b(requires|ensures)(?:\s+\w+)?\s*(?=\{)")
@@ -112,7 +113,7 @@ class Source:
                     self.imports[name] = words
             elif not self.scope.use(f"use {path}"):
                 project.problem(f"{self.path}: cannot read `ghost use {path}`")
-            elif ".proofs." in path:
+            elif (cited := PROOFS.match(path)) and (project.crates / cited[1]).is_dir():
                 project.problem(f"{self.path}: a contract cites {path}, which is not in specs/")
         self.functions = [Function(self, found) for found in FUNCTION.finditer(self.code)]
         self.types = [Type(self, found[1], self.declaration(found.end())) for found in TYPE.finditer(self.code)]

@@ -1,7 +1,7 @@
 """What is wrong with a public contract whatever it was before: a promise that says nothing, a function without one."""
 import re
 
-from .public import exported, library_of, printed, public_calls
+from .public import exported, library_of, printed, public_calls, twins
 
 # What the programs' entries in C (programs/) call: the answer is an exit status, and what is printed is promised by the
 # functions that these call.
@@ -80,12 +80,15 @@ def judge(function):
 
 def every_contract(project, readme):
     """Each `pub fn` has a promise, in whatever module: in the crates of the README's table, of the boundary and of what
-    the programs print; those of the programs themselves aside."""
+    the programs print; those of the programs themselves aside. An export, but for the entries, has a twin."""
     public = public_calls(project, readme) + exported(project) + printed(project)
     entries = {entry.split("::")[0] for entry in ENTRIES}
     crates = {function.source.crate for function in public} - entries - set(map(library_of, entries))
     for function in project.all_functions():
         if function.source.crate in crates and function.public and not function.clauses["ensures"]:
             project.problem(f"{function.source.path}: {function} is `pub` and has no promise")
+    for function in exported(project):
+        if function.exported and str(function) not in ENTRIES and not twins(function):
+            project.problem(f"{function.source.path}: {function} stands for no function of a library")
     for entry in ENTRIES - {str(function) for function in exported(project)}:
         project.problem(f"there is no exported function {entry}")

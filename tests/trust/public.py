@@ -29,10 +29,10 @@ def library_of(crate):
     return crate.removesuffix("_c")
 
 
-def twins(project, function):
+def twins(function):
     """The functions of the library that an export calls by its own name."""
-    path = library_of(function.source.crate), function.source.module
-    return [called for called in function.calls() if called.name == function.name and (called.source.crate, called.source.module) == path]
+    path = library_of(function.source.crate), function.source.module, function.name
+    return [called for called in function.calls() if (called.source.crate, called.source.module, called.name) == path]
 
 
 def exported(project):
@@ -42,7 +42,7 @@ def exported(project):
     for function in exports:
         if function.source.crate == library_of(function.source.crate):
             project.problem(f"{function.source.path}: {function} is exported, and only a crate NAME_c is built for C")
-        for twin in twins(project, function):
+        for twin in twins(function):
             behind.append(twin)
             if not same_promises(function, twin):
                 project.problem(f"{function.source.path}: {function} promises otherwise than {twin}")
