@@ -6,7 +6,7 @@ use native.Mathlib.Omega.{arith}
 use lib.IntN.{pos}
 use lib.ListN.{get_or, drop, length-set}
 use Rattle.text.proofs.Puts.{put_byte, put_two, put-length, put_as, room-first}
-use Rattle.text.proofs.Puts.{Left, left-all, left_as, left-room, left-put, left-last}
+use Rattle.text.proofs.Puts.{Left, left_as, left-room, left-put, left-last}
 use Rattle.literal.proofs.Signs.{back}
 use Rattle.dimacs.specs.Text.{literal_text, clause_line}
 use Rattle.dimacs.proofs.Lines.{line-from, line-end}
@@ -29,9 +29,6 @@ At-In-loop = lts.In-loop tie.the-claims reads.Pre reads.Post goal.the-invariant-
 
 abbrev At-Start : Type 0
 At-Start = lts.Start tie.the-claims reads.Pre reads.Post goal.the-invariant-loop-i goal.the-decreases-loop-i tie.handed_clauses
-
-pub loop-i-init : goal.loop-i-init
-loop-i-init c = (omega arith, left-all c.args.text.now c.args.at (clause_line c.args.clause.now))
 
 -- what is still to be put in a turn, its literal first
 abbrev entered : At-At-loop → At-Start
@@ -96,15 +93,9 @@ ending c = left_as (line-end (entered c.before).args.clause.now c.loop-i.i c.loo
 pub bounds-text-end-2 : goal.bounds-text-end-2
 bounds-text-end-2 c = omega (arith, left-room c.requires.room (ending c))
 
-pub overflow_add-text : goal.overflow_add-text
-overflow_add-text c = omega (arith, left-room c.requires.room (ending c), (ending c).same, c.well_formed.0.0)
-
 pub bounds-text-end-3 : goal.bounds-text-end-3
 bounds-text-end-3 c =
     simp length-set (omega (arith, left-room c.requires.room (ending c)))
-
-pub overflow_add-result : goal.overflow_add-result
-overflow_add-result c = omega (arith, left-room c.requires.room (ending c), (ending c).same, c.well_formed.0.0)
 
 pub returns : goal.returns
 returns c = left-last (ending c) (put_two c.loop-i.text c.loop-i.end 48 10)

@@ -59,12 +59,6 @@ turn c =
     let rest = ap (λ i. clause_line (clause_at ws (turning c).loop-i.i) ++ clause_lines (clauses_of (drop i ws))) (sym c.clause_end-next.ensures) in
     left_as (ap clause_lines (clause c).clauses ∙ lines_more _ _ ∙ rest) (turning c).loop-i.invariant.1
 
-pub offset_bounds-list-first : goal.offset_bounds-list-first
-offset_bounds-list-first c = omega (arith, (clause c.before).fits)
-
-pub slice_bounds-put_clause-count : goal.slice_bounds-put_clause-count
-slice_bounds-put_clause-count c = omega (arith, c.clause_end-next.ensures)
-
 -- what the call is lent is the clause
 lent : (c : At-After-clause_end)
     → take (c.clause_end-next.result - ((turning c).loop-i.i + 1)) (drop ((turning c).loop-i.i + 1) (entered c).args.list.now)
@@ -81,11 +75,6 @@ put_clause-end-requires c =
       proper = proper start.requires.listed.variables words (clause k).literals;
       room = room-first loop.text loop.end (clause_line words) _ (left-room start.requires.room (turn k));
     })
-
-pub loop-i-smaller : goal.loop-i-smaller
-loop-i-smaller c =
-    let k = c.before.before.before.before.before.before in
-    omega (arith, (clause k).fits, k.clause_end-next.ensures, k.loop-i-test.true)
 
 pub loop-i-preserved : goal.loop-i-preserved
 loop-i-preserved c =

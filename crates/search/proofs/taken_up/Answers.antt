@@ -72,12 +72,6 @@ returns-then-trail-n c =
     declines Short _ _ _ _ _ c.refused-then-trail-n.ensures.0 c.refused-then-trail-n.ensures.1
     (short-trail _ _ _ _ _ _ _ (accepts c.before.before.before.before) c.if-trail-n.true)
 
-pub slice_bounds-vs-end-2 : goal.slice_bounds-vs-end-2
-slice_bounds-vs-end-2 c = sym (length-take-le _ _ c.if-values-n.false)
-
-pub slice_bounds-ts-end-2 : goal.slice_bounds-ts-end-2
-slice_bounds-ts-end-2 c = sym (length-take-le _ _ c.if-trail-n.false)
-
 -- the parts that are lent on
 module _ (c : At-After-ts) where
   abbrev s : At-Start

@@ -44,9 +44,6 @@ told : (c : At-After-agrees)
     → c.agrees.result ≡ agrees_with c.args.values.now (literal c)
 told c = c.agrees.ensures ∙ ap (agrees_with c.args.values.now) (was_read c)
 
-pub shape_of-seen-then-not-agrees : goal.shape_of-seen-then-not-agrees
-shape_of-seen-then-not-agrees c = c.loop-k.invariant.1.1
-
 pub returns-then-not-agrees : goal.returns-then-not-agrees
 unfolding MarkedIf
 returns-then-not-agrees c =
@@ -84,9 +81,6 @@ within c =
 pub bounds-seen-at : goal.bounds-seen-at
 bounds-seen-at c = within c.before.before
 
-pub shape_of-seen-then-seen-at : goal.shape_of-seen-then-seen-at
-shape_of-seen-then-seen-at c = c.loop-k.invariant.1.1
-
 pub returns-then-seen-at : goal.returns-then-seen-at
 unfolding MarkedIf
 returns-then-seen-at c =
@@ -115,9 +109,6 @@ loop-k-preserved c =
         simp length-set inv.1,
       ),
     )
-
-pub shape_of-seen : goal.shape_of-seen
-shape_of-seen c = c.loop-k.invariant.1.1
 
 pub returns : goal.returns
 unfolding MarkedIf

@@ -54,12 +54,6 @@ clause c =
     let loop = (turning c).loop-i in
     here (entered c).args.list.now loop.i loop.invariant.at c.loop-i-test.true (listed (entered c))
 
-pub offset_bounds-list-first : goal.offset_bounds-list-first
-offset_bounds-list-first c = omega (arith, (clause c).fits)
-
-pub slice_bounds-line_length-count : goal.slice_bounds-line_length-count
-slice_bounds-line_length-count c = omega (arith, c.clause_end-end.ensures)
-
 -- the lines are a part of the text, whose length fits
 fitting : (s : At-Start) → length (clause_lines (clauses_of s.args.list.now)) < 2 ^ 34
 fitting s =
@@ -99,11 +93,6 @@ pub overflow_add-clauses : goal.overflow_add-clauses
 overflow_add-clauses c =
     let start = entered c.before.before in
     omega (arith, (after c).clauses_left, clauses-few start.args.list.now, start.well_formed.0)
-
-pub loop-i-smaller : goal.loop-i-smaller
-loop-i-smaller c =
-    let k = c.before.before in
-    omega (arith, (clause k).fits, k.clause_end-end.ensures, k.loop-i-test.true)
 
 pub loop-i-preserved : goal.loop-i-preserved
 loop-i-preserved c = after c

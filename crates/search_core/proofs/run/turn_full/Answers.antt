@@ -35,11 +35,6 @@ returns-then-budget-eq0 c state i full =
     let s : At-Start = c.before.before.before.before in
     full-waits _ _ state full s.args.start _ t.0 _ _ t.1 c.if-budget-eq0.true i
 
-pub advance-position-requires : goal.advance-position-requires
-advance-position-requires c =
-    let s : At-Start = c.before.before.before.before.before.before.before.before.before.before.before in
-    omega (arith, s.requires.budget_bound, c.if-budget-eq0.false)
-
 -- the state that is turned to
 module _ (c : At-After-run-arg2) where
   abbrev s : At-Start

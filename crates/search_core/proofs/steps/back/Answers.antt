@@ -2,7 +2,7 @@ use mathlib.Core.Path.{◌≡◌, refl, sym, ◌∙◌, ap}
 use Prim.Native.Nat.{ℕ, ◌*◌, ◌-◌, ◌<◌, ◌≤◌}
 use native.Mathlib.Omega.{arith}
 use lib.IntN.{pos}
-use lib.ListN.{length, get_or, set, length-set}
+use lib.ListN.{length, get_or, set}
 use mir.Syntax.{w32, w64}
 use mir.Val.{Fits, to_z, of_z}
 use mir.Facts.{to_z-of_z}
@@ -79,12 +79,6 @@ module _ (c : At-In-loop) where
   scaled : Fits w64 ((c.loop-n.n - 1) * 4)
   scaled = scaled_Fits _ (v s) _ top.below (rw (← long s) s.well_formed.1.1.0.1)
 
-pub loop-n-init : goal.loop-n-init
-loop-n-init c = ((λ state i. record { now_at = state; stored = i; alike = refl }), c.requires.watched, refl)
-
-pub overflow_sub-top : goal.overflow_sub-top
-overflow_sub-top c = c.loop-n-test.true
-
 pub offset_bounds-trail-top : goal.offset_bounds-trail-top
 offset_bounds-trail-top c = scaled c.before
 
@@ -145,18 +139,6 @@ touch-requires c =
     let t = changed c.before.before.before.before.before 1 3 (sym c.if-was-eq3.true) in
     record { fine = t.0; values_len_bound = t.1.0; p_in_bounds = t.1.1.0; watched = t.1.1.1 }
 
-pub shape_of-values-then-was-eq3 : goal.shape_of-values-then-was-eq3
-shape_of-values-then-was-eq3 c = simp length-set (wide c.before.before.before.before.before.before.before.before.before.before)
-
-pub shape_of-trail-then-was-eq3 : goal.shape_of-trail-then-was-eq3
-shape_of-trail-then-was-eq3 c =
-    let q = c.before.before.before.before.before.before.before.before.before.before in simp length-set (deep q ∙ sym (long (s q)))
-
-pub shape_of-weights-then-was-eq3 : goal.shape_of-weights-then-was-eq3
-shape_of-weights-then-was-eq3 c =
-    c.touch.auto.weights
-    ∙ c.loop-n.invariant.2
-
 pub returns-then-was-eq3 : goal.returns-then-was-eq3
 returns-then-was-eq3 c =
     let w = c.before.before.before.before.before.before in
@@ -188,9 +170,6 @@ touch-requires-in-loop-n c =
     let t = changed c.before.before.before.before 2 _ refl in
     record { fine = t.0; values_len_bound = t.1.0; p_in_bounds = t.1.1.0; watched = t.1.1.1 }
 
-pub loop-n-smaller : goal.loop-n-smaller
-loop-n-smaller c = omega (arith, c.loop-n-test.true)
-
 pub loop-n-preserved : goal.loop-n-preserved
 loop-n-preserved c =
     let w = c.before.before.before.before.before in
@@ -218,9 +197,6 @@ shape_of-values c = size-values _ _ _ _ _ (ended c.before.before).stored
 
 pub shape_of-trail : goal.shape_of-trail
 shape_of-trail c = size-trail _ _ _ _ _ (ended c.before.before).stored ∙ sym (long c.before.before.before.before.before.before)
-
-pub shape_of-weights : goal.shape_of-weights
-shape_of-weights c = c.loop-n.invariant.2
 
 pub returns : goal.returns
 returns c = record {

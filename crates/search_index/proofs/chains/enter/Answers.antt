@@ -145,9 +145,6 @@ loop-i-init c =
     let s = start c.before in
     enter-first (clauses s) s.args.c s.requires.c_in_bounds.0 _ _ s.requires.c_in_bounds.1 s.requires.linked
 
-pub offset_bounds-list-i : goal.offset_bounds-list-i
-offset_bounds-list-i c = omega (arith, below c)
-
 pub bounds-list-i : goal.bounds-list-i
 bounds-list-i c = inside c
 
@@ -155,9 +152,6 @@ pub place-p-requires : goal.place-p-requires
 place-p-requires c =
     let r = ranged c.before in
     rw (back (here c.before) (sfits_of c.place-arg-1.given)) (r.0, (let h = r.1 in omega (arith, h, (s c.before).requires.roomy.few)))
-
-pub offset_bounds-chains-p : goal.offset_bounds-chains-p
-offset_bounds-chains-p c = omega (arith, place-low c)
 
 pub bounds-chains-p : goal.bounds-chains-p
 bounds-chains-p c = omega (arith, place-low c.before.before, (inv (q c.before.before)).linked.long)
@@ -186,26 +180,8 @@ module _ (c : At-Joined1) where
 pub overflow_cast-chains : goal.overflow_cast-chains
 overflow_cast-chains c = omega (arith, number (word_at c))
 
-pub overflow_mul-chains : goal.overflow_mul-chains
-overflow_mul-chains c = omega (arith, below (word_at c))
-
-pub overflow_add-chains : goal.overflow_add-chains
-overflow_add-chains c = omega (arith, below (word_at c))
-
-pub offset_bounds-chains-i : goal.offset_bounds-chains-i
-offset_bounds-chains-i c = omega (arith, below (word_at c))
-
 pub bounds-chains-i : goal.bounds-chains-i
 bounds-chains-i c = omega (arith, below (word_at c), room c)
-
-pub overflow_mul-chains-in-loop-i : goal.overflow_mul-chains-in-loop-i
-overflow_mul-chains-in-loop-i c = omega (arith, below (word_at c))
-
-pub overflow_add-chains-in-loop-i : goal.overflow_add-chains-in-loop-i
-overflow_add-chains-in-loop-i c = omega (arith, below (word_at c))
-
-pub offset_bounds-chains-i-in-loop-i : goal.offset_bounds-chains-i-in-loop-i
-offset_bounds-chains-i-in-loop-i c = omega (arith, below (word_at c))
 
 pub bounds-chains-i-in-loop-i : goal.bounds-chains-i-in-loop-i
 bounds-chains-i-in-loop-i c = simp length-set (omega (arith, below (word_at c), room c))
@@ -213,26 +189,14 @@ bounds-chains-i-in-loop-i c = simp length-set (omega (arith, below (word_at c), 
 pub overflow_cast-chains-in-loop-i : goal.overflow_cast-chains-in-loop-i
 overflow_cast-chains-in-loop-i c = omega (arith, below (word_at c))
 
-pub offset_bounds-chains-p-in-loop-i : goal.offset_bounds-chains-p-in-loop-i
-offset_bounds-chains-p-in-loop-i c = omega (arith, place-low (placed c))
-
 pub bounds-chains-p-in-loop-i : goal.bounds-chains-p-in-loop-i
 bounds-chains-p-in-loop-i c = simp length-set (omega (arith, place-low (placed c), room c))
-
-pub overflow_add-i-in-loop-i : goal.overflow_add-i-in-loop-i
-overflow_add-i-in-loop-i c = omega (arith, below (word_at c))
-
-pub loop-i-smaller : goal.loop-i-smaller
-loop-i-smaller c = omega (arith, (word_at c).loop-i-test.true)
 
 pub loop-i-preserved : goal.loop-i-preserved
 loop-i-preserved c =
     let w = word_at c in
     enter-next (clauses (s w)) (s w).args.c (s w).requires.c_in_bounds.0 _ _ _ _ (inv w) (short w) _ (place_is (placed c) ∙ ap place_of (here-is w))
     (spot-low _ (s w).requires.roomy) (place-low (placed c)) (below w) _ (still-apart c)
-
-pub shape_of-chains : goal.shape_of-chains
-shape_of-chains c = c.loop-i.invariant.linked.long ∙ sym c.requires.linked.long
 
 pub returns : goal.returns
 returns c =

@@ -180,15 +180,6 @@ module _ (c : At-After-put) where
   abbrev putting : At-In-loop
   putting = weighing joined
 
-pub overflow_add-at : goal.overflow_add-at
-overflow_add-at c = omega (arith, at_low (putting c.before.before.before))
-
-pub offset_bounds-list-at : goal.offset_bounds-list-at
-offset_bounds-list-at c = omega (arith, at_low (putting c.before.before.before))
-
-pub bounds-list-at : goal.bounds-list-at
-bounds-list-at c = (putting c.before.before.before).loop-at-test.true
-
 module _ (c : At-After-known_count-arg) where
   abbrev counting : At-In-loop
   counting = putting c.before.before.before
@@ -212,14 +203,8 @@ module _ (c : At-After-known_count) where
   next-is : at q + 1 + c.known_count.result ≡ head_of (clauses (s q)) (suc (n q))
   next-is = omega (arith, size_is, (inv q).place, head_step (clauses (s q)) (n q) (more q))
 
-pub overflow_add-at-in-loop-at : goal.overflow_add-at-in-loop-at
-overflow_add-at-in-loop-at c = omega (arith, size_is c.before, ends (q c.before), (s (q c.before)).requires.values_len_bound.1)
-
 pub overflow_add-c : goal.overflow_add-c
 overflow_add-c c = omega (arith, low (q c.before))
-
-pub loop-at-smaller : goal.loop-at-smaller
-loop-at-smaller c = let l = (q c.before).loop-at-test.true in omega (arith, l)
 
 pub loop-at-preserved : goal.loop-at-preserved
 loop-at-preserved c =
@@ -240,11 +225,6 @@ shape_of-chains c =
     let s = c.before.before.before.before.before.before.before.before.before.before in
     ap length c.note_count.ensures ∙ simp length-set (c.loop-at.invariant.linked.long
     ∙ sym s.requires.chains_len.0)
-
-pub shape_of-weights : goal.shape_of-weights
-shape_of-weights c =
-    let s = c.before.before.before.before.before.before.before.before.before.before in
-    c.loop-at.invariant.tallied.long ∙ sym s.requires.weights_len.0
 
 pub returns : goal.returns
 returns c =

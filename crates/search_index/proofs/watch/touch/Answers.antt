@@ -1,4 +1,4 @@
-use mathlib.Core.Path.{sym, ◌∙◌, subst}
+use mathlib.Core.Path.{sym, subst}
 use mathlib.Core.List.{List}
 use Prim.Native.Nat.{ℕ, ◌<◌, ◌≤◌}
 use native.Mathlib.Omega.{arith}
@@ -78,12 +78,6 @@ module _ (c : At-After-owner) where
       (get_or q.loop-i.weights c.owner-c.result 0)
   due = due-here (clauses (k q)) _ _ _ _ (static (k q)) _ _ (walk q) (positive q) _ c.owner-c.ensures _ (gains-are q)
 
-pub bounds-values-p : goal.bounds-values-p
-bounds-values-p c = (s c.before.before).requires.p_in_bounds
-
-pub first-i-requires : goal.first-i-requires
-first-i-requires c = let k = c.before.before.before in ((static k).linked.long, omega (arith, (s k).requires.p_in_bounds, few k))
-
 pub loop-i-init : goal.loop-i-init
 loop-i-init c =
     let k = c.before.before.before.before in
@@ -91,9 +85,6 @@ loop-i-init c =
 
 pub owner-c-requires : goal.owner-c-requires
 owner-c-requires c = ((static (k c.before)).linked.long, word_low c.before)
-
-pub offset_bounds-weights-c : goal.offset_bounds-weights-c
-offset_bounds-weights-c c = omega (arith, below c.before.before)
 
 pub bounds-weights-c : goal.bounds-weights-c
 bounds-weights-c c = let o = c.before.before.before in omega (arith, below o, (walk (q o)).tallied.long)
@@ -134,9 +125,6 @@ loop-i-preserved c =
     subst (λ j. Walk (clauses (k i)) a.values.now a.p a.was c.put.new.weights j) (sym c.link-i.ensures)
     (walk-on (clauses (k i)) _ _ _ _ (static (k i)) _ _ (walk i) (positive i) _ o.owner-c.ensures _ (gains-are i) _ _
     c.put.ensures c.renewed-w.ensures)
-
-pub shape_of-weights : goal.shape_of-weights
-shape_of-weights c = c.loop-i.invariant.tallied.long ∙ sym (index c.before.before.before.before.before.before).tallied.long
 
 pub returns : goal.returns
 returns c =

@@ -120,9 +120,6 @@ overflow_add-i-in-loop-i c =
     let h = s.requires.head in
     omega (arith, word-within _ _ s.requires.fine _ h _ _ _ (t.loop-i.invariant h) t.loop-i-test.true, s.well_formed.0.0)
 
-pub loop-i-smaller : goal.loop-i-smaller
-loop-i-smaller c = omega (arith, c.loop-i-test.true)
-
 pub loop-i-preserved : goal.loop-i-preserved
 loop-i-preserved c = λ h.
     let s = c.before.before.before.before.before.before.before.before.before.before in
