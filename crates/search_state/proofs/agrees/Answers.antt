@@ -31,7 +31,8 @@ pub place-at-requires : goal.place-at-requires
 place-at-requires c =
     let s = c.before.before.before.before in
     let v = length s.args.values.now in
-    rw (to_z-of_z s.ranges.l) (literal-low v s.args.l (is c.before), omega (arith, literal-high v s.args.l (is c.before), s.requires))
+    rw (to_z-of_z s.ranges.l)
+    (literal-low v s.args.l (is c.before), omega (arith, literal-high v s.args.l (is c.before), s.requires))
 
 -- its place
 at : (c : At-After-place) → c.place-at.result ≡ place_of c.args.l
@@ -51,4 +52,5 @@ pub returns : goal.returns
 returns c =
     let s = c.before.before.before.before.before.before.before in
     c.goes_with.ensures
-    ∙ agrees_at s.args.values.now _ s.args.l _ (to_z-of_z s.ranges.l) (at c.before.before.before) (is c.before.before.before.before)
+    ∙ agrees_at s.args.values.now _ s.args.l _ (to_z-of_z s.ranges.l) (at c.before.before.before)
+    (is c.before.before.before.before)

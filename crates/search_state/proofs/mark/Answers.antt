@@ -19,18 +19,28 @@ use Rattle.search_state.proofs.mark.Tie as tie
 use Rattle.search_state.proofs.mark.Reads as reads
 
 abbrev At-After-agrees : Type 0
-At-After-agrees = lts.After-agrees tie.the-claims reads.Pre reads.Post goal.the-invariant-loop-k goal.the-decreases-loop-k tie.handed_clauses
+At-After-agrees =
+    lts.After-agrees tie.the-claims reads.Pre reads.Post goal.the-invariant-loop-k goal.the-decreases-loop-k
+    tie.handed_clauses
 
 abbrev At-After-place : Type 0
-At-After-place = lts.After-place tie.the-claims reads.Pre reads.Post goal.the-invariant-loop-k goal.the-decreases-loop-k tie.handed_clauses
+At-After-place =
+    lts.After-place tie.the-claims reads.Pre reads.Post goal.the-invariant-loop-k goal.the-decreases-loop-k
+    tie.handed_clauses
 
 abbrev At-Else1 : Type 0
-At-Else1 = lts.Else1 tie.the-claims reads.Pre reads.Post goal.the-invariant-loop-k goal.the-decreases-loop-k tie.handed_clauses
+At-Else1 =
+    lts.Else1 tie.the-claims reads.Pre reads.Post goal.the-invariant-loop-k goal.the-decreases-loop-k tie.handed_clauses
 
 pub loop-k-init : goal.loop-k-init
 loop-k-init c =
-    let s = c.before.before.before in
-    (omega arith, (marked-none s.args.values.now s.args.literals.now s.args.seen.now s.requires.empty s.requires.values_in_bounds, refl))
+    let s = c.before.before.before in (
+      omega arith,
+      (
+        marked-none s.args.values.now s.args.literals.now s.args.seen.now s.requires.empty s.requires.values_in_bounds,
+        refl,
+      ),
+    )
 
 -- the literal in hand, as it stands on the trail
 abbrev literal : At-After-agrees → ℤ
@@ -65,7 +75,11 @@ place-at-requires c =
     let s = c.before.before.before.before.before.before.before.before in
     let v = length s.args.values.now in
     let l = literal c.before.before in
-    rw (was_read c.before.before) (literal-low v l (is-own c.before), omega (arith, literal-high v l (is-own c.before), s.requires.values_len_bound))
+    rw (was_read c.before.before) (
+      literal-low v l (is-own c.before),
+      omega
+          (arith, literal-high v l (is-own c.before), s.requires.values_len_bound),
+    )
 
 -- its place, which the table has
 at : (c : At-After-place) → c.place-at.result ≡ place_of (literal c.before.before)

@@ -8,7 +8,9 @@ use Rattle.search_core.proofs.run.go.Tie as tie
 use Rattle.search_core.proofs.run.go.Reads as reads
 
 abbrev At-In-loop : Type 0
-At-In-loop = lts.In-loop tie.the-claims reads.Pre reads.Post goal.the-invariant-loop-left goal.the-decreases-loop-left tie.handed_clauses
+At-In-loop =
+    lts.In-loop tie.the-claims reads.Pre reads.Post goal.the-invariant-loop-left goal.the-decreases-loop-left
+    tie.handed_clauses
 
 -- a step is left in a turn of the loop
 some_left : (c : At-In-loop) → 0 < c.loop-left.left

@@ -27,7 +27,8 @@ run_indexed-requires c = record {
   values_len_bound = c.requires.values_len_bound;
   some_stored = c.requires.some_stored;
   budget_bound = c.requires.budget_bound;
-  values_len_bound_2 = c.scanned_steps-few.ensures.1 (omega (arith, c.scanned_steps-few.ensures.0, c.if-few-budget.false));
+  values_len_bound_2 =
+      c.scanned_steps-few.ensures.1 (omega (arith, c.scanned_steps-few.ensures.0, c.if-few-budget.false));
 }
 
 -- after the first steps

@@ -19,6 +19,7 @@ loop-at-preserved c =
     elim c.if-weights-b-eq1.branch [
       | then-weights-b-eq1+else-c-end w ↦
           let le = w.lesser-end.ensures in
-          search-lowered _ _ _ _ _ few inv inside _ _ le.0 le.1 le.2 w.unit_within-c.ensures _ w.weights-is w.if-c-end.false
+          search-lowered _ _ _ _ _ few inv inside _ _ le.0 le.1 le.2 w.unit_within-c.ensures _ w.weights-is
+          w.if-c-end.false
       | else-weights-b-eq1 w ↦ rw w.weights-is (search-down _ _ _ _ _ few inv inside w.if-weights-b-eq1.false)
     ]

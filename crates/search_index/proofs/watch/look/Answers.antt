@@ -6,7 +6,8 @@ use native.Mathlib.Omega.{arith}
 use lib.IntN.{ℤ}
 use Rattle.clause_list.specs.ClauseList.{clauses_of}
 use Rattle.search_index.specs.Index.{IsHead, falses_at, Indexed, watched}
-use Rattle.search_index.proofs.Looking.{looks-false, size_low, tallied, looks-neither, unit-low, unit-head, looks-unit, lowered}
+use Rattle.search_index.proofs.Looking.{looks-false, size_low, tallied, looks-neither, unit-low, unit-head, looks-unit}
+use Rattle.search_index.proofs.Looking.{lowered}
 use Rattle.search_index.proofs.Touching.{indexed}
 use Rattle.search_index.proofs.watch.look.Goals as goal
 use Rattle.search_index.proofs.watch.look.Lts as lts
@@ -80,7 +81,8 @@ returns-then-c-m c =
     let u = c.first_unit-c.ensures in
     let e = c.count-m.ensures in record {
       result_value = c.sight.ensures (at_head c.before.before)
-          ∙ looks-unit (clauses k) _ _ _ (index k) _ e _ u.stopped (none c.before.before.before.before.before.before.before.before.before)
+          ∙ looks-unit (clauses k) _ _ _ (index k) _ e _ u.stopped
+          (none c.before.before.before.before.before.before.before.before.before)
           c.if-c-m.true _ c.head-at.ensures;
       watched_2 = watched (lowered (clauses k) _ _ _ (index k) _ e _ u.same.0 u.same.1);
     }
@@ -90,6 +92,8 @@ returns c =
     let k = c.before.before.before.before.before.before.before.before.before in
     let u = c.first_unit-c.ensures in
     let e = c.count-m.ensures in record {
-      result_value = looks-neither (clauses k) _ _ _ (index k) _ e _ u.stopped (none c.before.before.before.before.before.before.before) (omega (arith, c.if-c-m.false));
+      result_value =
+          looks-neither (clauses k) _ _ _ (index k) _ e _ u.stopped
+          (none c.before.before.before.before.before.before.before) (omega (arith, c.if-c-m.false));
       watched_2 = watched (lowered (clauses k) _ _ _ (index k) _ e _ u.same.0 u.same.1);
     }

@@ -117,7 +117,8 @@ pub overflow_sub-result : goal.overflow_sub-result
 overflow_sub-result c =
     let q = c.before.before.before in
     let s = r q in
-    gain-high (list s) (values s) s.requires.fine _ _ _ s.requires.due (plain q) (short s) _ (literal-is q) _ q.sign-s.ensures
+    gain-high (list s) (values s) s.requires.fine _ _ _ s.requires.due (plain q) (short s) _ (literal-is q) _
+    q.sign-s.ensures
 
 pub returns : goal.returns
 returns c d =
