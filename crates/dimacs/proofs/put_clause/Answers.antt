@@ -6,7 +6,7 @@ use native.Mathlib.Omega.{arith}
 use lib.IntN.{pos}
 use lib.ListN.{get_or, drop, length-set}
 use Rattle.text.proofs.Puts.{put_byte, put_two, put-length, put_as, room-first}
-use Rattle.text.proofs.Puts.{Left, left-all, left_as, left-room, left-put, left-last}
+use Rattle.text.proofs.Puts.{Left, left_as, left-room, left-put, left-last}
 use Rattle.literal.proofs.Signs.{back}
 use Rattle.dimacs.specs.Text.{literal_text, clause_line}
 use Rattle.dimacs.proofs.Lines.{line-from, line-end}
@@ -16,22 +16,28 @@ use Rattle.dimacs.proofs.put_clause.Tie as tie
 use Rattle.dimacs.proofs.put_clause.Reads as reads
 
 abbrev At-After-loop : Type 0
-At-After-loop = lts.After-loop tie.the-claims reads.Pre reads.Post goal.the-invariant-loop-i goal.the-decreases-loop-i tie.handed_clauses
+At-After-loop =
+    lts.After-loop tie.the-claims reads.Pre reads.Post goal.the-invariant-loop-i goal.the-decreases-loop-i
+    tie.handed_clauses
 
 abbrev At-After-put_literal : Type 0
-At-After-put_literal = lts.After-put_literal tie.the-claims reads.Pre reads.Post goal.the-invariant-loop-i goal.the-decreases-loop-i tie.handed_clauses
+At-After-put_literal =
+    lts.After-put_literal tie.the-claims reads.Pre reads.Post goal.the-invariant-loop-i goal.the-decreases-loop-i
+    tie.handed_clauses
 
 abbrev At-At-loop : Type 0
-At-At-loop = lts.At-loop tie.the-claims reads.Pre reads.Post goal.the-invariant-loop-i goal.the-decreases-loop-i tie.handed_clauses
+At-At-loop =
+    lts.At-loop tie.the-claims reads.Pre reads.Post goal.the-invariant-loop-i goal.the-decreases-loop-i
+    tie.handed_clauses
 
 abbrev At-In-loop : Type 0
-At-In-loop = lts.In-loop tie.the-claims reads.Pre reads.Post goal.the-invariant-loop-i goal.the-decreases-loop-i tie.handed_clauses
+At-In-loop =
+    lts.In-loop tie.the-claims reads.Pre reads.Post goal.the-invariant-loop-i goal.the-decreases-loop-i
+    tie.handed_clauses
 
 abbrev At-Start : Type 0
-At-Start = lts.Start tie.the-claims reads.Pre reads.Post goal.the-invariant-loop-i goal.the-decreases-loop-i tie.handed_clauses
-
-pub loop-i-init : goal.loop-i-init
-loop-i-init c = (omega arith, left-all c.args.text.now c.args.at (clause_line c.args.clause.now))
+At-Start =
+    lts.Start tie.the-claims reads.Pre reads.Post goal.the-invariant-loop-i goal.the-decreases-loop-i tie.handed_clauses
 
 -- what is still to be put in a turn, its literal first
 abbrev entered : At-At-loop → At-Start
@@ -51,7 +57,8 @@ put_literal-end-requires c =
     let l = get_or start.args.clause.now i (pos 0) in
     rw (back l (record { sfits = c.l-1.given })) (record {
       bound = start.requires.proper i c.loop-i-test.true;
-      room = room-first c.loop-i.text c.loop-i.end (literal_text l) (32 ∷ clause_line (drop (suc i) start.args.clause.now))
+      room = room-first c.loop-i.text c.loop-i.end (literal_text l)
+          (32 ∷ clause_line (drop (suc i) start.args.clause.now))
           (left-room start.requires.room (turn c.before.before));
     })
 
@@ -60,7 +67,8 @@ abbrev turning : At-After-put_literal → At-At-loop
 turning c = c.before.before.before.before
 
 after : (c : At-After-put_literal)
-    → Left (entered (turning c)).args.text.now (entered (turning c)).args.at (clause_line (entered (turning c)).args.clause.now)
+    → Left (entered (turning c)).args.text.now (entered (turning c)).args.at
+    (clause_line (entered (turning c)).args.clause.now)
     c.put_literal-end.new.text c.put_literal-end.result
     (32 ∷ clause_line (drop (suc (turning c).loop-i.i) (entered (turning c)).args.clause.now))
 after c =
@@ -96,15 +104,9 @@ ending c = left_as (line-end (entered c.before).args.clause.now c.loop-i.i c.loo
 pub bounds-text-end-2 : goal.bounds-text-end-2
 bounds-text-end-2 c = omega (arith, left-room c.requires.room (ending c))
 
-pub overflow_add-text : goal.overflow_add-text
-overflow_add-text c = omega (arith, left-room c.requires.room (ending c), (ending c).same, c.well_formed.0.0)
-
 pub bounds-text-end-3 : goal.bounds-text-end-3
 bounds-text-end-3 c =
     simp length-set (omega (arith, left-room c.requires.room (ending c)))
-
-pub overflow_add-result : goal.overflow_add-result
-overflow_add-result c = omega (arith, left-room c.requires.room (ending c), (ending c).same, c.well_formed.0.0)
 
 pub returns : goal.returns
 returns c = left-last (ending c) (put_two c.loop-i.text c.loop-i.end 48 10)

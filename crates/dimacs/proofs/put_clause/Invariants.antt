@@ -6,7 +6,9 @@ use Rattle.dimacs.specs.Text.{clause_line}
 use Rattle.dimacs.proofs.put_clause.Given as goal
 
 abbrev pub invariant-loop-i : goal.invariant-loop-i
-invariant-loop-i l = (l.i ≤ length l.clause) × Left l.initial.text l.at (clause_line l.clause) l.text l.end (clause_line (drop l.i l.clause))
+invariant-loop-i l =
+    (l.i ≤ length l.clause)
+    × Left l.initial.text l.at (clause_line l.clause) l.text l.end (clause_line (drop l.i l.clause))
 
 abbrev pub decreases-loop-i : goal.decreases-loop-i
 decreases-loop-i l = length l.clause - l.i

@@ -15,13 +15,18 @@ use Rattle.dimacs.proofs.put_clauses.Tie as tie
 use Rattle.dimacs.proofs.put_clauses.Reads as reads
 
 abbrev At-After-clause_end : Type 0
-At-After-clause_end = lts.After-clause_end tie.the-claims reads.Pre reads.Post goal.the-invariant-loop-i goal.the-decreases-loop-i tie.handed_clauses
+At-After-clause_end =
+    lts.After-clause_end tie.the-claims reads.Pre reads.Post goal.the-invariant-loop-i goal.the-decreases-loop-i
+    tie.handed_clauses
 
 abbrev At-At-loop : Type 0
-At-At-loop = lts.At-loop tie.the-claims reads.Pre reads.Post goal.the-invariant-loop-i goal.the-decreases-loop-i tie.handed_clauses
+At-At-loop =
+    lts.At-loop tie.the-claims reads.Pre reads.Post goal.the-invariant-loop-i goal.the-decreases-loop-i
+    tie.handed_clauses
 
 abbrev At-Start : Type 0
-At-Start = lts.Start tie.the-claims reads.Pre reads.Post goal.the-invariant-loop-i goal.the-decreases-loop-i tie.handed_clauses
+At-Start =
+    lts.Start tie.the-claims reads.Pre reads.Post goal.the-invariant-loop-i goal.the-decreases-loop-i tie.handed_clauses
 
 pub loop-i-init : goal.loop-i-init
 loop-i-init c =
@@ -56,18 +61,15 @@ turn : (c : At-After-clause_end)
     ++ clause_lines (clauses_of (drop c.clause_end-next.result (entered c).args.list.now)))
 turn c =
     let ws = (entered c).args.list.now in
-    let rest = ap (λ i. clause_line (clause_at ws (turning c).loop-i.i) ++ clause_lines (clauses_of (drop i ws))) (sym c.clause_end-next.ensures) in
+    let rest =
+    ap (λ i. clause_line (clause_at ws (turning c).loop-i.i) ++ clause_lines (clauses_of (drop i ws)))
+    (sym c.clause_end-next.ensures) in
     left_as (ap clause_lines (clause c).clauses ∙ lines_more _ _ ∙ rest) (turning c).loop-i.invariant.1
-
-pub offset_bounds-list-first : goal.offset_bounds-list-first
-offset_bounds-list-first c = omega (arith, (clause c.before).fits)
-
-pub slice_bounds-put_clause-count : goal.slice_bounds-put_clause-count
-slice_bounds-put_clause-count c = omega (arith, c.clause_end-next.ensures)
 
 -- what the call is lent is the clause
 lent : (c : At-After-clause_end)
-    → take (c.clause_end-next.result - ((turning c).loop-i.i + 1)) (drop ((turning c).loop-i.i + 1) (entered c).args.list.now)
+    → take (c.clause_end-next.result - ((turning c).loop-i.i + 1))
+    (drop ((turning c).loop-i.i + 1) (entered c).args.list.now)
     ≡ clause_at (entered c).args.list.now (turning c).loop-i.i
 lent c = part (entered c).args.list.now (turning c).loop-i.i c.clause_end-next.result c.clause_end-next.ensures
 
@@ -81,11 +83,6 @@ put_clause-end-requires c =
       proper = proper start.requires.listed.variables words (clause k).literals;
       room = room-first loop.text loop.end (clause_line words) _ (left-room start.requires.room (turn k));
     })
-
-pub loop-i-smaller : goal.loop-i-smaller
-loop-i-smaller c =
-    let k = c.before.before.before.before.before.before in
-    omega (arith, (clause k).fits, k.clause_end-next.ensures, k.loop-i-test.true)
 
 pub loop-i-preserved : goal.loop-i-preserved
 loop-i-preserved c =

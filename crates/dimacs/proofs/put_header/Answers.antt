@@ -42,21 +42,24 @@ put_bytes-number-requires c =
 abbrev start : At-After-put_bytes → At-Start
 start c = c.before.before.before.before.before
 
-word-put : (c : At-After-put_bytes) → Rest (start c) c.put_bytes-number.new.text c.put_bytes-number.result (after-word (start c))
+word-put : (c : At-After-put_bytes)
+    → Rest (start c) c.put_bytes-number.new.text c.put_bytes-number.result (after-word (start c))
 word-put c = left-put (at-start (start c)) c.put_bytes-number.ensures
 
 pub put_decimal-space-requires : goal.put_decimal-space-requires
 put_decimal-space-requires c =
     let k = c.before.before.before in
     let s = start k in
-    room-first k.put_bytes-number.new.text k.put_bytes-number.result (decimal s.args.v) (32 ∷ (decimal s.args.clauses ++ (10 ∷ [])))
+    room-first k.put_bytes-number.new.text k.put_bytes-number.result (decimal s.args.v)
+    (32 ∷ (decimal s.args.clauses ++ (10 ∷ [])))
     (left-room s.requires (word-put k))
 
 abbrev first : At-After-put_decimal → At-Start
 first c = start c.before.before.before.before
 
 variables-put : (c : At-After-put_decimal)
-    → Rest (first c) c.put_decimal-space.new.text c.put_decimal-space.result (32 ∷ (decimal (first c).args.clauses ++ (10 ∷ [])))
+    → Rest (first c) c.put_decimal-space.new.text c.put_decimal-space.result
+    (32 ∷ (decimal (first c).args.clauses ++ (10 ∷ [])))
 variables-put c = left-put (word-put c.before.before.before.before) c.put_decimal-space.ensures
 
 pub bounds-text-space : goal.bounds-text-space
@@ -82,7 +85,8 @@ put_decimal-feed-requires c =
 abbrev second : At-After-put_decimal2 → At-After-put_decimal
 second c = c.before.before.before.before
 
-clauses-put : (c : At-After-put_decimal2) → Rest (first (second c)) c.put_decimal-feed.new.text c.put_decimal-feed.result (10 ∷ [])
+clauses-put : (c : At-After-put_decimal2)
+    → Rest (first (second c)) c.put_decimal-feed.new.text c.put_decimal-feed.result (10 ∷ [])
 clauses-put c = left-put (space-put (second c)) c.put_decimal-feed.ensures
 
 pub bounds-text-feed : goal.bounds-text-feed

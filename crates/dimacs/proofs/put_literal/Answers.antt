@@ -43,9 +43,6 @@ returns-then-is_positive c = put_as (sym (positive c.before.before.before.before
 pub bounds-text-at : goal.bounds-text-at
 bounds-text-at c = omega (arith, c.requires.room, ap length (negative c))
 
-pub overflow_add-at : goal.overflow_add-at
-overflow_add-at c = omega (arith, bounds-text-at c.before, c.well_formed.0.0)
-
 pub put_decimal-requires-2 : goal.put_decimal-requires-2
 put_decimal-requires-2 c =
     let start = c.before.before.before.before.before in

@@ -45,8 +45,12 @@ pub returns-then-text-measured : goal.returns-then-text-measured
 returns-then-text-measured c =
     let a = c.args in
     let e = passed c.before.before.before.before in record {
-      result_value = sym (write-short a.v a.list.now a.text.now e (omega (arith, c.if-text-measured.true, c.measure-measured.ensures.bytes_value)));
-      text_after = sym (after-short a.v a.list.now a.text.now e (omega (arith, c.if-text-measured.true, c.measure-measured.ensures.bytes_value)));
+      result_value =
+          sym (write-short a.v a.list.now a.text.now e
+          (omega (arith, c.if-text-measured.true, c.measure-measured.ensures.bytes_value)));
+      text_after =
+          sym (after-short a.v a.list.now a.text.now e
+          (omega (arith, c.if-text-measured.true, c.measure-measured.ensures.bytes_value)));
     }
 
 -- there is room for the whole text
@@ -62,7 +66,8 @@ headed : (c : At-Else2)
     ≡ text_of (taken c).args.v (taken c).args.list.now
 headed c =
     let a = (taken c).args in
-    ap (λ n. header a.v n ++ clause_lines (clauses_of a.list.now)) c.measure-measured.ensures.clauses_value ∙ text-parts a.v a.list.now
+    ap (λ n. header a.v n ++ clause_lines (clauses_of a.list.now)) c.measure-measured.ensures.clauses_value
+    ∙ text-parts a.v a.list.now
 
 to-put : (c : At-Else2)
     → Left (taken c).args.text.now 0 (text_of (taken c).args.v (taken c).args.list.now) (taken c).args.text.now 0
@@ -90,7 +95,8 @@ abbrev branch : At-After-put_clauses → At-Else2
 branch c = c.before.before.before.before.before.before
 
 whole : (c : At-After-put_clauses)
-    → Put (taken (branch c)).args.text.now 0 (text_of (taken (branch c)).args.v (taken (branch c)).args.list.now) c.put_clauses-end.new.text
+    → Put (taken (branch c)).args.text.now 0 (text_of (taken (branch c)).args.v (taken (branch c)).args.list.now)
+    c.put_clauses-end.new.text
     c.put_clauses-end.result
 whole c = put_as (headed (branch c)) (put_both c.put_header-start.ensures c.put_clauses-end.ensures)
 
@@ -101,5 +107,6 @@ pub returns : goal.returns
 returns c =
     let k = branch c.before.before.before in
     let a = (taken k).args in
-    let d = write-put a.v a.list.now a.text.now (passed k.before.before.before) (omega (arith, roomy k)) (whole c.before.before.before) in
+    let d = write-put a.v a.list.now a.text.now (passed k.before.before.before) (omega (arith, roomy k))
+    (whole c.before.before.before) in
     record { result_value = d.0; text_after = d.1 }

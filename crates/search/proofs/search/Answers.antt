@@ -52,12 +52,6 @@ returns-then-trail-n c =
     (short-trail s.list.now s.v s.values.now s.trail.now s.budget (accepts c.before.before.before) c.if-trail-n.true) in
     record { result_value = d.0; values_after = d.1.0; trail_after = d.1.1 }
 
-pub slice_bounds-vs-end-2 : goal.slice_bounds-vs-end-2
-slice_bounds-vs-end-2 c = sym (length-take-le _ _ c.if-values-n.false)
-
-pub slice_bounds-ts-end-2 : goal.slice_bounds-ts-end-2
-slice_bounds-ts-end-2 c = sym (length-take-le _ _ c.if-trail-n.false)
-
 -- the parts that are lent on
 module _ (c : At-After-ts) where
   abbrev s : At-Start
@@ -83,7 +77,9 @@ returns c =
     let s = c.args in
     let e = rw (wide w) at c.fresh.ensures in
     let d = finishes s.v _ s.values.now _ s.trail.now _ _ _
-    (runs s.list.now s.v s.values.now s.trail.now s.budget (accepts c.before.before.before.before.before.before.before.before.before) c.if-values-n.false c.if-trail-n.false)
+    (runs s.list.now s.v s.values.now s.trail.now s.budget
+    (accepts c.before.before.before.before.before.before.before.before.before) c.if-values-n.false
+    c.if-trail-n.false)
     e.result_value e.values_after e.trail_after
     in
     record { result_value = d.0; values_after = d.1.0; trail_after = d.1.1 }

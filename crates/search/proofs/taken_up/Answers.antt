@@ -60,7 +60,9 @@ accepts : (c : At-Else1) → is_list c.args.v c.args.list.now ≡ true
 accepts c = sym c.before.is_list.ensures ∙ c.if-not-is_list.false
 
 pub returns-then-not-is_list : goal.returns-then-not-is_list
-returns-then-not-is_list c = declines refusal.List _ _ _ _ _ c.refused.ensures.0 c.refused.ensures.1 (no-list _ _ _ _ _ _ _ (refuses c.before.before))
+returns-then-not-is_list c =
+    declines refusal.List _ _ _ _ _ c.refused.ensures.0 c.refused.ensures.1
+    (no-list _ _ _ _ _ _ _ (refuses c.before.before))
 
 pub returns-then-values-n : goal.returns-then-values-n
 returns-then-values-n c =
@@ -71,12 +73,6 @@ pub returns-then-trail-n : goal.returns-then-trail-n
 returns-then-trail-n c =
     declines Short _ _ _ _ _ c.refused-then-trail-n.ensures.0 c.refused-then-trail-n.ensures.1
     (short-trail _ _ _ _ _ _ _ (accepts c.before.before.before.before) c.if-trail-n.true)
-
-pub slice_bounds-vs-end-2 : goal.slice_bounds-vs-end-2
-slice_bounds-vs-end-2 c = sym (length-take-le _ _ c.if-values-n.false)
-
-pub slice_bounds-ts-end-2 : goal.slice_bounds-ts-end-2
-slice_bounds-ts-end-2 c = sym (length-take-le _ _ c.if-trail-n.false)
 
 -- the parts that are lent on
 module _ (c : At-After-ts) where
@@ -142,7 +138,8 @@ module _ (c : At-Else4) where
 pub returns-then-not-is_state : goal.returns-then-not-is_state
 returns-then-not-is_state c =
     let t = c.before.before.before.before.before.before.before in
-    declines-back (v t) refusal.State _ _ _ _ _ c.refused-then-not-is_state.ensures.0 c.refused-then-not-is_state.ensures.1
+    declines-back (v t) refusal.State _ _ _ _ _ c.refused-then-not-is_state.ensures.0
+    c.refused-then-not-is_state.ensures.1
     (no-state _ _ _ _ _ _ _ (listed t) (in-values t) (in-trail t) (refuses-state c.before.before.before.before.before))
 
 -- what the test of the steps says
@@ -153,18 +150,21 @@ fewer : (done : Steps) (allowed : ℕ) → too_many done allowed ≡ false → t
 fewer done allowed e = ltb-false _ _ e
 
 too-many-steps : (c : At-Then5)
-    → step_limit < total (steps_of (from c.before.before.before).args.position) + (from c.before.before.before).args.budget
+    → step_limit < total (steps_of (from c.before.before.before).args.position) +
+    (from c.before.before.before).args.budget
 too-many-steps c = omega (arith, more _ _ (sym c.too_many.ensures ∙ c.if-too_many.true))
 
 few-steps : (c : At-Else5)
-    → total (steps_of (from c.before.before.before).args.position) + (from c.before.before.before).args.budget ≤ step_limit
+    → total (steps_of (from c.before.before.before).args.position) + (from c.before.before.before).args.budget ≤
+    step_limit
 few-steps c = omega (arith, fewer _ _ (sym c.too_many.ensures ∙ c.if-too_many.false))
 
 pub returns-then-too_many : goal.returns-then-too_many
 returns-then-too_many c =
     let t = c.before.before.before.before.before.before.before.before.before in
     declines-back (v t) refusal.State _ _ _ _ _ c.refused-then-too_many.ensures.0 c.refused-then-too_many.ensures.1
-    (too_many_lem _ _ _ _ _ _ _ (listed t) (in-values t) (in-trail t) (too-many-steps c.before.before.before.before.before))
+    (too_many_lem _ _ _ _ _ _ _ (listed t) (in-values t) (in-trail t)
+    (too-many-steps c.before.before.before.before.before))
 
 pub go_on-requires : goal.go_on-requires
 go_on-requires c =
@@ -181,5 +181,6 @@ returns c =
     let e = c.before.before.before.before.before.before.before in
     let t = c.before.before.before.before.before.before.before.before.before in
     finishes _ _ _ _ _ _ _ _
-    (runs _ _ _ _ _ _ _ (listed t) (in-values t) (in-trail t) (takes-state e) (few-steps c.before.before.before.before.before))
+    (runs _ _ _ _ _ _ _ (listed t) (in-values t) (in-trail t) (takes-state e)
+    (few-steps c.before.before.before.before.before))
     ((rw (wide t) at c.go_on.ensures) _ (stored e))

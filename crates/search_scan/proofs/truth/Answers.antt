@@ -5,7 +5,9 @@ use Rattle.search_scan.proofs.Words.{says-open, says-true-above, says-false-abov
 use Rattle.search_scan.proofs.truth.Goals as goal
 
 pub returns-then-x-eq2 : goal.returns-then-x-eq2
-returns-then-x-eq2 c = says-open c.args.values.now _ _ _ _ (to_z-of_z c.ranges.l) c.requires.in_range c.place-at.ensures refl _ refl c.if-x-eq2.true
+returns-then-x-eq2 c =
+    says-open c.args.values.now _ _ _ _ (to_z-of_z c.ranges.l) c.requires.in_range c.place-at.ensures refl _ refl
+    c.if-x-eq2.true
 
 pub returns-then-x-eq1 : goal.returns-then-x-eq1
 returns-then-x-eq1 c =

@@ -4,7 +4,6 @@ use mathlib.Core.Bool.{true}
 use native.Mathlib.Omega.{arith}
 use lib.ListN.{length}
 use mir.Facts.{to_z-of_z}
-use Rattle.prelude.proofs.Laws.{and-not-left}
 use Rattle.literal.specs.Literals.{is_literal}
 use Rattle.literal.proofs.Words.{literal-low, literal-high}
 use Rattle.search_rules.specs.Rules.{place_of}
@@ -21,12 +20,6 @@ At-After-place = lts.After-place tie.the-claims reads.Pre reads.Post
 abbrev At-Else1 : Type 0
 At-Else1 = lts.Else1 tie.the-claims reads.Pre reads.Post
 
-pub returns-then-not-is_literal : goal.returns-then-not-is_literal
-returns-then-not-is_literal c =
-    let s = c.before.before.before.before in
-    let e = is_within (length s.args.values.now) _ s.args.l s.requires (to_z-of_z s.ranges.l) in
-    sym (and-not-left _ _ (sym e ∙ sym c.is_literal.ensures ∙ c.if-not-is_literal.true))
-
 -- the word is a literal of the variables
 is : (c : At-Else1) → let s = c.args in is_literal (length s.values.now) s.l ≡ true
 is c =
@@ -38,7 +31,8 @@ pub place-at-requires : goal.place-at-requires
 place-at-requires c =
     let s = c.before.before.before.before in
     let v = length s.args.values.now in
-    rw (to_z-of_z s.ranges.l) (literal-low v s.args.l (is c.before), omega (arith, literal-high v s.args.l (is c.before), s.requires))
+    rw (to_z-of_z s.ranges.l)
+    (literal-low v s.args.l (is c.before), omega (arith, literal-high v s.args.l (is c.before), s.requires))
 
 -- its place
 at : (c : At-After-place) → c.place-at.result ≡ place_of c.args.l
@@ -58,4 +52,5 @@ pub returns : goal.returns
 returns c =
     let s = c.before.before.before.before.before.before.before in
     c.goes_with.ensures
-    ∙ agrees_at s.args.values.now _ s.args.l _ (to_z-of_z s.ranges.l) (at c.before.before.before) (is c.before.before.before.before)
+    ∙ agrees_at s.args.values.now _ s.args.l _ (to_z-of_z s.ranges.l) (at c.before.before.before)
+    (is c.before.before.before.before)

@@ -24,7 +24,8 @@ returns-then-is_positive c =
 below : (c : At-Else1) → let s = c.args in eqb s.b 0 || eqb s.b 3 ≡ goes_with s.l s.b
 below c =
     let s = c.before.before in
-    goes-below _ s.args.l s.args.b (to_z-of_z s.ranges.l) s.requires (sym c.is_positive.ensures ∙ c.if-is_positive.false)
+    goes-below _ s.args.l s.args.b (to_z-of_z s.ranges.l) s.requires
+    (sym c.is_positive.ensures ∙ c.if-is_positive.false)
 
 pub returns-then-b-eq0 : goal.returns-then-b-eq0
 returns-then-b-eq0 c =

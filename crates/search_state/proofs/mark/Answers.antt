@@ -19,18 +19,28 @@ use Rattle.search_state.proofs.mark.Tie as tie
 use Rattle.search_state.proofs.mark.Reads as reads
 
 abbrev At-After-agrees : Type 0
-At-After-agrees = lts.After-agrees tie.the-claims reads.Pre reads.Post goal.the-invariant-loop-k goal.the-decreases-loop-k tie.handed_clauses
+At-After-agrees =
+    lts.After-agrees tie.the-claims reads.Pre reads.Post goal.the-invariant-loop-k goal.the-decreases-loop-k
+    tie.handed_clauses
 
 abbrev At-After-place : Type 0
-At-After-place = lts.After-place tie.the-claims reads.Pre reads.Post goal.the-invariant-loop-k goal.the-decreases-loop-k tie.handed_clauses
+At-After-place =
+    lts.After-place tie.the-claims reads.Pre reads.Post goal.the-invariant-loop-k goal.the-decreases-loop-k
+    tie.handed_clauses
 
 abbrev At-Else1 : Type 0
-At-Else1 = lts.Else1 tie.the-claims reads.Pre reads.Post goal.the-invariant-loop-k goal.the-decreases-loop-k tie.handed_clauses
+At-Else1 =
+    lts.Else1 tie.the-claims reads.Pre reads.Post goal.the-invariant-loop-k goal.the-decreases-loop-k tie.handed_clauses
 
 pub loop-k-init : goal.loop-k-init
 loop-k-init c =
-    let s = c.before.before.before in
-    (omega arith, (marked-none s.args.values.now s.args.literals.now s.args.seen.now s.requires.empty s.requires.values_in_bounds, refl))
+    let s = c.before.before.before in (
+      omega arith,
+      (
+        marked-none s.args.values.now s.args.literals.now s.args.seen.now s.requires.empty s.requires.values_in_bounds,
+        refl,
+      ),
+    )
 
 -- the literal in hand, as it stands on the trail
 abbrev literal : At-After-agrees → ℤ
@@ -43,9 +53,6 @@ was_read c = back (literal c) (record { sfits = c.l-1.given })
 told : (c : At-After-agrees)
     → c.agrees.result ≡ agrees_with c.args.values.now (literal c)
 told c = c.agrees.ensures ∙ ap (agrees_with c.args.values.now) (was_read c)
-
-pub shape_of-seen-then-not-agrees : goal.shape_of-seen-then-not-agrees
-shape_of-seen-then-not-agrees c = c.loop-k.invariant.1.1
 
 pub returns-then-not-agrees : goal.returns-then-not-agrees
 unfolding MarkedIf
@@ -68,7 +75,11 @@ place-at-requires c =
     let s = c.before.before.before.before.before.before.before.before in
     let v = length s.args.values.now in
     let l = literal c.before.before in
-    rw (was_read c.before.before) (literal-low v l (is-own c.before), omega (arith, literal-high v l (is-own c.before), s.requires.values_len_bound))
+    rw (was_read c.before.before) (
+      literal-low v l (is-own c.before),
+      omega
+          (arith, literal-high v l (is-own c.before), s.requires.values_len_bound),
+    )
 
 -- its place, which the table has
 at : (c : At-After-place) → c.place-at.result ≡ place_of (literal c.before.before)
@@ -83,9 +94,6 @@ within c =
 
 pub bounds-seen-at : goal.bounds-seen-at
 bounds-seen-at c = within c.before.before
-
-pub shape_of-seen-then-seen-at : goal.shape_of-seen-then-seen-at
-shape_of-seen-then-seen-at c = c.loop-k.invariant.1.1
 
 pub returns-then-seen-at : goal.returns-then-seen-at
 unfolding MarkedIf
@@ -115,9 +123,6 @@ loop-k-preserved c =
         simp length-set inv.1,
       ),
     )
-
-pub shape_of-seen : goal.shape_of-seen
-shape_of-seen c = c.loop-k.invariant.1.1
 
 pub returns : goal.returns
 unfolding MarkedIf

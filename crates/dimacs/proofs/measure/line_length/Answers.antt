@@ -12,16 +12,21 @@ use Rattle.dimacs.proofs.measure.line_length.Tie as tie
 use Rattle.dimacs.proofs.measure.line_length.Reads as reads
 
 abbrev At-After-literal_length : Type 0
-At-After-literal_length = lts.After-literal_length tie.the-claims reads.Pre reads.Post goal.the-invariant-loop-i goal.the-decreases-loop-i tie.handed_clauses
+At-After-literal_length =
+    lts.After-literal_length tie.the-claims reads.Pre reads.Post goal.the-invariant-loop-i goal.the-decreases-loop-i
+    tie.handed_clauses
 
 abbrev At-After-loop : Type 0
-At-After-loop = lts.After-loop tie.the-claims reads.Pre reads.Post goal.the-invariant-loop-i goal.the-decreases-loop-i tie.handed_clauses
+At-After-loop =
+    lts.After-loop tie.the-claims reads.Pre reads.Post goal.the-invariant-loop-i goal.the-decreases-loop-i
+    tie.handed_clauses
 
 pub literal_length-requires : goal.literal_length-requires
 literal_length-requires c =
     let start = c.before.before.before in
     let i = c.loop-i.i in
-    rw (back (get_or start.args.clause.now i (pos 0)) (record { sfits = c.l-1.given })) (start.requires.proper i c.loop-i-test.true)
+    rw (back (get_or start.args.clause.now i (pos 0)) (record { sfits = c.l-1.given }))
+    (start.requires.proper i c.loop-i-test.true)
 
 -- the bytes before a literal, its own and its space's, and those of the line after it are all
 turn : (c : At-After-literal_length)

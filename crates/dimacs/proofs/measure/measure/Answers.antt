@@ -7,26 +7,36 @@ use Rattle.clause_list.proofs.Laws.{ClauseAt, clauses-few}
 use Rattle.dimacs.specs.Text.{clause_line, clause_lines, header, text_of}
 use Rattle.dimacs.specs.Private.{Listed}
 use Rattle.dimacs.proofs.Lines.{text-length, text-length-fits}
-use Rattle.dimacs.proofs.Walks.{count_at, clause_at, here, part, proper, Counted, counted_none, counted_next, counted-all}
+use Rattle.dimacs.proofs.Walks.{count_at, clause_at, here, part, proper, Counted, counted_none, counted_next}
+use Rattle.dimacs.proofs.Walks.{counted-all}
 use Rattle.dimacs.proofs.measure.measure.Goals as goal
 use Rattle.dimacs.proofs.measure.measure.Lts as lts
 use Rattle.dimacs.proofs.measure.measure.Tie as tie
 use Rattle.dimacs.proofs.measure.measure.Reads as reads
 
 abbrev At-After-clause_end : Type 0
-At-After-clause_end = lts.After-clause_end tie.the-claims reads.Pre reads.Post goal.the-invariant-loop-i goal.the-decreases-loop-i tie.handed_clauses
+At-After-clause_end =
+    lts.After-clause_end tie.the-claims reads.Pre reads.Post goal.the-invariant-loop-i goal.the-decreases-loop-i
+    tie.handed_clauses
 
 abbrev At-After-header_length : Type 0
-At-After-header_length = lts.After-header_length tie.the-claims reads.Pre reads.Post goal.the-invariant-loop-i goal.the-decreases-loop-i tie.handed_clauses
+At-After-header_length =
+    lts.After-header_length tie.the-claims reads.Pre reads.Post goal.the-invariant-loop-i goal.the-decreases-loop-i
+    tie.handed_clauses
 
 abbrev At-After-line_length : Type 0
-At-After-line_length = lts.After-line_length tie.the-claims reads.Pre reads.Post goal.the-invariant-loop-i goal.the-decreases-loop-i tie.handed_clauses
+At-After-line_length =
+    lts.After-line_length tie.the-claims reads.Pre reads.Post goal.the-invariant-loop-i goal.the-decreases-loop-i
+    tie.handed_clauses
 
 abbrev At-At-loop : Type 0
-At-At-loop = lts.At-loop tie.the-claims reads.Pre reads.Post goal.the-invariant-loop-i goal.the-decreases-loop-i tie.handed_clauses
+At-At-loop =
+    lts.At-loop tie.the-claims reads.Pre reads.Post goal.the-invariant-loop-i goal.the-decreases-loop-i
+    tie.handed_clauses
 
 abbrev At-Start : Type 0
-At-Start = lts.Start tie.the-claims reads.Pre reads.Post goal.the-invariant-loop-i goal.the-decreases-loop-i tie.handed_clauses
+At-Start =
+    lts.Start tie.the-claims reads.Pre reads.Post goal.the-invariant-loop-i goal.the-decreases-loop-i tie.handed_clauses
 
 abbrev listed : (s : At-Start) → Listed s.args.list.now
 listed s = record { variables = s.args.v; passes = s.requires }
@@ -49,16 +59,11 @@ entered c = c.before.before.before
 
 -- the clause at i
 clause : (c : At-After-clause_end)
-    → ClauseAt (entered c).args.v (entered c).args.list.now (turning c).loop-i.i (count_at (entered c).args.list.now (turning c).loop-i.i)
+    → ClauseAt (entered c).args.v (entered c).args.list.now (turning c).loop-i.i
+    (count_at (entered c).args.list.now (turning c).loop-i.i)
 clause c =
     let loop = (turning c).loop-i in
     here (entered c).args.list.now loop.i loop.invariant.at c.loop-i-test.true (listed (entered c))
-
-pub offset_bounds-list-first : goal.offset_bounds-list-first
-offset_bounds-list-first c = omega (arith, (clause c).fits)
-
-pub slice_bounds-line_length-count : goal.slice_bounds-line_length-count
-slice_bounds-line_length-count c = omega (arith, c.clause_end-end.ensures)
 
 -- the lines are a part of the text, whose length fits
 fitting : (s : At-Start) → length (clause_lines (clauses_of s.args.list.now)) < 2 ^ 34
@@ -70,7 +75,8 @@ fitting s =
 counting : (c : At-After-clause_end)
     → Counted (entered c).args.list.now c.clause_end-end.result ((turning c).loop-i.clauses + 1)
     ((turning c).loop-i.lines + length (clause_line (clause_at (entered c).args.list.now (turning c).loop-i.i)))
-counting c = counted_next (turning c).loop-i.invariant (listed (entered c)) c.loop-i-test.true c.clause_end-end.ensures refl
+counting c =
+    counted_next (turning c).loop-i.invariant (listed (entered c)) c.loop-i-test.true c.clause_end-end.ensures refl
 
 pub line_length-lines-requires : goal.line_length-lines-requires
 line_length-lines-requires c =
@@ -99,11 +105,6 @@ pub overflow_add-clauses : goal.overflow_add-clauses
 overflow_add-clauses c =
     let start = entered c.before.before in
     omega (arith, (after c).clauses_left, clauses-few start.args.list.now, start.well_formed.0)
-
-pub loop-i-smaller : goal.loop-i-smaller
-loop-i-smaller c =
-    let k = c.before.before in
-    omega (arith, (clause k).fits, k.clause_end-end.ensures, k.loop-i-test.true)
 
 pub loop-i-preserved : goal.loop-i-preserved
 loop-i-preserved c = after c

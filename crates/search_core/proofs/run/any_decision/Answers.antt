@@ -1,10 +1,6 @@
-use mathlib.Core.Path.{refl}
 use native.Mathlib.Omega.{arith}
 use Rattle.search_core.proofs.RunCode.{any_here, any-more, any_none}
 use Rattle.search_core.proofs.run.any_decision.Goals as goal
-
-pub loop-i-init : goal.loop-i-init
-loop-i-init c = (omega arith, refl)
 
 pub returns-then-values-i-eq3 : goal.returns-then-values-i-eq3
 returns-then-values-i-eq3 c = any_here _ _ c.loop-i-test.true c.loop-i.invariant.1 c.if-values-i-eq3.true

@@ -8,14 +8,9 @@ use Rattle.search_core.proofs.run.go.Tie as tie
 use Rattle.search_core.proofs.run.go.Reads as reads
 
 abbrev At-In-loop : Type 0
-At-In-loop = lts.In-loop tie.the-claims reads.Pre reads.Post goal.the-invariant-loop-left goal.the-decreases-loop-left tie.handed_clauses
-
-pub loop-left-init : goal.loop-left-init
-loop-left-init c = (
-  record { figure = refl; wide = refl; deep = refl; far = λ state i. record { at = state; stored = i; alike = refl } },
-  c.requires.watched,
-  refl,
-)
+At-In-loop =
+    lts.In-loop tie.the-claims reads.Pre reads.Post goal.the-invariant-loop-left goal.the-decreases-loop-left
+    tie.handed_clauses
 
 -- a step is left in a turn of the loop
 some_left : (c : At-In-loop) → 0 < c.loop-left.left
@@ -31,42 +26,12 @@ step-moved-requires c =
       watched = l.1;
     }
 
-pub shape_of-values-in-NoneLeft : goal.shape_of-values-in-NoneLeft
-shape_of-values-in-NoneLeft c =
-    c.step-moved.auto.values
-    ∙ c.loop-left.invariant.0.wide
-
-pub shape_of-trail-in-NoneLeft : goal.shape_of-trail-in-NoneLeft
-shape_of-trail-in-NoneLeft c =
-    c.step-moved.auto.trail
-    ∙ c.loop-left.invariant.0.deep
-
-pub shape_of-weights-in-NoneLeft : goal.shape_of-weights-in-NoneLeft
-shape_of-weights-in-NoneLeft c =
-    c.step-moved.auto.weights
-    ∙ c.loop-left.invariant.2
-
 pub returns-in-NoneLeft : goal.returns-in-NoneLeft
 returns-in-NoneLeft c state i =
     let l = c.loop-left.invariant.0 in
     let f = l.far state i in
     let s = (rw l.wide at c.in-NoneLeft.ensures.stepped) f.at f.stored in
     far_none _ _ _ _ _ _ _ _ _ f _ _ _ _ refl c.emptied-position.ensures s
-
-pub shape_of-values-in-AllSet : goal.shape_of-values-in-AllSet
-shape_of-values-in-AllSet c =
-    c.step-moved.auto.values
-    ∙ c.loop-left.invariant.0.wide
-
-pub shape_of-trail-in-AllSet : goal.shape_of-trail-in-AllSet
-shape_of-trail-in-AllSet c =
-    c.step-moved.auto.trail
-    ∙ c.loop-left.invariant.0.deep
-
-pub shape_of-weights-in-AllSet : goal.shape_of-weights-in-AllSet
-shape_of-weights-in-AllSet c =
-    c.step-moved.auto.weights
-    ∙ c.loop-left.invariant.2
 
 pub returns-in-AllSet : goal.returns-in-AllSet
 returns-in-AllSet c state i =
@@ -75,21 +40,8 @@ returns-in-AllSet c state i =
     let s = (rw l.wide at c.in-AllSet.ensures.stepped) f.at f.stored in
     far-found _ _ _ _ _ _ _ _ _ f _ _ _ refl s
 
-pub advance-position-requires : goal.advance-position-requires
-advance-position-requires c =
-    omega (
-      arith,
-      c.loop-left.invariant.0.figure,
-      c.loop-left-test.true,
-      c.requires.budget_bound,
-    )
-
 pub overflow_sub-left : goal.overflow_sub-left
 overflow_sub-left c = some_left c.before.before.before.before.before.before.before.before.before.before.before.before
-
-pub loop-left-smaller : goal.loop-left-smaller
-loop-left-smaller c =
-    omega (arith, c.loop-left-test.true)
 
 pub loop-left-preserved : goal.loop-left-preserved
 loop-left-preserved c =
@@ -109,13 +61,6 @@ loop-left-preserved c =
       c.step-moved.auto.weights ∙ loop.invariant.2,
     )
 
-pub ends-end-requires : goal.ends-end-requires
-ends-end-requires c =
-    let l = c.loop-left.invariant.0 in record {
-      fine = rw l.wide c.requires.fine;
-      values_len_bound = rw l.wide c.requires.values_len_bound;
-    }
-
 pub back-requires : goal.back-requires
 back-requires c =
     let l = c.loop-left.invariant in
@@ -126,21 +71,6 @@ back-requires c =
       watched = l.1;
     }
 
-pub shape_of-values-in-None : goal.shape_of-values-in-None
-shape_of-values-in-None c =
-    c.back.auto.values
-    ∙ c.loop-left.invariant.0.wide
-
-pub shape_of-trail-in-None : goal.shape_of-trail-in-None
-shape_of-trail-in-None c =
-    c.back.auto.trail
-    ∙ c.loop-left.invariant.0.deep
-
-pub shape_of-weights-in-None : goal.shape_of-weights-in-None
-shape_of-weights-in-None c =
-    c.back.auto.weights
-    ∙ c.loop-left.invariant.2
-
 pub returns-in-None : goal.returns-in-None
 returns-in-None c state i =
     let l = c.loop-left.invariant.0 in
@@ -149,30 +79,12 @@ returns-in-None c state i =
     let b = (rw l.wide at c.back.ensures.turned) f.at f.stored in
     rw c.in-None.is (far-emptied _ _ _ _ _ _ _ _ _ f _ _ _ _ _ refl e c.emptied-position-in-None.ensures b)
 
-pub shape_of-values-in-Found : goal.shape_of-values-in-Found
-shape_of-values-in-Found c = c.loop-left.invariant.0.wide
-
-pub shape_of-trail-in-Found : goal.shape_of-trail-in-Found
-shape_of-trail-in-Found c = c.loop-left.invariant.0.deep
-
-pub shape_of-weights-in-Found : goal.shape_of-weights-in-Found
-shape_of-weights-in-Found c = c.loop-left.invariant.2
-
 pub returns-in-Found : goal.returns-in-Found
 returns-in-Found c state i =
     let l = c.loop-left.invariant.0 in
     let f = l.far state i in
     let e = (rw l.wide at c.in-Found.ensures) f.at f.stored.was_open f.stored.values_are in
     rw c.in-Found.is (far-full _ _ _ _ _ _ _ _ _ f _ refl e)
-
-pub shape_of-values-in-Spent : goal.shape_of-values-in-Spent
-shape_of-values-in-Spent c = c.loop-left.invariant.0.wide
-
-pub shape_of-trail-in-Spent : goal.shape_of-trail-in-Spent
-shape_of-trail-in-Spent c = c.loop-left.invariant.0.deep
-
-pub shape_of-weights-in-Spent : goal.shape_of-weights-in-Spent
-shape_of-weights-in-Spent c = c.loop-left.invariant.2
 
 pub returns-in-Spent : goal.returns-in-Spent
 returns-in-Spent c state i =

@@ -8,7 +8,8 @@ use Rattle.search_core.proofs.run.go.Given as goal
 
 abbrev pub invariant-loop-left : goal.invariant-loop-left
 invariant-loop-left l =
-    Loop (clauses_of l.list) l.budget l.initial.values l.initial.trail l.initial.position l.values l.trail l.position l.left
+    Loop (clauses_of l.list) l.budget l.initial.values l.initial.trail l.initial.position l.values l.trail l.position
+    l.left
     × Watched (clauses_of l.list) l.values l.chains l.weights × (length l.weights ≡ length l.initial.weights)
 
 abbrev pub decreases-loop-left : goal.decreases-loop-left

@@ -27,15 +27,8 @@ run_indexed-requires c = record {
   values_len_bound = c.requires.values_len_bound;
   some_stored = c.requires.some_stored;
   budget_bound = c.requires.budget_bound;
-  values_len_bound_2 = c.scanned_steps-few.ensures.1 (omega (arith, c.scanned_steps-few.ensures.0, c.if-few-budget.false));
-}
-
-pub run_scanned-ran-requires : goal.run_scanned-ran-requires
-run_scanned-ran-requires c = record {
-  fine = c.requires.fine;
-  values_len_bound = c.requires.values_len_bound;
-  some_stored = c.requires.some_stored;
-  budget_bound = omega (arith, c.requires.budget_bound, c.scanned_steps-few.ensures.0);
+  values_len_bound_2 =
+      c.scanned_steps-few.ensures.1 (omega (arith, c.scanned_steps-few.ensures.0, c.if-few-budget.false));
 }
 
 -- after the first steps
@@ -66,10 +59,6 @@ module _ (c : At-After-run_scanned2) where
       (run (clauses_of s.args.list.now) (length s.args.values.now) s.args.budget (steps_of s.args.start) state)
       c.run_scanned-ran.result c.run_scanned-ran.new.values c.run_scanned-ran.new.trail
   early n state i = ended-early _ _ few _ some_left _ state _ _ _ n (c.run_scanned-ran.ensures state i)
-
-pub overflow_sub-budget : goal.overflow_sub-budget
-overflow_sub-budget c =
-    c.scanned_steps-few.ensures.0
 
 pub run_indexed-requires-in-Spent : goal.run_indexed-requires-in-Spent
 run_indexed-requires-in-Spent c =

@@ -1,10 +1,6 @@
 -- `search_core::run::run_next` meets its contract. Assumes nothing.
-use Rattle.search_core.proofs.NextCode.{not_full, is-full}
+use Rattle.search_core.proofs.NextCode.{not_full}
 use Rattle.search_core.proofs.run.run_next.Goals as goal
-
-pub returns-in-Found : goal.returns-in-Found
-returns-in-Found c state i =
-    c.turn_full.ensures state i (is-full _ (c.in-Found.ensures state i.was_open i.values_are))
 
 pub returns : goal.returns
 returns c state i =

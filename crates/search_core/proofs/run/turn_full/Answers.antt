@@ -26,7 +26,8 @@ pub returns-then-not-any_decision : goal.returns-then-not-any_decision
 returns-then-not-any_decision c state i full =
     let t = c.if-not-any_decision.true in
     let s : At-Start = c.before.before.before.before.before.before.before.before.before.before.before in
-    full-none _ _ state full s.args.start _ _ _ _ _ (no-turn _ state _ _ _ i (sym c.any_decision.ensures ∙ t)) c.emptied-position.ensures
+    full-none _ _ state full s.args.start _ _ _ _ _ (no-turn _ state _ _ _ i (sym c.any_decision.ensures ∙ t))
+    c.emptied-position.ensures
     (c.back_scanned.ensures state i)
 
 pub returns-then-budget-eq0 : goal.returns-then-budget-eq0
@@ -34,11 +35,6 @@ returns-then-budget-eq0 c state i full =
     let t = some_turn _ state _ _ _ i (sym c.any_decision.ensures ∙ c.if-not-any_decision.false) in
     let s : At-Start = c.before.before.before.before in
     full-waits _ _ state full s.args.start _ t.0 _ _ t.1 c.if-budget-eq0.true i
-
-pub advance-position-requires : goal.advance-position-requires
-advance-position-requires c =
-    let s : At-Start = c.before.before.before.before.before.before.before.before.before.before.before in
-    omega (arith, s.requires.budget_bound, c.if-budget-eq0.false)
 
 -- the state that is turned to
 module _ (c : At-After-run-arg2) where
@@ -50,7 +46,8 @@ module _ (c : At-After-run-arg2) where
       sym c.any_decision.ensures
       ∙ c.if-not-any_decision.false
 
-  goes_to : (state : State) → Stored (length s.args.values.now) state s.args.values.now s.args.trail.now s.args.start.length
+  goes_to : (state : State)
+      → Stored (length s.args.values.now) state s.args.values.now s.args.trail.now s.args.start.length
       → Turns (length s.args.values.now) state c.advance-position.result.length
       c.back_scanned-n.new.values
       c.back_scanned-n.new.trail

@@ -2,7 +2,7 @@ use mathlib.Core.Path.{◌≡◌, refl, sym, ◌∙◌, ap}
 use Prim.Native.Nat.{ℕ, ◌*◌, ◌-◌, ◌<◌, ◌≤◌}
 use native.Mathlib.Omega.{arith}
 use lib.IntN.{pos}
-use lib.ListN.{length, get_or, set, length-set}
+use lib.ListN.{length, get_or, set}
 use mir.Syntax.{w32, w64}
 use mir.Val.{Fits, to_z, of_z}
 use mir.Facts.{to_z-of_z}
@@ -16,7 +16,8 @@ use Rattle.search_rules.specs.Inner.{Fine}
 use Rattle.search_index.specs.Index.{Watched}
 use Rattle.search_core.specs.Inner.{SomeStored}
 use Rattle.search_rules.specs.Rules.{State, word_of, byte_of, place_of}
-use Rattle.search_core.proofs.Slices.{Went, Top, top_of, off-top, turn-top, turn_on, turned-word, went-none, size-values, size-trail}
+use Rattle.search_core.proofs.Slices.{Went, Top, top_of, off-top, turn-top, turn_on, turned-word, went-none}
+use Rattle.search_core.proofs.Slices.{size-values, size-trail}
 use Rattle.search_core.proofs.Touches.{touches}
 use Rattle.search_core.proofs.steps.back.Goals as goal
 use Rattle.search_core.proofs.steps.back.Lts as lts
@@ -24,22 +25,32 @@ use Rattle.search_core.proofs.steps.back.Tie as tie
 use Rattle.search_core.proofs.steps.back.Reads as reads
 
 abbrev At-After-l : Type 0
-At-After-l = lts.After-l tie.the-claims reads.Pre reads.Post goal.the-invariant-loop-n goal.the-decreases-loop-n tie.handed_clauses
+At-After-l =
+    lts.After-l tie.the-claims reads.Pre reads.Post goal.the-invariant-loop-n goal.the-decreases-loop-n
+    tie.handed_clauses
 
 abbrev At-After-place : Type 0
-At-After-place = lts.After-place tie.the-claims reads.Pre reads.Post goal.the-invariant-loop-n goal.the-decreases-loop-n tie.handed_clauses
+At-After-place =
+    lts.After-place tie.the-claims reads.Pre reads.Post goal.the-invariant-loop-n goal.the-decreases-loop-n
+    tie.handed_clauses
 
 abbrev At-At-loop : Type 0
-At-At-loop = lts.At-loop tie.the-claims reads.Pre reads.Post goal.the-invariant-loop-n goal.the-decreases-loop-n tie.handed_clauses
+At-At-loop =
+    lts.At-loop tie.the-claims reads.Pre reads.Post goal.the-invariant-loop-n goal.the-decreases-loop-n
+    tie.handed_clauses
 
 abbrev At-In-loop : Type 0
-At-In-loop = lts.In-loop tie.the-claims reads.Pre reads.Post goal.the-invariant-loop-n goal.the-decreases-loop-n tie.handed_clauses
+At-In-loop =
+    lts.In-loop tie.the-claims reads.Pre reads.Post goal.the-invariant-loop-n goal.the-decreases-loop-n
+    tie.handed_clauses
 
 abbrev At-Start : Type 0
-At-Start = lts.Start tie.the-claims reads.Pre reads.Post goal.the-invariant-loop-n goal.the-decreases-loop-n tie.handed_clauses
+At-Start =
+    lts.Start tie.the-claims reads.Pre reads.Post goal.the-invariant-loop-n goal.the-decreases-loop-n tie.handed_clauses
 
 abbrev At-Then1 : Type 0
-At-Then1 = lts.Then1 tie.the-claims reads.Pre reads.Post goal.the-invariant-loop-n goal.the-decreases-loop-n tie.handed_clauses
+At-Then1 =
+    lts.Then1 tie.the-claims reads.Pre reads.Post goal.the-invariant-loop-n goal.the-decreases-loop-n tie.handed_clauses
 
 -- the slices at the call
 module _ (c : At-Start) where
@@ -79,12 +90,6 @@ module _ (c : At-In-loop) where
   scaled : Fits w64 ((c.loop-n.n - 1) * 4)
   scaled = scaled_Fits _ (v s) _ top.below (rw (← long s) s.well_formed.1.1.0.1)
 
-pub loop-n-init : goal.loop-n-init
-loop-n-init c = ((λ state i. record { now_at = state; stored = i; alike = refl }), c.requires.watched, refl)
-
-pub overflow_sub-top : goal.overflow_sub-top
-overflow_sub-top c = c.loop-n-test.true
-
 pub offset_bounds-trail-top : goal.offset_bounds-trail-top
 offset_bounds-trail-top c = scaled c.before
 
@@ -103,8 +108,10 @@ place-at-requires c =
     rw (word-is c.before ∙ (top c.before.before).the_word) (r.0, (let h = r.1 in omega arith))
 
 module _ (c : At-After-place) where
-  at-is : (state : State) (i : Held (s c.before.before) state) → c.place-at.result ≡ place_of (word_of (topped c.before.before state i).e)
-  at-is state i = c.place-at.ensures ∙ place-of _ ∙ ap place_of (word-is c.before ∙ (topped c.before.before state i).the_word)
+  at-is : (state : State) (i : Held (s c.before.before) state) → c.place-at.result
+      ≡ place_of (word_of (topped c.before.before state i).e)
+  at-is state i =
+      c.place-at.ensures ∙ place-of _ ∙ ap place_of (word-is c.before ∙ (topped c.before.before state i).the_word)
 
   in-values : c.place-at.result < length c.loop-n.values
   in-values =
@@ -120,7 +127,8 @@ bounds-values-at-then-was-eq3 c = in-values c.before.before.before
 is-three : (c : At-Then1) (state : State) (i : Held (s c.before.before.before.before) state)
     → byte_of (topped c.before.before.before.before state i).e ≡ 3
 is-three c state i =
-    sym (topped c.before.before.before.before state i).the_byte ∙ (rw (at-is c.before.before state i) at c.if-was-eq3.true)
+    sym (topped c.before.before.before.before state i).the_byte
+    ∙ (rw (at-is c.before.before state i) at c.if-was-eq3.true)
 
 pub offset_bounds-trail-top-then-was-eq3 : goal.offset_bounds-trail-top-then-was-eq3
 offset_bounds-trail-top-then-was-eq3 c = scaled c.before.before.before.before.before.before
@@ -138,24 +146,13 @@ changed : (c : At-After-place) (b x : ℕ) → x ≡ get_or c.loop-n.values c.pl
     (s c.before.before).args.chains.now c.loop-n.weights))
 changed c b x e =
     let q = c.before.before in
-    touches _ _ _ _ b x _ _ refl (in-values c) e (rw (wide q) (s q).requires.fine) (omega (arith, wide q, (s q).requires.values_len_bound)) q.loop-n.invariant.1
+    touches _ _ _ _ b x _ _ refl (in-values c) e (rw (wide q) (s q).requires.fine)
+    (omega (arith, wide q, (s q).requires.values_len_bound)) q.loop-n.invariant.1
 
 pub touch-requires : goal.touch-requires
 touch-requires c =
     let t = changed c.before.before.before.before.before 1 3 (sym c.if-was-eq3.true) in
     record { fine = t.0; values_len_bound = t.1.0; p_in_bounds = t.1.1.0; watched = t.1.1.1 }
-
-pub shape_of-values-then-was-eq3 : goal.shape_of-values-then-was-eq3
-shape_of-values-then-was-eq3 c = simp length-set (wide c.before.before.before.before.before.before.before.before.before.before)
-
-pub shape_of-trail-then-was-eq3 : goal.shape_of-trail-then-was-eq3
-shape_of-trail-then-was-eq3 c =
-    let q = c.before.before.before.before.before.before.before.before.before.before in simp length-set (deep q ∙ sym (long (s q)))
-
-pub shape_of-weights-then-was-eq3 : goal.shape_of-weights-then-was-eq3
-shape_of-weights-then-was-eq3 c =
-    c.touch.auto.weights
-    ∙ c.loop-n.invariant.2
 
 pub returns-then-was-eq3 : goal.returns-then-was-eq3
 returns-then-was-eq3 c =
@@ -188,9 +185,6 @@ touch-requires-in-loop-n c =
     let t = changed c.before.before.before.before 2 _ refl in
     record { fine = t.0; values_len_bound = t.1.0; p_in_bounds = t.1.1.0; watched = t.1.1.1 }
 
-pub loop-n-smaller : goal.loop-n-smaller
-loop-n-smaller c = omega (arith, c.loop-n-test.true)
-
 pub loop-n-preserved : goal.loop-n-preserved
 loop-n-preserved c =
     let w = c.before.before.before.before.before in
@@ -217,10 +211,8 @@ pub shape_of-values : goal.shape_of-values
 shape_of-values c = size-values _ _ _ _ _ (ended c.before.before).stored
 
 pub shape_of-trail : goal.shape_of-trail
-shape_of-trail c = size-trail _ _ _ _ _ (ended c.before.before).stored ∙ sym (long c.before.before.before.before.before.before)
-
-pub shape_of-weights : goal.shape_of-weights
-shape_of-weights c = c.loop-n.invariant.2
+shape_of-trail c =
+    size-trail _ _ _ _ _ (ended c.before.before).stored ∙ sym (long c.before.before.before.before.before.before)
 
 pub returns : goal.returns
 returns c = record {

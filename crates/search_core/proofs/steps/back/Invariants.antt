@@ -11,7 +11,8 @@ use Rattle.search_core.proofs.steps.back.Given as goal
 
 abbrev pub invariant-loop-n : goal.invariant-loop-n
 invariant-loop-n l =
-    ((state : State) → Stored (length l.initial.values) state l.initial.values l.initial.trail l.used → Went (length l.initial.values) state l.values l.trail l.n)
+    ((state : State) → Stored (length l.initial.values) state l.initial.values l.initial.trail l.used
+    → Went (length l.initial.values) state l.values l.trail l.n)
     × Watched (clauses_of l.list) l.values l.chains l.weights × (length l.weights ≡ length l.initial.weights)
 
 abbrev pub decreases-loop-n : goal.decreases-loop-n

@@ -1,10 +1,6 @@
-use mathlib.Core.Path.{refl}
 use native.Mathlib.Omega.{arith}
 use Rattle.search_core.proofs.Lowest.{low-here, low-more, low-none}
 use Rattle.search_core.proofs.steps.lowest_open.Goals as goal
-
-pub loop-i-init : goal.loop-i-init
-loop-i-init c = (omega arith, refl)
 
 pub returns-then-values-i-eq2 : goal.returns-then-values-i-eq2
 returns-then-values-i-eq2 c = low-here _ _ c.loop-i-test.true c.loop-i.invariant.1 c.if-values-i-eq2.true

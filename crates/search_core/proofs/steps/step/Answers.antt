@@ -17,7 +17,8 @@ use Rattle.search_rules.proofs.Found.{place-below}
 use Rattle.search_scan.specs.Seen.{unit, seen}
 use Rattle.search_scan.proofs.Words.{place-of}
 use Rattle.search_core.proofs.Touches.{set-open}
-use Rattle.search_core.proofs.StepCode.{saw-unit, low-open, range-fits, has_room, open-room, step-none, step-turn, step-unit}
+use Rattle.search_core.proofs.StepCode.{saw-unit, low-open, range-fits, has_room, open-room, step-none, step-turn}
+use Rattle.search_core.proofs.StepCode.{step-unit}
 use Rattle.search_core.proofs.StepCode.{step-full, step-decide}
 use Rattle.search_core.proofs.steps.step.Goals as goal
 
@@ -32,7 +33,10 @@ module _ (list : List ℤ) (values : List ℕ) (f : Fine (length values) list) (
 
 pub returns-then-n-eq0 : goal.returns-then-n-eq0
 returns-then-n-eq0 c = record {
-  stepped = λ state i. step-none _ _ _ _ _ i _ _ _ _ c.in-Conflict.ensures.result_value (c.back-n.ensures.turned state i) c.if-n-eq0.true;
+  stepped =
+      λ state i.
+      step-none _ _ _ _ _ i _ _ _ _ c.in-Conflict.ensures.result_value (c.back-n.ensures.turned state i)
+      c.if-n-eq0.true;
   watched_2 = c.back-n.ensures.watched_2;
 }
 
@@ -97,7 +101,8 @@ pub touch-requires-in-Neither : goal.touch-requires-in-Neither
 touch-requires-in-Neither c =
     let p = c.requires in
     let w = (low-open _ _ c.lowest_open-i.ensures c.if-i-values.false).0 in
-    let t = set-open _ c.args.values.now _ _ 3 _ _ c.decide.ensures.values_after w.within w.is_open p.fine p.values_len_bound
+    let t = set-open _ c.args.values.now _ _ 3 _ _ c.decide.ensures.values_after w.within w.is_open p.fine
+    p.values_len_bound
     c.look-seen.ensures.watched_2
     in
     record { fine = t.0; values_len_bound = t.1.0; p_in_bounds = t.1.1.0; watched = t.1.1.1 }
@@ -110,7 +115,8 @@ overflow_add-result-in-Neither c =
 pub returns-else-n-eq0 : goal.returns-else-n-eq0
 returns-else-n-eq0 c = record {
   stepped = λ state i.
-      step-turn _ _ _ _ _ i _ _ _ _ c.in-Conflict.ensures.result_value (c.back-n.ensures.turned state i) c.if-n-eq0.false;
+      step-turn _ _ _ _ _ i _ _ _ _ c.in-Conflict.ensures.result_value (c.back-n.ensures.turned state i)
+      c.if-n-eq0.false;
   watched_2 = c.back-n.ensures.watched_2;
 }
 

@@ -5,12 +5,6 @@ use lib.ListN.{length-set}
 use Rattle.search_index.proofs.Flags.{begins-there}
 use Rattle.search_index.proofs.blocks.first_unit.Goals as goal
 
-pub overflow_cast-weights : goal.overflow_cast-weights
-overflow_cast-weights c = omega (arith, c.walk_blocks-c.ensures.stopped.upto, c.requires.m_le_limit)
-
-pub bounds-weights-17409 : goal.bounds-weights-17409
-bounds-weights-17409 c = omega (arith, c.walk_blocks-c.ensures.same.1.long)
-
 pub shape_of-weights : goal.shape_of-weights
 shape_of-weights c =
     length-set c.walk_blocks-c.new.weights 17409 _ ∙ c.walk_blocks-c.ensures.same.0.long

@@ -1,6 +1,5 @@
 -- `search_index::blocks::note_status` meets its contract. Assumes nothing.
 use mathlib.Core.Path.{◌∙◌}
-use native.Mathlib.Omega.{arith}
 use lib.ListN.{length-set}
 use Rattle.search_index.proofs.WeightCode.{Follows, follow, leave, noted}
 use Rattle.search_index.proofs.blocks.note_status.Goals as goal
@@ -12,9 +11,6 @@ use Rattle.search_index.proofs.blocks.note_status.Reads as reads
 abbrev At-Joined1 : Type 0
 At-Joined1 = lts.Joined1 tie.the-claims reads.Pre reads.Post tie.handed_clauses
 
-pub raise-requires : goal.raise-requires
-raise-requires c = let p = c.requires.weights_len in (p.0, omega (arith, p.1))
-
 -- the weights behind the branch
 follows : (c : At-Joined1) → Follows c.args.weights.now c.args.c
     c.args.new c.if-new-eq2.weights
@@ -22,17 +18,6 @@ follows c = elim c.if-new-eq2.branch [
   | then-new-eq2 w ↦ rw w.weights-is (follow _ _ _ _ w.raise.ensures)
   | else-new-eq2 w ↦ leave _ _ _ _ w.if-new-eq2.false w.weights-is
 ]
-
-pub bounds-weights-17408 : goal.bounds-weights-17408
-bounds-weights-17408 c = omega (arith, (follows c.before.before).long, c.requires.weights_len.0)
-
-pub recount-requires : goal.recount-requires
-recount-requires c =
-    let s = c.before.before.before.before in
-    (omega (arith, (follows c.before.before).falses_are, s.requires.weights_bound.0), (λ e. omega (arith, (follows c.before.before).falses_are, s.requires.weights_bound.1 e)), s.requires.weights_bound.2)
-
-pub bounds-weights-17408-2 : goal.bounds-weights-17408-2
-bounds-weights-17408-2 c = omega (arith, (follows c.before.before).long, c.requires.weights_len.0)
 
 pub shape_of-weights : goal.shape_of-weights
 shape_of-weights c = length-set c.if-new-eq2.weights 17408 c.recount.result ∙ (follows c.before.before).long

@@ -7,8 +7,11 @@ use Rattle.search_index.proofs.blocks.put.Goals as goal
 pub note_status-requires : goal.note_status-requires
 note_status-requires c =
     let s = c.before.before.before.before.before.before in record {
-      weights_len = (length-set s.args.weights.now s.args.c s.args.w ∙ s.requires.weights_len.0, s.requires.weights_len.1);
-      weights_bound = note-asks s.args.weights.now _ s.args.w s.requires.weights_len.0 s.requires.weights_len.1 _ _ c.status-old.ensures
+      weights_len =
+          (length-set s.args.weights.now s.args.c s.args.w ∙ s.requires.weights_len.0, s.requires.weights_len.1);
+      weights_bound =
+          note-asks s.args.weights.now _ s.args.w s.requires.weights_len.0 s.requires.weights_len.1 _ _
+          c.status-old.ensures
           s.requires.c_bound.0 s.requires.c_bound.1 c.if-new-old.true;
     }
 
@@ -21,4 +24,5 @@ returns-then-new-old c =
 pub returns-else-new-old : goal.returns-else-new-old
 returns-else-new-old c =
     let s = c.before.before.before.before.before in
-    put_same _ _ _ s.requires.weights_len.0 s.requires.weights_len.1 (sym c.status-new.ensures ∙ c.if-new-old.false ∙ c.status-old.ensures)
+    put_same _ _ _ s.requires.weights_len.0 s.requires.weights_len.1
+    (sym c.status-new.ensures ∙ c.if-new-old.false ∙ c.status-old.ensures)

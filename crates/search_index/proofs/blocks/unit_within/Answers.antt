@@ -7,16 +7,6 @@ use lib.ListN.{get_or}
 use Rattle.search_index.specs.Index.{told}
 use Rattle.search_index.proofs.blocks.unit_within.Goals as goal
 
-pub loop-c-init : goal.loop-c-init
-loop-c-init c = (omega arith, omega arith, λ d l b e. absurd (omega (arith, l, b)))
-
-pub returns-then-status-eq2 : goal.returns-then-status-eq2
-returns-then-status-eq2 c = record {
-  passed = c.loop-c.invariant.2;
-  found = λ _. sym c.status.ensures ∙ c.if-status-eq2.true;
-  upto = c.loop-c.invariant.1;
-}
-
 pub loop-c-preserved : goal.loop-c-preserved
 loop-c-preserved c =
     let inv = c.loop-c.invariant in
@@ -27,10 +17,3 @@ loop-c-preserved c =
           (λ z. c.if-status-eq2.false (c.status.ensures ∙ sym (ap (λ (k : ℕ). told (get_or weights k 0)) z) ∙ e))
           (λ h. inv.2 d l h e) (eq-or-lt_of_le (omega (arith, b))),
     )
-
-pub returns : goal.returns
-returns c = record {
-  passed = c.loop-c.invariant.2;
-  found = λ h. absurd (omega (arith, h, c.loop-c-test.false));
-  upto = c.loop-c.invariant.1;
-}

@@ -17,7 +17,8 @@ use Rattle.search_scan.proofs.Words.{place-of}
 use Rattle.search_index.specs.Index.{limit, clause_at, head_of, first_at, IsHead}
 use Rattle.search_index.proofs.Parts.{count-is, high}
 use Rattle.search_index.proofs.Words.{words_are, head_step, clauses-within}
-use Rattle.search_index.proofs.Entering.{Entered, spot-low, enter-first, enter-next, enter-end, enter-apart, word-within}
+use Rattle.search_index.proofs.Entering.{Entered, spot-low, enter-first, enter-next, enter-end, enter-apart}
+use Rattle.search_index.proofs.Entering.{word-within}
 use Rattle.search_index.proofs.Entering.{literal-range}
 use Rattle.search_index.proofs.chains.enter.Goals as goal
 use Rattle.search_index.proofs.chains.enter.Goals.{then-head-wide, else-head-wide}
@@ -26,22 +27,33 @@ use Rattle.search_index.proofs.chains.enter.Tie as tie
 use Rattle.search_index.proofs.chains.enter.Reads as reads
 
 abbrev At-After-known_count : Type 0
-At-After-known_count = lts.After-known_count tie.the-claims reads.Pre reads.Post goal.the-invariant-loop-i goal.the-decreases-loop-i tie.handed_clauses
+At-After-known_count =
+    lts.After-known_count tie.the-claims reads.Pre reads.Post goal.the-invariant-loop-i goal.the-decreases-loop-i
+    tie.handed_clauses
 
 abbrev At-After-known_count-arg : Type 0
-At-After-known_count-arg = lts.After-known_count-arg tie.the-claims reads.Pre reads.Post goal.the-invariant-loop-i goal.the-decreases-loop-i tie.handed_clauses
+At-After-known_count-arg =
+    lts.After-known_count-arg tie.the-claims reads.Pre reads.Post goal.the-invariant-loop-i goal.the-decreases-loop-i
+    tie.handed_clauses
 
 abbrev At-After-place : Type 0
-At-After-place = lts.After-place tie.the-claims reads.Pre reads.Post goal.the-invariant-loop-i goal.the-decreases-loop-i tie.handed_clauses
+At-After-place =
+    lts.After-place tie.the-claims reads.Pre reads.Post goal.the-invariant-loop-i goal.the-decreases-loop-i
+    tie.handed_clauses
 
 abbrev At-In-loop : Type 0
-At-In-loop = lts.In-loop tie.the-claims reads.Pre reads.Post goal.the-invariant-loop-i goal.the-decreases-loop-i tie.handed_clauses
+At-In-loop =
+    lts.In-loop tie.the-claims reads.Pre reads.Post goal.the-invariant-loop-i goal.the-decreases-loop-i
+    tie.handed_clauses
 
 abbrev At-Joined1 : Type 0
-At-Joined1 = lts.Joined1 tie.the-claims reads.Pre reads.Post goal.the-invariant-loop-i goal.the-decreases-loop-i tie.handed_clauses
+At-Joined1 =
+    lts.Joined1 tie.the-claims reads.Pre reads.Post goal.the-invariant-loop-i goal.the-decreases-loop-i
+    tie.handed_clauses
 
 abbrev At-Start : Type 0
-At-Start = lts.Start tie.the-claims reads.Pre reads.Post goal.the-invariant-loop-i goal.the-decreases-loop-i tie.handed_clauses
+At-Start =
+    lts.Start tie.the-claims reads.Pre reads.Post goal.the-invariant-loop-i goal.the-decreases-loop-i tie.handed_clauses
 
 module _ (c : At-Start) where
   abbrev list : List ℤ
@@ -74,7 +86,13 @@ module _ (c : At-After-known_count) where
   size_is = c.known_count.ensures ∙ ap count_of (word-is c.before)
 
   end_is : start.args.head + 1 + c.known_count.result ≡ head_of (clauses start) (suc start.args.c)
-  end_is = omega (arith, size_is, start.requires.c_in_bounds.1, head_step (clauses start) start.args.c start.requires.c_in_bounds.0)
+  end_is = omega (
+    arith,
+    size_is,
+    start.requires.c_in_bounds.1,
+    head_step (clauses start) start.args.c
+        start.requires.c_in_bounds.0,
+  )
 
 module _ (c : At-In-loop) where
   abbrev s : At-Start
@@ -109,7 +127,8 @@ module _ (c : At-In-loop) where
 
   ranged : InRange s.requires.roomy.v here
   ranged =
-      let r = literal-range (clauses s) s.args.c s.requires.c_in_bounds.0 _ _ _ _ inv short _ (list s) s.requires.roomy.fine refl in
+      let r = literal-range (clauses s) s.args.c s.requires.c_in_bounds.0 _ _ _ _ inv short _ (list s)
+      s.requires.roomy.fine refl in
       rw here-is r
 
 module _ (c : At-After-place) where
@@ -145,19 +164,14 @@ loop-i-init c =
     let s = start c.before in
     enter-first (clauses s) s.args.c s.requires.c_in_bounds.0 _ _ s.requires.c_in_bounds.1 s.requires.linked
 
-pub offset_bounds-list-i : goal.offset_bounds-list-i
-offset_bounds-list-i c = omega (arith, below c)
-
 pub bounds-list-i : goal.bounds-list-i
 bounds-list-i c = inside c
 
 pub place-p-requires : goal.place-p-requires
 place-p-requires c =
     let r = ranged c.before in
-    rw (back (here c.before) (sfits_of c.place-arg-1.given)) (r.0, (let h = r.1 in omega (arith, h, (s c.before).requires.roomy.few)))
-
-pub offset_bounds-chains-p : goal.offset_bounds-chains-p
-offset_bounds-chains-p c = omega (arith, place-low c)
+    rw (back (here c.before) (sfits_of c.place-arg-1.given))
+    (r.0, (let h = r.1 in omega (arith, h, (s c.before).requires.roomy.few)))
 
 pub bounds-chains-p : goal.bounds-chains-p
 bounds-chains-p c = omega (arith, place-low c.before.before, (inv (q c.before.before)).linked.long)
@@ -179,33 +193,18 @@ module _ (c : At-Joined1) where
   still-apart t =
       elim c.if-head-wide.branch [
         | then-head-wide w ↦ clash _ t w.apart-is
-        | else-head-wide w ↦
-            (sym w.apart-is ∙ t, omega (arith, w.if-head-wide.false, c.wide.ensures, (s word_at).requires.c_in_bounds.1))
+        | else-head-wide w ↦ (
+          sym w.apart-is
+              ∙ t,
+          omega (arith, w.if-head-wide.false, c.wide.ensures, (s word_at).requires.c_in_bounds.1),
+        )
       ]
 
 pub overflow_cast-chains : goal.overflow_cast-chains
 overflow_cast-chains c = omega (arith, number (word_at c))
 
-pub overflow_mul-chains : goal.overflow_mul-chains
-overflow_mul-chains c = omega (arith, below (word_at c))
-
-pub overflow_add-chains : goal.overflow_add-chains
-overflow_add-chains c = omega (arith, below (word_at c))
-
-pub offset_bounds-chains-i : goal.offset_bounds-chains-i
-offset_bounds-chains-i c = omega (arith, below (word_at c))
-
 pub bounds-chains-i : goal.bounds-chains-i
 bounds-chains-i c = omega (arith, below (word_at c), room c)
-
-pub overflow_mul-chains-in-loop-i : goal.overflow_mul-chains-in-loop-i
-overflow_mul-chains-in-loop-i c = omega (arith, below (word_at c))
-
-pub overflow_add-chains-in-loop-i : goal.overflow_add-chains-in-loop-i
-overflow_add-chains-in-loop-i c = omega (arith, below (word_at c))
-
-pub offset_bounds-chains-i-in-loop-i : goal.offset_bounds-chains-i-in-loop-i
-offset_bounds-chains-i-in-loop-i c = omega (arith, below (word_at c))
 
 pub bounds-chains-i-in-loop-i : goal.bounds-chains-i-in-loop-i
 bounds-chains-i-in-loop-i c = simp length-set (omega (arith, below (word_at c), room c))
@@ -213,26 +212,15 @@ bounds-chains-i-in-loop-i c = simp length-set (omega (arith, below (word_at c), 
 pub overflow_cast-chains-in-loop-i : goal.overflow_cast-chains-in-loop-i
 overflow_cast-chains-in-loop-i c = omega (arith, below (word_at c))
 
-pub offset_bounds-chains-p-in-loop-i : goal.offset_bounds-chains-p-in-loop-i
-offset_bounds-chains-p-in-loop-i c = omega (arith, place-low (placed c))
-
 pub bounds-chains-p-in-loop-i : goal.bounds-chains-p-in-loop-i
 bounds-chains-p-in-loop-i c = simp length-set (omega (arith, place-low (placed c), room c))
-
-pub overflow_add-i-in-loop-i : goal.overflow_add-i-in-loop-i
-overflow_add-i-in-loop-i c = omega (arith, below (word_at c))
-
-pub loop-i-smaller : goal.loop-i-smaller
-loop-i-smaller c = omega (arith, (word_at c).loop-i-test.true)
 
 pub loop-i-preserved : goal.loop-i-preserved
 loop-i-preserved c =
     let w = word_at c in
-    enter-next (clauses (s w)) (s w).args.c (s w).requires.c_in_bounds.0 _ _ _ _ (inv w) (short w) _ (place_is (placed c) ∙ ap place_of (here-is w))
+    enter-next (clauses (s w)) (s w).args.c (s w).requires.c_in_bounds.0 _ _ _ _ (inv w) (short w) _
+    (place_is (placed c) ∙ ap place_of (here-is w))
     (spot-low _ (s w).requires.roomy) (place-low (placed c)) (below w) _ (still-apart c)
-
-pub shape_of-chains : goal.shape_of-chains
-shape_of-chains c = c.loop-i.invariant.linked.long ∙ sym c.requires.linked.long
 
 pub returns : goal.returns
 returns c =

@@ -8,7 +8,8 @@ use borrow.Author.Rules.{sfits_of}
 use Rattle.clause_list.specs.ClauseList.{clauses_of, words_of}
 use Rattle.literal.specs.Words.{count_of}
 use Rattle.literal.proofs.Signs.{read, back}
-use Rattle.search_index.specs.Index.{limit, clause_at, head_of, IsHead, Spot, Linked, Roomy, Stands, weighed, looked, falses_at, one}
+use Rattle.search_index.specs.Index.{limit, clause_at, head_of, IsHead, Spot, Linked, Roomy, Stands, weighed, looked}
+use Rattle.search_index.specs.Index.{falses_at, one}
 use Rattle.search_index.proofs.Parts.{count-is, high}
 use Rattle.search_index.proofs.Words.{words_are, head_step, clauses-within}
 use Rattle.search_index.proofs.Entering.{spot-low}
@@ -21,28 +22,44 @@ use Rattle.search_index.proofs.watch.build.Tie as tie
 use Rattle.search_index.proofs.watch.build.Reads as reads
 
 abbrev At-After-enter : Type 0
-At-After-enter = lts.After-enter tie.the-claims reads.Pre reads.Post goal.the-invariant-loop-at goal.the-decreases-loop-at tie.handed_clauses
+At-After-enter =
+    lts.After-enter tie.the-claims reads.Pre reads.Post goal.the-invariant-loop-at goal.the-decreases-loop-at
+    tie.handed_clauses
 
 abbrev At-After-known_count : Type 0
-At-After-known_count = lts.After-known_count tie.the-claims reads.Pre reads.Post goal.the-invariant-loop-at goal.the-decreases-loop-at tie.handed_clauses
+At-After-known_count =
+    lts.After-known_count tie.the-claims reads.Pre reads.Post goal.the-invariant-loop-at goal.the-decreases-loop-at
+    tie.handed_clauses
 
 abbrev At-After-known_count-arg : Type 0
-At-After-known_count-arg = lts.After-known_count-arg tie.the-claims reads.Pre reads.Post goal.the-invariant-loop-at goal.the-decreases-loop-at tie.handed_clauses
+At-After-known_count-arg =
+    lts.After-known_count-arg tie.the-claims reads.Pre reads.Post goal.the-invariant-loop-at goal.the-decreases-loop-at
+    tie.handed_clauses
 
 abbrev At-After-note_head : Type 0
-At-After-note_head = lts.After-note_head tie.the-claims reads.Pre reads.Post goal.the-invariant-loop-at goal.the-decreases-loop-at tie.handed_clauses
+At-After-note_head =
+    lts.After-note_head tie.the-claims reads.Pre reads.Post goal.the-invariant-loop-at goal.the-decreases-loop-at
+    tie.handed_clauses
 
 abbrev At-After-put : Type 0
-At-After-put = lts.After-put tie.the-claims reads.Pre reads.Post goal.the-invariant-loop-at goal.the-decreases-loop-at tie.handed_clauses
+At-After-put =
+    lts.After-put tie.the-claims reads.Pre reads.Post goal.the-invariant-loop-at goal.the-decreases-loop-at
+    tie.handed_clauses
 
 abbrev At-In-loop : Type 0
-At-In-loop = lts.In-loop tie.the-claims reads.Pre reads.Post goal.the-invariant-loop-at goal.the-decreases-loop-at tie.handed_clauses
+At-In-loop =
+    lts.In-loop tie.the-claims reads.Pre reads.Post goal.the-invariant-loop-at goal.the-decreases-loop-at
+    tie.handed_clauses
 
 abbrev At-Joined1 : Type 0
-At-Joined1 = lts.Joined1 tie.the-claims reads.Pre reads.Post goal.the-invariant-loop-at goal.the-decreases-loop-at tie.handed_clauses
+At-Joined1 =
+    lts.Joined1 tie.the-claims reads.Pre reads.Post goal.the-invariant-loop-at goal.the-decreases-loop-at
+    tie.handed_clauses
 
 abbrev At-Start : Type 0
-At-Start = lts.Start tie.the-claims reads.Pre reads.Post goal.the-invariant-loop-at goal.the-decreases-loop-at tie.handed_clauses
+At-Start =
+    lts.Start tie.the-claims reads.Pre reads.Post goal.the-invariant-loop-at goal.the-decreases-loop-at
+    tie.handed_clauses
 
 module _ (s : At-Start) where
   abbrev list : List ℤ
@@ -55,7 +72,13 @@ module _ (s : At-Start) where
   clauses = clauses_of list
 
   roomy : Roomy list
-  roomy = record { v = length values; fine = s.requires.fine; few = s.requires.values_len_bound.0; short = s.requires.values_len_bound.1 }
+  roomy = record {
+    v = length values;
+    fine = s.requires.fine;
+    few = s.requires.values_len_bound.0;
+    short =
+        s.requires.values_len_bound.1;
+  }
 
   words : list ≡ words_of clauses
   words = words_are _ list s.requires.fine
@@ -111,7 +134,8 @@ module _ (q : At-In-loop) where
 pub loop-at-init : goal.loop-at-init
 loop-at-init c =
     let s = c.before.before.before.before in
-    built-first (clauses s) (values s) _ _ s.requires.chains_len.0 s.requires.chains_len.1 s.requires.weights_len.0 s.requires.weights_len.1
+    built-first (clauses s) (values s) _ _ s.requires.chains_len.0 s.requires.chains_len.1 s.requires.weights_len.0
+    s.requires.weights_len.1
 
 pub note_head-requires : goal.note_head-requires
 note_head-requires c = let q = c.before.before in ((inv q).linked.long, low q, at_low q)
@@ -122,7 +146,8 @@ module _ (c : At-After-note_head) where
   noting = c.before.before
 
   entry : Linked (clauses (s noting)) c.note_head.new.chains (at noting)
-  entry = noted-linked _ _ (spots (s noting)) (short (s noting)) _ _ _ _ (inv noting) (more noting) (low noting) _ c.note_head.ensures
+  entry = noted-linked _ _ (spots (s noting)) (short (s noting)) _ _ _ _ (inv noting) (more noting) (low noting) _
+      c.note_head.ensures
 
 pub enter-apart-requires : goal.enter-apart-requires
 enter-apart-requires c =
@@ -180,20 +205,12 @@ module _ (c : At-After-put) where
   abbrev putting : At-In-loop
   putting = weighing joined
 
-pub overflow_add-at : goal.overflow_add-at
-overflow_add-at c = omega (arith, at_low (putting c.before.before.before))
-
-pub offset_bounds-list-at : goal.offset_bounds-list-at
-offset_bounds-list-at c = omega (arith, at_low (putting c.before.before.before))
-
-pub bounds-list-at : goal.bounds-list-at
-bounds-list-at c = (putting c.before.before.before).loop-at-test.true
-
 module _ (c : At-After-known_count-arg) where
   abbrev counting : At-In-loop
   counting = putting c.before.before.before
 
-  word-is : read (get_or (list (s counting)) (at counting) (pos 0)) ≡ pos (length (clause_at (clauses (s counting)) (n counting)))
+  word-is : read (get_or (list (s counting)) (at counting) (pos 0))
+      ≡ pos (length (clause_at (clauses (s counting)) (n counting)))
   word-is = back _ (sfits_of c.known_count-arg-1.given) ∙ counts counting
 
 pub known_count-requires : goal.known_count-requires
@@ -212,14 +229,8 @@ module _ (c : At-After-known_count) where
   next-is : at q + 1 + c.known_count.result ≡ head_of (clauses (s q)) (suc (n q))
   next-is = omega (arith, size_is, (inv q).place, head_step (clauses (s q)) (n q) (more q))
 
-pub overflow_add-at-in-loop-at : goal.overflow_add-at-in-loop-at
-overflow_add-at-in-loop-at c = omega (arith, size_is c.before, ends (q c.before), (s (q c.before)).requires.values_len_bound.1)
-
 pub overflow_add-c : goal.overflow_add-c
 overflow_add-c c = omega (arith, low (q c.before))
-
-pub loop-at-smaller : goal.loop-at-smaller
-loop-at-smaller c = let l = (q c.before).loop-at-test.true in omega (arith, l)
 
 pub loop-at-preserved : goal.loop-at-preserved
 loop-at-preserved c =
@@ -240,11 +251,6 @@ shape_of-chains c =
     let s = c.before.before.before.before.before.before.before.before.before.before in
     ap length c.note_count.ensures ∙ simp length-set (c.loop-at.invariant.linked.long
     ∙ sym s.requires.chains_len.0)
-
-pub shape_of-weights : goal.shape_of-weights
-shape_of-weights c =
-    let s = c.before.before.before.before.before.before.before.before.before.before in
-    c.loop-at.invariant.tallied.long ∙ sym s.requires.weights_len.0
 
 pub returns : goal.returns
 returns c =

@@ -5,8 +5,9 @@ use Prim.Native.Nat.{◌≤◌}
 use native.Mathlib.Omega.{arith}
 use lib.IntN.{ℤ}
 use Rattle.clause_list.specs.ClauseList.{clauses_of}
-use Rattle.search_index.specs.Index.{IsHead, falses_at, Indexed, unwatched, watched}
-use Rattle.search_index.proofs.Looking.{looks-false, size_low, tallied, looks-neither, unit-low, unit-head, looks-unit, lowered}
+use Rattle.search_index.specs.Index.{IsHead, falses_at, Indexed, watched}
+use Rattle.search_index.proofs.Looking.{looks-false, size_low, tallied, looks-neither, unit-low, unit-head, looks-unit}
+use Rattle.search_index.proofs.Looking.{lowered}
 use Rattle.search_index.proofs.Touching.{indexed}
 use Rattle.search_index.proofs.watch.look.Goals as goal
 use Rattle.search_index.proofs.watch.look.Lts as lts
@@ -25,12 +26,6 @@ At-Else2 = lts.Else2 tie.the-claims reads.Pre reads.Post tie.handed_clauses
 abbrev At-Start : Type 0
 At-Start = lts.Start tie.the-claims reads.Pre reads.Post tie.handed_clauses
 
-pub returns-then-weights-eq0 : goal.returns-then-weights-eq0
-returns-then-weights-eq0 c = record {
-  result_value = c.scan.ensures;
-  watched_2 = unwatched c.if-weights-eq0.true;
-}
-
 -- where there are weights
 module _ (c : At-Else1) where
   abbrev s : At-Start
@@ -42,9 +37,6 @@ module _ (c : At-Else1) where
   index : Indexed clauses s.args.values.now s.args.chains.now s.args.weights.now
   index = indexed _ _ _ _ s.requires.watched c.if-weights-eq0.false
 
-pub falses-requires : goal.falses-requires
-falses-requires c = (index c.before).tallied.long
-
 pub returns-then-falses-gt0 : goal.returns-then-falses-gt0
 returns-then-falses-gt0 c =
     let k = c.before.before.before in record {
@@ -55,9 +47,6 @@ returns-then-falses-gt0 c =
 -- where no clause is false
 none : (c : At-Else2) → falses_at (s c.before.before).args.weights.now ≤ 0
 none c = omega (arith, c.if-falses-gt0.false, c.falses.ensures)
-
-pub count-m-requires : goal.count-m-requires
-count-m-requires c = (index c.before.before.before).chains_are.linked.long
 
 pub first_unit-c-requires : goal.first_unit-c-requires
 first_unit-c-requires c =
@@ -85,13 +74,6 @@ at_head c =
     (none c.before.before.before.before.before.before.before) c.if-c-m.true _
     c.head-at.ensures
 
-pub sight-requires : goal.sight-requires
-sight-requires c = record {
-  fine = (s c.before.before.before.before.before.before.before.before.before.before).requires.fine;
-  values_len_bound = (s c.before.before.before.before.before.before.before.before.before.before).requires.values_len_bound;
-  head = at_head c.before;
-}
-
 pub returns-then-c-m : goal.returns-then-c-m
 unfolding at_head
 returns-then-c-m c =
@@ -99,7 +81,8 @@ returns-then-c-m c =
     let u = c.first_unit-c.ensures in
     let e = c.count-m.ensures in record {
       result_value = c.sight.ensures (at_head c.before.before)
-          ∙ looks-unit (clauses k) _ _ _ (index k) _ e _ u.stopped (none c.before.before.before.before.before.before.before.before.before)
+          ∙ looks-unit (clauses k) _ _ _ (index k) _ e _ u.stopped
+          (none c.before.before.before.before.before.before.before.before.before)
           c.if-c-m.true _ c.head-at.ensures;
       watched_2 = watched (lowered (clauses k) _ _ _ (index k) _ e _ u.same.0 u.same.1);
     }
@@ -109,6 +92,8 @@ returns c =
     let k = c.before.before.before.before.before.before.before.before.before in
     let u = c.first_unit-c.ensures in
     let e = c.count-m.ensures in record {
-      result_value = looks-neither (clauses k) _ _ _ (index k) _ e _ u.stopped (none c.before.before.before.before.before.before.before) (omega (arith, c.if-c-m.false));
+      result_value =
+          looks-neither (clauses k) _ _ _ (index k) _ e _ u.stopped
+          (none c.before.before.before.before.before.before.before) (omega (arith, c.if-c-m.false));
       watched_2 = watched (lowered (clauses k) _ _ _ (index k) _ e _ u.same.0 u.same.1);
     }

@@ -11,7 +11,7 @@ use Rattle.literal.proofs.Signs.{back}
 use borrow.Author.Rules.{sfits_of}
 use Rattle.clause_list.specs.ClauseList.{clauses_of}
 use Rattle.search_index.specs.Index.{IsHead, Chains, looked, Due}
-use Rattle.search_index.proofs.Renewing.{word-within, head-found, owner-within, sign_low, gain-fits, gain-high, renewed-stands}
+use Rattle.search_index.proofs.Renewing.{word-within, head-found, owner-within, sign_low, gain-high, renewed-stands}
 use Rattle.search_index.proofs.Words.{words_are, clauses-within}
 use Rattle.search_index.proofs.watch.renewed.Goals as goal
 use Rattle.search_index.proofs.watch.renewed.Lts as lts
@@ -110,23 +110,15 @@ module _ (c : At-After-sign) where
   below =
       sign_low (list r) (values r) r.requires.fine _ _ _ r.requires.due plain (short r) _ literal-is _ c.sign-s.ensures
 
-pub offset_bounds-gains-s : goal.offset_bounds-gains-s
-offset_bounds-gains-s c = omega (arith, below c.before)
-
 pub bounds-gains-s : goal.bounds-gains-s
 bounds-gains-s c = below c.before.before
-
-pub overflow_add-result : goal.overflow_add-result
-overflow_add-result c =
-    let q = c.before.before.before in
-    let s = r q in
-    omega (arith, gain-fits (list s) (values s) s.requires.fine _ _ _ s.requires.due (plain q) (short s) _ (literal-is q) _ q.sign-s.ensures)
 
 pub overflow_sub-result : goal.overflow_sub-result
 overflow_sub-result c =
     let q = c.before.before.before in
     let s = r q in
-    gain-high (list s) (values s) s.requires.fine _ _ _ s.requires.due (plain q) (short s) _ (literal-is q) _ q.sign-s.ensures
+    gain-high (list s) (values s) s.requires.fine _ _ _ s.requires.due (plain q) (short s) _ (literal-is q) _
+    q.sign-s.ensures
 
 pub returns : goal.returns
 returns c d =

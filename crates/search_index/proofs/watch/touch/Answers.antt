@@ -1,4 +1,4 @@
-use mathlib.Core.Path.{sym, ◌∙◌, subst}
+use mathlib.Core.Path.{sym, subst}
 use mathlib.Core.List.{List}
 use Prim.Native.Nat.{ℕ, ◌<◌, ◌≤◌}
 use native.Mathlib.Omega.{arith}
@@ -14,16 +14,22 @@ use Rattle.search_index.proofs.watch.touch.Tie as tie
 use Rattle.search_index.proofs.watch.touch.Reads as reads
 
 abbrev At-After-owner : Type 0
-At-After-owner = lts.After-owner tie.the-claims reads.Pre reads.Post goal.the-invariant-loop-i goal.the-decreases-loop-i tie.handed_clauses
+At-After-owner =
+    lts.After-owner tie.the-claims reads.Pre reads.Post goal.the-invariant-loop-i goal.the-decreases-loop-i
+    tie.handed_clauses
 
 abbrev At-Else1 : Type 0
-At-Else1 = lts.Else1 tie.the-claims reads.Pre reads.Post goal.the-invariant-loop-i goal.the-decreases-loop-i tie.handed_clauses
+At-Else1 =
+    lts.Else1 tie.the-claims reads.Pre reads.Post goal.the-invariant-loop-i goal.the-decreases-loop-i tie.handed_clauses
 
 abbrev At-In-loop : Type 0
-At-In-loop = lts.In-loop tie.the-claims reads.Pre reads.Post goal.the-invariant-loop-i goal.the-decreases-loop-i tie.handed_clauses
+At-In-loop =
+    lts.In-loop tie.the-claims reads.Pre reads.Post goal.the-invariant-loop-i goal.the-decreases-loop-i
+    tie.handed_clauses
 
 abbrev At-Start : Type 0
-At-Start = lts.Start tie.the-claims reads.Pre reads.Post goal.the-invariant-loop-i goal.the-decreases-loop-i tie.handed_clauses
+At-Start =
+    lts.Start tie.the-claims reads.Pre reads.Post goal.the-invariant-loop-i goal.the-decreases-loop-i tie.handed_clauses
 
 pub returns-then-weights-eq0 : goal.returns-then-weights-eq0
 returns-then-weights-eq0 c = unwatched c.if-weights-eq0.true
@@ -78,22 +84,14 @@ module _ (c : At-After-owner) where
       (get_or q.loop-i.weights c.owner-c.result 0)
   due = due-here (clauses (k q)) _ _ _ _ (static (k q)) _ _ (walk q) (positive q) _ c.owner-c.ensures _ (gains-are q)
 
-pub bounds-values-p : goal.bounds-values-p
-bounds-values-p c = (s c.before.before).requires.p_in_bounds
-
-pub first-i-requires : goal.first-i-requires
-first-i-requires c = let k = c.before.before.before in ((static k).linked.long, omega (arith, (s k).requires.p_in_bounds, few k))
-
 pub loop-i-init : goal.loop-i-init
 loop-i-init c =
     let k = c.before.before.before.before in
-    rw c.first-i.ensures (walk_first (clauses k) _ _ _ _ (static k) _ (index k) (omega (arith, (s k).requires.p_in_bounds, few k)))
+    rw c.first-i.ensures
+    (walk_first (clauses k) _ _ _ _ (static k) _ (index k) (omega (arith, (s k).requires.p_in_bounds, few k)))
 
 pub owner-c-requires : goal.owner-c-requires
 owner-c-requires c = ((static (k c.before)).linked.long, word_low c.before)
-
-pub offset_bounds-weights-c : goal.offset_bounds-weights-c
-offset_bounds-weights-c c = omega (arith, below c.before.before)
 
 pub bounds-weights-c : goal.bounds-weights-c
 bounds-weights-c c = let o = c.before.before.before in omega (arith, below o, (walk (q o)).tallied.long)
@@ -112,11 +110,14 @@ put-requires c =
     let o = c.before.before.before.before.before in
     let i = q o in record {
       weights_len = ((walk i).tallied.long, below o);
-      c_bound = asks-here (clauses (k i)) _ _ _ _ (static (k i)) _ _ (walk i) (positive i) _ o.owner-c.ensures _ (gains-are i);
+      c_bound =
+          asks-here (clauses (k i)) _ _ _ _ (static (k i)) _ _ (walk i) (positive i) _ o.owner-c.ensures _
+          (gains-are i);
     }
 
 pub link-i-requires : goal.link-i-requires
-link-i-requires c = let i = q c.before.before.before.before.before.before.before.before in ((static (k i)).linked.long, word_low i)
+link-i-requires c = let i = q c.before.before.before.before.before.before.before.before in
+    ((static (k i)).linked.long, word_low i)
 
 pub loop-i-smaller : goal.loop-i-smaller
 loop-i-smaller c =
@@ -134,9 +135,6 @@ loop-i-preserved c =
     subst (λ j. Walk (clauses (k i)) a.values.now a.p a.was c.put.new.weights j) (sym c.link-i.ensures)
     (walk-on (clauses (k i)) _ _ _ _ (static (k i)) _ _ (walk i) (positive i) _ o.owner-c.ensures _ (gains-are i) _ _
     c.put.ensures c.renewed-w.ensures)
-
-pub shape_of-weights : goal.shape_of-weights
-shape_of-weights c = c.loop-i.invariant.tallied.long ∙ sym (index c.before.before.before.before.before.before).tallied.long
 
 pub returns : goal.returns
 returns c =

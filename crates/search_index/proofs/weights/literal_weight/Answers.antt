@@ -11,14 +11,16 @@ overflow_sub-result c =
     omega (
       arith,
       c.byte_weight-w.ensures,
-      weighs-below s.args.x _ s.args.l (to_z-of_z s.ranges.l) s.requires (sym c.is_positive.ensures ∙ c.if-is_positive.false),
+      weighs-below s.args.x _ s.args.l (to_z-of_z s.ranges.l) s.requires
+          (sym c.is_positive.ensures ∙ c.if-is_positive.false),
     )
 
 pub returns-then-is_positive : goal.returns-then-is_positive
 returns-then-is_positive c =
     let s = c.before.before.before in
     c.byte_weight-w.ensures ∙ sym
-    (weighs-above s.args.x _ s.args.l (to_z-of_z s.ranges.l) s.requires (sym c.is_positive.ensures ∙ c.if-is_positive.true))
+    (weighs-above s.args.x _ s.args.l (to_z-of_z s.ranges.l) s.requires
+    (sym c.is_positive.ensures ∙ c.if-is_positive.true))
 
 pub returns-else-is_positive : goal.returns-else-is_positive
 returns-else-is_positive c =
@@ -26,5 +28,6 @@ returns-else-is_positive c =
     omega (
       arith,
       c.byte_weight-w.ensures,
-      weighs-below s.args.x _ s.args.l (to_z-of_z s.ranges.l) s.requires (sym c.is_positive.ensures ∙ c.if-is_positive.false),
+      weighs-below s.args.x _ s.args.l (to_z-of_z s.ranges.l) s.requires
+          (sym c.is_positive.ensures ∙ c.if-is_positive.false),
     )

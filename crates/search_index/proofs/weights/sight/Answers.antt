@@ -45,9 +45,11 @@ module _ (c : At-After-known_count) where
   past : (h : Heads) → at + 1 + c.known_count.result ≤ length list
   past h = omega (arith, size_is h, high _ list c.requires.fine at h)
 
-  taken : (h : Heads) → take ((at + 1 + c.known_count.result) - at) (drop at list) ≡ words_of (clause_at (clauses_of list) h.c ∷ [])
+  taken : (h : Heads) → take ((at + 1 + c.known_count.result) - at) (drop at list)
+      ≡ words_of (clause_at (clauses_of list) h.c ∷ [])
   taken h =
-      let e : (at + 1 + c.known_count.result) - at ≡ suc (length (clause_at (clauses_of list) h.c)) = omega (arith, size_is h) in
+      let e : (at + 1 + c.known_count.result) - at ≡ suc (length (clause_at (clauses_of list) h.c)) =
+      omega (arith, size_is h) in
       ap (λ (n : ℕ). take n (drop at list)) e ∙ part _ list c.requires.fine at h
 
 pub overflow_add-end : goal.overflow_add-end
@@ -55,7 +57,8 @@ overflow_add-end c = omega (arith, high _ _ c.requires.fine _ c.requires.head, c
 
 pub offset_bounds-list-head : goal.offset_bounds-list-head
 offset_bounds-list-head c =
-    scaled_Fits _ (length c.args.list.now) _ (omega (arith, high _ _ c.requires.fine _ c.requires.head)) c.well_formed.0.1
+    scaled_Fits _ (length c.args.list.now) _ (omega (arith, high _ _ c.requires.fine _ c.requires.head))
+    c.well_formed.0.1
 
 pub bounds-list-head : goal.bounds-list-head
 bounds-list-head c = omega (arith, high _ _ c.requires.fine _ c.requires.head)
@@ -70,7 +73,8 @@ overflow_add-end-2 c = omega (arith, past c.before c.requires.head, c.well_forme
 pub offset_bounds-list-head-2 : goal.offset_bounds-list-head-2
 offset_bounds-list-head-2 c =
     let s = c.before.before.before.before in
-    scaled_Fits _ (length s.args.list.now) _ (omega (arith, high _ _ s.requires.fine _ s.requires.head)) s.well_formed.0.1
+    scaled_Fits _ (length s.args.list.now) _ (omega (arith, high _ _ s.requires.fine _ s.requires.head))
+    s.well_formed.0.1
 
 pub scan-requires : goal.scan-requires
 scan-requires c =

@@ -18,13 +18,19 @@ use Rattle.search_index.proofs.weights.weigh.Tie as tie
 use Rattle.search_index.proofs.weights.weigh.Reads as reads
 
 abbrev At-After-known_count : Type 0
-At-After-known_count = lts.After-known_count tie.the-claims reads.Pre reads.Post goal.the-invariant-loop-i goal.the-decreases-loop-i tie.handed_clauses
+At-After-known_count =
+    lts.After-known_count tie.the-claims reads.Pre reads.Post goal.the-invariant-loop-i goal.the-decreases-loop-i
+    tie.handed_clauses
 
 abbrev At-After-known_count-arg : Type 0
-At-After-known_count-arg = lts.After-known_count-arg tie.the-claims reads.Pre reads.Post goal.the-invariant-loop-i goal.the-decreases-loop-i tie.handed_clauses
+At-After-known_count-arg =
+    lts.After-known_count-arg tie.the-claims reads.Pre reads.Post goal.the-invariant-loop-i goal.the-decreases-loop-i
+    tie.handed_clauses
 
 abbrev At-After-l : Type 0
-At-After-l = lts.After-l tie.the-claims reads.Pre reads.Post goal.the-invariant-loop-i goal.the-decreases-loop-i tie.handed_clauses
+At-After-l =
+    lts.After-l tie.the-claims reads.Pre reads.Post goal.the-invariant-loop-i goal.the-decreases-loop-i
+    tie.handed_clauses
 
 module _ (c : At-After-known_count-arg) where
   word-is : read (get_or c.args.list.now c.args.head (pos 0))
@@ -48,7 +54,8 @@ overflow_add-end c = omega (arith, high _ _ c.requires.fine _ c.requires.head, c
 
 pub offset_bounds-list-head : goal.offset_bounds-list-head
 offset_bounds-list-head c =
-    scaled_Fits _ (length c.args.list.now) _ (omega (arith, high _ _ c.requires.fine _ c.requires.head)) c.well_formed.0.1
+    scaled_Fits _ (length c.args.list.now) _ (omega (arith, high _ _ c.requires.fine _ c.requires.head))
+    c.well_formed.0.1
 
 pub bounds-list-head : goal.bounds-list-head
 bounds-list-head c = omega (arith, high _ _ c.requires.fine _ c.requires.head)
@@ -64,7 +71,8 @@ overflow_add-end-2 c =
 
 pub overflow_add-i : goal.overflow_add-i
 overflow_add-i c =
-    let s = c.before.before.before.before in omega (arith, high _ _ s.requires.fine _ s.requires.head, s.well_formed.0.0)
+    let s = c.before.before.before.before in
+    omega (arith, high _ _ s.requires.fine _ s.requires.head, s.well_formed.0.0)
 
 pub loop-i-init : goal.loop-i-init
 loop-i-init c = λ h. weigh-start _ _ c.requires.fine _ h _ (size_is c.before h)
@@ -73,7 +81,8 @@ pub offset_bounds-list-i : goal.offset_bounds-list-i
 offset_bounds-list-i c =
     let s = c.before.before.before.before.before.before in
     let h = s.requires.head in
-    scaled_Fits _ (length s.args.list.now) _ (word-within _ _ s.requires.fine _ h _ _ _ (c.loop-i.invariant h) c.loop-i-test.true)
+    scaled_Fits _ (length s.args.list.now) _
+    (word-within _ _ s.requires.fine _ h _ _ _ (c.loop-i.invariant h) c.loop-i-test.true)
     s.well_formed.0.1
 
 pub bounds-list-i : goal.bounds-list-i
@@ -86,21 +95,24 @@ pub place-requires : goal.place-requires
 place-requires c =
     let s = c.before.before.before.before.before.before.before in
     let h = s.requires.head in
-    asks-place _ _ s.requires.fine _ h _ _ _ (c.loop-i.invariant h) c.loop-i-test.true _ (lit_is c.before) s.requires.values_len_bound
+    asks-place _ _ s.requires.fine _ h _ _ _ (c.loop-i.invariant h) c.loop-i-test.true _ (lit_is c.before)
+    s.requires.values_len_bound
 
 pub bounds-values-place : goal.bounds-values-place
 bounds-values-place c =
     let s = c.before.before.before.before.before.before.before.before.before in
     let t = c.before.before.before.before in
     let h = s.requires.head in
-    place-within _ _ s.requires.fine _ h _ _ _ (t.loop-i.invariant h) t.loop-i-test.true _ (lit_is c.before.before.before) _ c.place.ensures
+    place-within _ _ s.requires.fine _ h _ _ _ (t.loop-i.invariant h) t.loop-i-test.true _
+    (lit_is c.before.before.before) _ c.place.ensures
 
 pub literal_weight-w-requires : goal.literal_weight-w-requires
 literal_weight-w-requires c =
     let s = c.before.before.before.before.before.before.before.before.before in
     let t = c.before.before.before.before in
     let h = s.requires.head in
-    asks-weight _ _ s.requires.fine _ h _ _ _ (t.loop-i.invariant h) t.loop-i-test.true _ (lit_is c.before.before.before)
+    asks-weight _ _ s.requires.fine _ h _ _ _ (t.loop-i.invariant h) t.loop-i-test.true _
+    (lit_is c.before.before.before)
 
 pub overflow_add-w : goal.overflow_add-w
 overflow_add-w c =
@@ -109,7 +121,8 @@ overflow_add-w c =
     let h = s.requires.head in
     omega (
       arith,
-      weight-fits _ _ s.requires.fine _ h _ _ _ (t.loop-i.invariant h) t.loop-i-test.true _ (lit_is c.before.before.before.before) _
+      weight-fits _ _ s.requires.fine _ h _ _ _ (t.loop-i.invariant h) t.loop-i-test.true _
+          (lit_is c.before.before.before.before) _
           c.place.ensures _ c.literal_weight-w.ensures s.requires.list_len_bound,
     )
 
@@ -118,16 +131,18 @@ overflow_add-i-in-loop-i c =
     let s = c.before.before.before.before.before.before.before.before.before.before in
     let t = c.before.before.before.before.before in
     let h = s.requires.head in
-    omega (arith, word-within _ _ s.requires.fine _ h _ _ _ (t.loop-i.invariant h) t.loop-i-test.true, s.well_formed.0.0)
-
-pub loop-i-smaller : goal.loop-i-smaller
-loop-i-smaller c = omega (arith, c.loop-i-test.true)
+    omega (
+      arith,
+      word-within _ _ s.requires.fine _ h _ _ _ (t.loop-i.invariant h) t.loop-i-test.true,
+      s.well_formed.0.0,
+    )
 
 pub loop-i-preserved : goal.loop-i-preserved
 loop-i-preserved c = λ h.
     let s = c.before.before.before.before.before.before.before.before.before.before in
     let t = c.before.before.before.before.before in
-    weigh-next _ _ s.requires.fine _ h _ _ _ (t.loop-i.invariant h) t.loop-i-test.true _ (lit_is c.before.before.before.before) _
+    weigh-next _ _ s.requires.fine _ h _ _ _ (t.loop-i.invariant h) t.loop-i-test.true _
+    (lit_is c.before.before.before.before) _
     c.place.ensures _ c.literal_weight-w.ensures
 
 pub returns : goal.returns
