@@ -1,5 +1,5 @@
 // What the size of a clause text and its writing answer.
-#[derive(Drop)]
+#[derive(Clone, Copy)]
 pub enum TextSize {
     Bytes(usize),
     Refused(refusal::Refusal),

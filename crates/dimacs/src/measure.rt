@@ -8,7 +8,7 @@ use crate::walk::clause_end;
 use text::decimal_length;
 
 // The number of a list's clauses, and the bytes of its text.
-#[derive(Drop)]
+#[derive(Clone, Copy)]
 pub struct Measured {
     pub clauses: usize,
     pub bytes: usize,

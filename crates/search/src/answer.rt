@@ -1,7 +1,7 @@
 // What a search answers, with the steps done by kind, and where it stands.
 pub use search_rules::{Position, Steps};
 
-#[derive(Drop)]
+#[derive(Clone, Copy)]
 pub enum Search {
     Found(Steps),
     None(Steps),
@@ -10,7 +10,7 @@ pub enum Search {
 }
 
 // What a call that takes up a state answers, and the position that it leaves.
-#[derive(Drop)]
+#[derive(Clone, Copy)]
 pub struct Resumed {
     pub answer: Search,
     pub position: Position,

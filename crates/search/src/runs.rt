@@ -14,7 +14,7 @@ use super::fills::{clear_all, open_all};
 use search_core::run::{End, Ran, run, run_next};
 
 // How a state is taken up: by a resumed call, or by a call for the next.
-#[derive(Drop)]
+#[derive(Clone, Copy)]
 pub(crate) enum Call {
     Resume,
     Next,

@@ -25,7 +25,7 @@ pub enum End {
     Spent,
 }
 
-#[derive(Drop)]
+#[derive(Clone, Copy)]
 pub struct Ran {
     pub end: End,
     pub position: Position,

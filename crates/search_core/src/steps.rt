@@ -13,7 +13,7 @@ ghost use Rattle.search_core.specs.Inner.{SomeStored, Turned, Stepped};
 use search_index::watch::{look, touch};
 use search_scan::Seen;
 
-#[derive(Drop)]
+#[derive(Clone, Copy)]
 pub enum StepKind {
     Propagation,
     Decision,
@@ -21,7 +21,7 @@ pub enum StepKind {
 }
 
 // What a step came to: an end, or its kind and the words of the trail then in use.
-#[derive(Drop)]
+#[derive(Clone, Copy)]
 pub enum Moved {
     NoneLeft,
     AllSet,

@@ -10,7 +10,7 @@ ghost use Rattle.search_rules.specs.Inner.{Fine};
 ghost use Rattle.search_scan.specs.Seen.{truth_code, seen_as, seen};
 
 // What a look over the clauses shows.
-#[derive(Drop)]
+#[derive(Clone, Copy)]
 pub enum Seen {
     Conflict,
     UnitClause(i32),
