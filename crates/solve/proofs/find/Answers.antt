@@ -5,9 +5,6 @@ use Rattle.solve.proofs.ReadBacks.{counting-refuses}
 use Rattle.solve.proofs.FindLaws.{counting-declines, means}
 use Rattle.solve.proofs.find.Goals as goal
 
-pub cell_count-cells-requires : goal.cell_count-cells-requires
-cell_count-cells-requires c = sym c.read-reading.ensures ∙ ap read.answer_of c.in-Accepted.is
-
 pub returns-in-Refused : goal.returns-in-Refused
 returns-in-Refused c =
     let l = counting-declines c.args.sheet.now _ c.args.budget _

@@ -1,5 +1,5 @@
 -- `find_in` meets its contract: what writing, search and the copy leave is the definition's.
-use mathlib.Core.Path.{◌≡◌, sym}
+use mathlib.Core.Path.{◌≡◌}
 use native.Mathlib.Omega.{arith}
 use lib.ListN.{length, take}
 use lib.Seq.{length-take-le}
@@ -11,12 +11,6 @@ use Rattle.search.specs.declared.answer.Search.TheVariants.{Found, None, Spent, 
 use Rattle.search.specs.Answers.{answer_of, found}
 use Rattle.solve.proofs.FindLaws.{cells-below, leaves-found, leaves_kept}
 use Rattle.solve.proofs.find_in.Goals as goal
-
-pub slice_bounds-search-end-2 : goal.slice_bounds-search-end-2
-slice_bounds-search-end-2 c = sym (length-take-le _ c.write.new.list (search rules))
-
-pub slice_bounds-copy_cells-end-in-Found : goal.slice_bounds-copy_cells-end-in-Found
-slice_bounds-copy_cells-end-in-Found c = sym (length-take-le _ c.search-ended.new.values (search rules))
 
 pub copy_cells-requires : goal.copy_cells-requires
 copy_cells-requires c =

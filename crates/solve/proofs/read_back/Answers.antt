@@ -4,9 +4,6 @@ use Rattle.sheet.specs.Answers as read
 use Rattle.solve.proofs.ReadBacks.{refuses, counting-refuses}
 use Rattle.solve.proofs.read_back.Goals as goal
 
-pub cell_count-cells-requires : goal.cell_count-cells-requires
-cell_count-cells-requires c = sym c.read-reading.ensures ∙ ap read.answer_of c.in-Accepted.is
-
 pub returns-in-Refused : goal.returns-in-Refused
 returns-in-Refused c =
     let a = c.args in

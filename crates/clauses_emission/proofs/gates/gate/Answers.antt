@@ -8,12 +8,12 @@ use Rattle.literal.specs.Literals.{Literal, positive, negative, opposite}
 use Rattle.literal.specs.Words.{literal_of}
 use Rattle.literal.proofs.Signs.{read, back}
 use Rattle.literal.proofs.Words.{positive-is}
-use Rattle.clauses_rules.specs.Gates.{Clause, gate_of}
+use Rattle.clauses_rules.specs.Gates.{Clause}
 use Rattle.clauses_emission.specs.Emission.{literals_of, Inside, Within}
 use Rattle.clauses_emission.proofs.Writes.{appends-as}
 use Rattle.clauses_emission.proofs.Ranges.{opposite-read}
-use Rattle.clauses_emission.proofs.Steps.{given-up, emits-literal}
-use Rattle.clauses_emission.proofs.Ors.{regular-gate, inputs-room, length-literals, gate-emits}
+use Rattle.clauses_emission.proofs.Steps.{emits-literal}
+use Rattle.clauses_emission.proofs.Ors.{inputs-room, length-literals, gate-emits}
 use Rattle.clauses_emission.proofs.gates.gate.Goals as goal
 use Rattle.clauses_emission.proofs.gates.gate.Lts as lts
 use Rattle.clauses_emission.proofs.gates.gate.Tie as tie
@@ -29,22 +29,6 @@ the_word c =
     back c.positive-g.result (record { sfits = c.positive-g.type_inv })
     ∙ c.positive-g.ensures
     ∙ positive-is start.args.tape.next (omega (arith, start.requires.bounded.last))
-
-pub returns-then-tape-gt-LIMIT : goal.returns-then-tape-gt-LIMIT
-returns-then-tape-gt-LIMIT c =
-    let start = c.before.before in
-    given-up (gate_of (literals_of start.args.inputs.now)) (positive 1) start.args.list.now start.args.tape
-    (regular-gate (literals_of start.args.inputs.now)) start.requires.bounded c.if-tape-gt-LIMIT.true
-    (record { low = omega arith; high = omega (arith, start.requires.bounded.first) })
-
-pub gate_inputs-middle-requires : goal.gate_inputs-middle-requires
-gate_inputs-middle-requires c =
-    let start = c.before.before.before.before.before in record {
-      bounded = start.requires.bounded;
-      within = c.if-tape-gt-LIMIT.false;
-      inputs = start.requires.inputs;
-      g_value = the_word c.before;
-    }
 
 pub emit_clause-end-requires : goal.emit_clause-end-requires
 emit_clause-end-requires c =

@@ -4,13 +4,12 @@ use native.Mathlib.Numerals.{add-one}
 use native.Mathlib.Omega.{arith}
 use lib.IntN.{pos}
 use lib.ListN.{get_or, take, length-take}
-use lib.Seq.{take_all}
 use Rattle.literal.specs.Literals.{positive, opposite}
 use Rattle.literal.specs.Words.{literal_of}
 use Rattle.literal.proofs.Signs.{read, back}
 use Rattle.clauses_rules.specs.Gates.{Clause, input_clauses}
 use Rattle.clauses_emission.specs.Emission.{literals_of, Inside}
-use Rattle.clauses_emission.proofs.Writes.{appends-none, appends-then, appends-as, writes-length}
+use Rattle.clauses_emission.proofs.Writes.{appends-none, appends-then, appends-as}
 use Rattle.clauses_emission.proofs.Ranges.{opposite-read, literal-at}
 use Rattle.clauses_emission.proofs.Ors.{inputs-next, inputs-room, length-literals}
 use Rattle.clauses_emission.proofs.gates.gate_inputs.Goals as goal
@@ -53,12 +52,3 @@ loop-k-preserved c =
       appends-as (inputs-next n ws k h ∙ ap (λ j. input_clauses n (literals_of (take j ws))) (sym (add-one k)))
           (appends-then loop.invariant.1 (appends-as e c.emit_clause-after.ensures)),
     )
-
-pub shape_of-list : goal.shape_of-list
-shape_of-list c = writes-length c.loop-k.invariant.1.writes
-
-pub returns : goal.returns
-returns c =
-    let ws = c.args.inputs.now in
-    let n = c.args.tape.next in
-    appends-as (ap (λ t. input_clauses n (literals_of t)) (take_all c.loop-k.k ws c.loop-k-test.false)) c.loop-k.invariant.1

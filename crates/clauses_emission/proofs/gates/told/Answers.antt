@@ -1,12 +1,12 @@
 -- `gates::told` meets its contract: each way in which OR is told, and that else it is a gate.
-use mathlib.Core.Path.{◌≡◌, refl, sym, ap, ◌∙◌}
+use mathlib.Core.Path.{◌≡◌, sym, ap, ◌∙◌}
 use mathlib.Core.List.{[], ◌∷◌}
 use Prim.Native.Nat.{ℕ}
 use native.Mathlib.Omega.{arith}
 use lib.IntN.{ℤ, pos, negsuc}
 use mir.Syntax.{w32}
 use mir.Val.{SFits, of_z}
-use Rattle.literal.specs.Literals.{positive, opposite}
+use Rattle.literal.specs.Literals.{opposite}
 use Rattle.literal.specs.Words.{variable, literal_of}
 use Rattle.literal.proofs.Signs.{read, back, same-as, same_word}
 use Rattle.literal.proofs.Same.{one_word}
@@ -69,9 +69,6 @@ module _ (c : At-Start) where
 not-absent : (w : ℤ) → (of_z w32 w ≡ 4294967295 → ⊥) → literal_of w ≡ absent → ⊥
 not-absent w n e = n (ap (of_z w32) (one_word w (negsuc 0) e))
 
-not-one : (w : ℤ) → (of_z w32 w ≡ 1 → ⊥) → literal_of w ≡ positive 1 → ⊥
-not-one w n e = n (ap (of_z w32) (one_word w (pos 1) e))
-
 pub returns-then-p-eqminus1 : goal.returns-then-p-eqminus1
 returns-then-p-eqminus1 c =
     let start = c.before in
@@ -129,21 +126,3 @@ returns-then-p-opposite c =
     (λ g.
     or-opposites (literal_of a.p) (literal_of a.q) g
     (ap literal_of (same_word a.p r.result start.ranges.p (record { sfits = r.type_inv }) c.if-p-opposite.true) ∙ turned c.before))
-
-pub returns : goal.returns
-returns c =
-    let at = c.before in
-    let start = at.before.before.before.before.before.before in
-    let p = start.args.p in
-    let q = start.args.q in
-    record {
-      gate = λ z. record {
-        first_absent = not-absent p at.if-p-eqminus1.false;
-        second_absent = not-absent q at.if-q-eqminus1.false;
-        repeat = λ e. at.if-p-q.false (ap (of_z w32) (one_word p q e));
-        first_one = not-one p at.if-p-eq1.false;
-        second_one = not-one q at.if-q-eq1.false;
-        opposites = λ e. c.if-p-opposite.false (ap (of_z w32) (one_word p at.opposite.result (e ∙ sym (turned at))));
-      };
-      told = λ n. absurd (n refl);
-    }

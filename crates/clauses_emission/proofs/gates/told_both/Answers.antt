@@ -38,12 +38,6 @@ inside-p c = rw (turned-p c.before) (inside-opposite (literal_of c.args.p) c.req
 inside-q : (c : At-After-opposite2) → Inside 16002 (literal_of (read c.opposite-2.result))
 inside-q c = rw (turned-q c) (inside-opposite (literal_of c.args.q) c.requires.inside_2)
 
-pub told-requires : goal.told-requires
-told-requires c = record {
-  inside = inside-p c;
-  inside_2 = inside-q c;
-}
-
 pub returns : goal.returns
 returns c n =
     let at = c.before.before in

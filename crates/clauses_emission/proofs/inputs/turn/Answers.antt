@@ -1,4 +1,4 @@
-use mathlib.Core.Path.{◌≡◌, refl, ap, ◌∙◌}
+use mathlib.Core.Path.{◌≡◌, ap, ◌∙◌}
 use Prim.Native.Nat.{◌<◌}
 use native.Mathlib.Numerals.{add-one}
 use native.Mathlib.Omega.{arith}
@@ -10,11 +10,8 @@ use Rattle.literal.proofs.Signs.{read}
 use Rattle.clauses_emission.specs.Emission.{Inside}
 use Rattle.clauses_emission.proofs.Ranges.{opposite-read, literal-at}
 use Rattle.clauses_emission.proofs.Rests.{rest_at, rest-set}
-use Rattle.clauses_emission.proofs.Ors.{opposites-next, opposites-all}
+use Rattle.clauses_emission.proofs.Ors.{opposites-next}
 use Rattle.clauses_emission.proofs.inputs.turn.Goals as goal
-
-pub loop-k-init : goal.loop-k-init
-loop-k-init c = (omega arith, refl, refl, refl)
 
 pub loop-k-preserved : goal.loop-k-preserved
 loop-k-preserved c =
@@ -35,11 +32,3 @@ loop-k-preserved c =
       rw (add-one k) (opposites-next ws loop.inputs k (read c.opposite.result) h (omega (arith, loop.invariant.1)) loop.invariant.2 o),
       rest-set loop.inputs ws k k (read c.opposite.result) (omega arith) loop.invariant.3,
     )
-
-pub shape_of-inputs : goal.shape_of-inputs
-shape_of-inputs c = c.loop-k.invariant.1
-
-pub returns : goal.returns
-returns c =
-    let loop = c.loop-k in
-    opposites-all c.args.inputs.now loop.inputs loop.k (omega (arith, c.loop-k-test.false, loop.invariant.1)) loop.invariant.1 loop.invariant.2

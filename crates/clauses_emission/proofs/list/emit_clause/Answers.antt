@@ -7,9 +7,6 @@ use Rattle.literal.proofs.Signs.{back}
 use Rattle.clauses_emission.proofs.Writes.{words-one}
 use Rattle.clauses_emission.proofs.list.emit_clause.Goals as goal
 
-pub write_at-requires : goal.write_at-requires
-write_at-requires c = c.requires.few
-
 pub returns : goal.returns
 returns c =
     let start = c.before.before.before.before in

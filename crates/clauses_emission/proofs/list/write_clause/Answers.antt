@@ -1,17 +1,13 @@
-use mathlib.Core.Path.{◌≡◌, refl, ap, ◌∙◌}
+use mathlib.Core.Path.{◌≡◌, ap, ◌∙◌}
 use Prim.Native.Nat.{suc, ◌+◌}
 use native.Mathlib.Omega.{arith}
 use lib.IntN.{pos}
 use lib.ListN.{length, get_or, set, drop}
 use Rattle.prelude.specs.Stores.{put_all}
-use Rattle.prelude.proofs.Stores.{length-put}
 use Rattle.literal.proofs.Signs.{read, back}
 use Rattle.literal.proofs.Words.{positive-is}
 use Rattle.clauses_emission.proofs.Writes.{put-others, put-done}
 use Rattle.clauses_emission.proofs.list.write_clause.Goals as goal
-
-pub loop-k-init : goal.loop-k-init
-loop-k-init c = (omega arith, refl)
 
 pub loop-k-preserved : goal.loop-k-preserved
 loop-k-preserved c =
@@ -39,8 +35,3 @@ returns c =
     c.put-2.ensures
     count (back start.args.first start.ranges.first)
     c.loop-k-test.false c.loop-k.invariant.1
-
-pub shape_of-rest : goal.shape_of-rest
-shape_of-rest c =
-    let start = c.before.before.before.before.before.before.before.before.before in
-    ap length (returns c) ∙ length-put start.args.rest.now 0 _

@@ -1,4 +1,3 @@
-use mathlib.Core.Path.{sym, ◌∙◌}
 use native.Mathlib.Numerals.{add-one, add-one-le}
 use native.Mathlib.Omega.{arith}
 use Rattle.relational.specs.Matrices.{rounds}
@@ -9,31 +8,11 @@ use Rattle.clauses_matrix.proofs.Regulars.{regular-round, regular-rounds}
 use Rattle.clauses_matrix.proofs.Rounds.{rounds-done}
 use Rattle.clauses_matrix.proofs.operators.closure.Goals as goal
 
-pub rounds-n-requires : goal.rounds-n-requires
-rounds-n-requires c = c.requires.operand.rows
-
 pub loop-k-init : goal.loop-k-init
 unfolding after_rounds
 loop-k-init c =
     let start = c.before in
     (omega arith, emits-return (matrix_of start.args.p) start.args.list.now start.args.tape start.requires.bounded start.requires.operand)
-
-pub round-made-requires : goal.round-made-requires
-round-made-requires c = record {
-  bounded = c.loop-k.invariant.1.bounded;
-  operand = c.loop-k.invariant.1.fine;
-}
-
-pub slice_bounds-same_words-end : goal.slice_bounds-same_words-end
-slice_bounds-same_words-end c =
-    sym c.loop-k.invariant.1.fine.cells.room
-
-pub slice_bounds-same_words-end-then-later-after : goal.slice_bounds-same_words-end-then-later-after
-slice_bounds-same_words-end-then-later-after c =
-    sym c.round-made.ensures.fine.cells.room
-
-pub same_words-requires : goal.same_words-requires
-same_words-requires c = sym (slice_bounds-same_words-end c.before) ∙ slice_bounds-same_words-end-then-later-after c
 
 pub returns-then-same_words : goal.returns-then-same_words
 returns-then-same_words c =
@@ -54,6 +33,3 @@ loop-k-preserved c =
       rw (add-one k)
           (emits-bind (after_rounds k p) round_of (regular-rounds k p) regular-round loop.invariant.1 call.round-made.ensures),
     )
-
-pub shape_of-list : goal.shape_of-list
-shape_of-list c = c.loop-k.invariant.1.kept

@@ -14,9 +14,9 @@ use Rattle.clauses_rules.specs.Translation.{absent}
 use Rattle.clauses_matrix.specs.Matrices.{matrix_of}
 use Rattle.clauses_emission.proofs.Steps.{regular-return, emits-return, emits-map, emits-as}
 use Rattle.clauses_matrix.proofs.Numbers.{place_of, places-by-number}
-use Rattle.relational.proofs.Places.{map-map, some-column, row_below, column-below}
-use Rattle.clauses_matrix.proofs.Fills.{cells-start, cells-next, cells-done, operand_at, operand-inside, size_fits, cell_below}
-use Rattle.clauses_matrix.proofs.Fills.{fits-small, fits-part, fits-four, fits_next, place_in}
+use Rattle.relational.proofs.Places.{map-map, row_below, column-below}
+use Rattle.clauses_matrix.proofs.Fills.{cells-start, cells-next, cells-done, operand_at, operand-inside, cell_below}
+use Rattle.clauses_matrix.proofs.Fills.{place_in}
 use Rattle.clauses_matrix.proofs.Regulars.{each-return}
 use Rattle.relational.specs.Matrices.{Place, upto, cell_at, places, relation_of}
 use Rattle.clauses_matrix.proofs.operators.inverse.Goals as goal
@@ -26,9 +26,6 @@ use Rattle.clauses_matrix.proofs.operators.inverse.Reads as reads
 
 abbrev At-In-loop : Type 0
 At-In-loop = lts.In-loop reads.Pre reads.Post goal.the-invariant-loop-k goal.the-decreases-loop-k tie.handed_clauses
-
-pub overflow_mul-size : goal.overflow_mul-size
-overflow_mul-size c = size_fits c.args.p.columns c.args.p.rows c.requires.operand.columns c.requires.operand.rows
 
 pub loop-k-init : goal.loop-k-init
 loop-k-init c =
@@ -54,37 +51,6 @@ place-below c =
     let k = c.loop-k.k in
     place_in p.rows p.columns (k % p.rows) (k / p.rows) start.requires.operand.rows start.requires.operand.columns
     (column-below p.columns p.rows k c.loop-k-test.true) (row_below p.columns p.rows k c.loop-k-test.true)
-
-pub nonzero_rem-l : goal.nonzero_rem-l
-nonzero_rem-l c =
-    some-column c.args.p.columns c.args.p.rows c.loop-k.k
-    c.loop-k-test.true
-
-pub overflow_mul-l : goal.overflow_mul-l
-overflow_mul-l c = fits-part _ _ (place-below c)
-
-pub nonzero_div-l : goal.nonzero_div-l
-nonzero_div-l c =
-    some-column c.args.p.columns c.args.p.rows c.loop-k.k
-    c.loop-k-test.true
-
-pub overflow_add-l : goal.overflow_add-l
-overflow_add-l c = fits-small _ (place-below c)
-
-pub offset_bounds-p-k : goal.offset_bounds-p-k
-offset_bounds-p-k c = fits-four _ (place-below c)
-
-pub bounds-p-k : goal.bounds-p-k
-bounds-p-k c = place-below c
-
-pub offset_bounds-cells-k : goal.offset_bounds-cells-k
-offset_bounds-cells-k c = fits-four _ (below c.before)
-
-pub bounds-cells-k : goal.bounds-cells-k
-bounds-cells-k c = below c.before
-
-pub overflow_add-k : goal.overflow_add-k
-overflow_add-k c = fits_next _ (below c.before)
 
 pub loop-k-preserved : goal.loop-k-preserved
 loop-k-preserved c =

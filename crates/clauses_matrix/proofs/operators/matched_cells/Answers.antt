@@ -14,7 +14,7 @@ use Rattle.clauses_emission.specs.Emission.{pairing}
 use Rattle.clauses_matrix.specs.Matrices.{matrix_of}
 use Rattle.clauses_emission.proofs.Ranges.{inside-grows}
 use Rattle.clauses_emission.proofs.Steps.{regular-pairing}
-use Rattle.clauses_matrix.proofs.Fills.{cells-start, cells-next, cells-done, operand_at, operand-inside, pair_at, size_fits}
+use Rattle.clauses_matrix.proofs.Fills.{cells-start, cells-next, cells-done, operand_at, operand-inside, pair_at}
 use Rattle.clauses_matrix.proofs.Fills.{cell_below}
 use Rattle.clauses_matrix.proofs.operators.matched_cells.Goals as goal
 use Rattle.clauses_matrix.proofs.operators.matched_cells.Lts as lts
@@ -23,9 +23,6 @@ use Rattle.clauses_matrix.proofs.operators.matched_cells.Reads as reads
 
 abbrev At-In-loop : Type 0
 At-In-loop = lts.In-loop tie.the-claims reads.Pre reads.Post goal.the-invariant-loop-k goal.the-decreases-loop-k tie.handed_clauses
-
-pub overflow_mul-size : goal.overflow_mul-size
-overflow_mul-size c = size_fits c.args.p.rows c.args.p.columns c.requires.operand.rows c.requires.operand.columns
 
 pub loop-k-init : goal.loop-k-init
 loop-k-init c = (
@@ -39,18 +36,6 @@ below c =
     let start = c.before.before in
     cell_below start.args.p.rows start.args.p.columns c.loop-k.k start.requires.operand.rows start.requires.operand.columns
     c.loop-k-test.true
-
-pub offset_bounds-p-k : goal.offset_bounds-p-k
-offset_bounds-p-k c = omega (arith, below c.before)
-
-pub bounds-p-k : goal.bounds-p-k
-bounds-p-k c = below c.before
-
-pub offset_bounds-q-k : goal.offset_bounds-q-k
-offset_bounds-q-k c = omega (arith, below c.before.before)
-
-pub bounds-q-k : goal.bounds-q-k
-bounds-q-k c = below c.before.before
 
 pub pair-made-requires : goal.pair-made-requires
 pair-made-requires c =
@@ -66,12 +51,6 @@ pair-made-requires c =
       inside_2 = rw (back (get_or q.cells loop.k (pos 0)) (record { sfits = c.pair-arg-in-loop-k-2-1.given }))
           (inside-grows loop.invariant.1.grows (operand-inside n q loop.k start.requires.operand_2 h));
     }
-
-pub offset_bounds-cells-k : goal.offset_bounds-cells-k
-offset_bounds-cells-k c = omega (arith, below c.before.before.before.before.before.before.before)
-
-pub bounds-cells-k : goal.bounds-cells-k
-bounds-cells-k c = below c.before.before.before.before.before.before.before
 
 pub loop-k-preserved : goal.loop-k-preserved
 loop-k-preserved c =
@@ -93,9 +72,6 @@ loop-k-preserved c =
           )
           at call.ensures)),
     )
-
-pub shape_of-list : goal.shape_of-list
-shape_of-list c = c.loop-k.invariant.1.kept
 
 pub returns : goal.returns
 returns c =

@@ -18,9 +18,8 @@ use Rattle.clauses_emission.proofs.Ranges.{inside-grows}
 use Rattle.clauses_emission.proofs.Steps.{regular-pairing, emits-map, emits-as}
 use Rattle.clauses_matrix.proofs.Numbers.{place_of, places-by-number}
 use Rattle.relational.proofs.Places.{map-map, row_below, column-below}
-use Rattle.clauses_matrix.proofs.Fills.{cells-start, cells-next, cells-done, operand_at, operand-inside, pair_at, size_fits}
+use Rattle.clauses_matrix.proofs.Fills.{cells-start, cells-next, cells-done, operand_at, operand-inside, pair_at}
 use Rattle.clauses_matrix.proofs.Fills.{cell_below}
-use Rattle.clauses_matrix.proofs.Fills.{fits-four, fits_next}
 use Rattle.clauses_matrix.proofs.operators.product.Goals as goal
 use Rattle.clauses_matrix.proofs.operators.product.Lts as lts
 use Rattle.clauses_matrix.proofs.operators.product.Tie as tie
@@ -28,10 +27,6 @@ use Rattle.clauses_matrix.proofs.operators.product.Reads as reads
 
 abbrev At-In-loop : Type 0
 At-In-loop = lts.In-loop tie.the-claims reads.Pre reads.Post goal.the-invariant-loop-k goal.the-decreases-loop-k tie.handed_clauses
-
-pub overflow_mul-size : goal.overflow_mul-size
-overflow_mul-size c =
-    size_fits c.args.p.columns c.args.q.columns c.requires.operand.columns c.requires.operand_2.columns
 
 pub loop-k-init : goal.loop-k-init
 loop-k-init c = (
@@ -61,18 +56,6 @@ right-below c =
     small _ start.args.q.columns (column-below start.args.p.columns start.args.q.columns c.loop-k.k c.loop-k-test.true)
     start.requires.operand_2.columns
 
-pub offset_bounds-p-k : goal.offset_bounds-p-k
-offset_bounds-p-k c = fits-four _ (left_below c.before)
-
-pub bounds-p-k : goal.bounds-p-k
-bounds-p-k c = left_below c.before
-
-pub offset_bounds-q-k : goal.offset_bounds-q-k
-offset_bounds-q-k c = fits-four _ (right-below c.before.before)
-
-pub bounds-q-k : goal.bounds-q-k
-bounds-q-k c = right-below c.before.before
-
 pub both-made-requires : goal.both-made-requires
 both-made-requires c =
     let start = c.before.before.before.before.before in
@@ -89,15 +72,6 @@ both-made-requires c =
       inside_2 = rw (back (get_or q.cells j (pos 0)) (record { sfits = c.both-arg-in-loop-k-2-1.given }))
           (inside-grows loop.invariant.1.grows (operand-inside n q j start.requires.operand_2 (right-below turn)));
     }
-
-pub offset_bounds-cells-k : goal.offset_bounds-cells-k
-offset_bounds-cells-k c = fits-four _ (below c.before.before.before.before.before.before.before)
-
-pub bounds-cells-k : goal.bounds-cells-k
-bounds-cells-k c = below c.before.before.before.before.before.before.before
-
-pub overflow_add-k : goal.overflow_add-k
-overflow_add-k c = fits_next _ (below c.before.before.before.before.before.before.before)
 
 pub loop-k-preserved : goal.loop-k-preserved
 loop-k-preserved c =
@@ -120,9 +94,6 @@ loop-k-preserved c =
           )
           at call.ensures)),
     )
-
-pub shape_of-list : goal.shape_of-list
-shape_of-list c = c.loop-k.invariant.1.kept
 
 pub returns : goal.returns
 returns c =

@@ -3,18 +3,8 @@ use Rattle.relational.specs.Trees.{join, union}
 use Rattle.clauses_rules.specs.Translation.{translate_binary}
 use Rattle.clauses_matrix.specs.Matrices.{matrix_of}
 use Rattle.clauses_emission.proofs.Steps.{emits-bind}
-use Rattle.clauses_matrix.proofs.Fills.{operand-grow}
 use Rattle.clauses_matrix.proofs.Regulars.{regular-binary}
 use Rattle.clauses_matrix.proofs.operators.round.Goals as goal
-
-pub matched-requires : goal.matched-requires
-matched-requires c =
-    let start = c.before.before.before.before.before.before in
-    let made = c.join-made.ensures in record {
-      bounded = made.bounded;
-      operand = operand-grow made.grows start.requires.operand;
-      operand_2 = made.fine;
-    }
 
 pub returns : goal.returns
 returns c =

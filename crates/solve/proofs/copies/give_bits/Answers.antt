@@ -1,4 +1,4 @@
-use mathlib.Core.Path.{refl, sym, ◌∙◌}
+use mathlib.Core.Path.{sym, ◌∙◌}
 use mathlib.Core.Bool.{Bool}
 use Prim.Native.Nat.{ℕ}
 use native.Mathlib.Omega.{arith}
@@ -12,9 +12,6 @@ use Rattle.solve.proofs.copies.give_bits.Goals as goal
 -- the value gives a bit
 abbrev gives : ℕ → Bool
 gives b = leb (settle b) 1
-
-pub loop-i-init : goal.loop-i-init
-loop-i-init c = (omega arith, refl)
 
 pub returns-then-settled-gt1 : goal.returns-then-settled-gt1
 returns-then-settled-gt1 c =

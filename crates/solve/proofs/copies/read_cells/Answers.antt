@@ -7,7 +7,7 @@ use lib.Dec.{leb}
 use lib.ListN.{take, drop}
 use Rattle.prelude.specs.Tests.{all}
 use Rattle.search_rules.specs.Rules.{settle}
-use Rattle.solve.proofs.ReadBacks.{cells-part, wrong-length, wrong-bits, too_short, copies}
+use Rattle.solve.proofs.ReadBacks.{cells-part, wrong-bits, too_short, copies}
 use Rattle.solve.proofs.copies.read_cells.Goals as goal
 use Prim.Native.Nat.{ℕ, ◌+◌, ◌-◌}
 use mathlib.Core.List.{List}
@@ -16,11 +16,6 @@ use mathlib.Core.List.{List}
 asked : (cells : ℕ) (values : List ℕ) {r b : Bool} → r ≡ all (λ (b : ℕ). leb b 1) (map settle (take (cells + 1 - 1) (drop 1 values)))
     → r ≡ b → all (λ (b : ℕ). leb b 1) (take cells (drop 1 (map settle values))) ≡ b
 asked cells values e f = sym (e ∙ ap (all (λ (b : ℕ). leb b 1)) (cells-part cells values)) ∙ f
-
-pub returns-then-values-v : goal.returns-then-values-v
-returns-then-values-v c =
-    let g = wrong-length c.args.v c.args.cells c.args.values.now c.args.instance.now c.if-values-v.true in
-    record { result_value = g.0; instance_after = g.1 }
 
 pub returns-then-not-give_bits : goal.returns-then-not-give_bits
 returns-then-not-give_bits c =
