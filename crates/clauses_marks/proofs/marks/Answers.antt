@@ -30,7 +30,8 @@ loop-r-preserved c =
     let loop = c.loop-r in
     let f = relation_clauses (sheet_of a.sheet.now) (literals_of a.given.now) in (
       omega arith,
-      adds-most (adds-as (adds_then loop.invariant.1 c.relation_marks-after.ensures) (series-more loop.r f refl)) (omega arith),
+      adds-most (adds-as (adds_then loop.invariant.1 c.relation_marks-after.ensures) (series-more loop.r f refl))
+          (omega arith),
     )
 
 pub returns : goal.returns

@@ -27,7 +27,8 @@ loop-k-preserved c =
     let h = c.loop-k-test.true in
     let p = start.args.p in
     let e : literal_of (read first.result) ≡ opposite (literal_of (read p)) =
-    opposite-read 16002 p first.result (omega arith) start.ranges.p start.requires.inside first.ensures (record { sfits = first.type_inv })
+    opposite-read 16002 p first.result (omega arith) start.ranges.p start.requires.inside first.ensures
+    (record { sfits = first.type_inv })
     ∙ ap (λ z. opposite (literal_of z)) (sym (back p start.ranges.p))
     in
     let f : literal_of (read second.result) ≡ opposite (literal_of w) =

@@ -11,7 +11,8 @@ use Rattle.clauses_marks.proofs.pairs_with.Given as goal
 abbrev pub invariant-loop-k : goal.invariant-loop-k
 invariant-loop-k l =
     (l.k ≤ length l.others)
-    × Adds (3 * l.k) (map pair_clause (pairs_with (literal_of l.p) (literals_of (take l.k l.others)))) l.initial.list l.initial.after l.list l.after
+    × Adds (3 * l.k) (map pair_clause (pairs_with (literal_of l.p) (literals_of (take l.k l.others)))) l.initial.list
+    l.initial.after l.list l.after
 
 abbrev pub decreases-loop-k : goal.decreases-loop-k
 decreases-loop-k l = length l.others - l.k

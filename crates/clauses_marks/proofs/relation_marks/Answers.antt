@@ -16,16 +16,23 @@ use Rattle.clauses_marks.proofs.relation_marks.Tie as tie
 use Rattle.clauses_marks.proofs.relation_marks.Reads as reads
 
 abbrev At-At-loop : Type 0
-At-At-loop = lts.At-loop tie.the-claims reads.Pre reads.Post goal.the-invariant-loop-i goal.the-decreases-loop-i tie.handed_clauses
+At-At-loop = lts.At-loop tie.the-claims reads.Pre reads.Post goal.the-invariant-loop-i goal.the-decreases-loop-i
+    tie.handed_clauses
 
 abbrev At-In-loop : Type 0
-At-In-loop = lts.In-loop tie.the-claims reads.Pre reads.Post goal.the-invariant-loop-i goal.the-decreases-loop-i tie.handed_clauses
+At-In-loop = lts.In-loop tie.the-claims reads.Pre reads.Post goal.the-invariant-loop-i goal.the-decreases-loop-i
+    tie.handed_clauses
 
 abbrev At-Start : Type 0
-At-Start = lts.Start tie.the-claims reads.Pre reads.Post goal.the-invariant-loop-i goal.the-decreases-loop-i tie.handed_clauses
+At-Start = lts.Start tie.the-claims reads.Pre reads.Post goal.the-invariant-loop-i goal.the-decreases-loop-i
+    tie.handed_clauses
 
 few_relations : (c : At-Start) → c.args.r < 16
-few_relations c = omega (arith, c.requires.r_bound, (accepted-facts _ _ c.requires.given.located.taken).counts.few_relations)
+few_relations c = omega (
+  arith,
+  c.requires.r_bound,
+  (accepted-facts _ _ c.requires.given.located.taken).counts.few_relations,
+)
 
 abbrev start : At-At-loop → At-Start
 start at = at.before.before.before.before.before.before

@@ -8,7 +8,8 @@ use Rattle.clauses_marks.proofs.relation_marks.Given as goal
 
 abbrev pub invariant-loop-i : goal.invariant-loop-i
 invariant-loop-i l =
-    (l.i ≤ l.rows) × Adds (178 * l.i) (series l.i (row_marks (sheet_of l.sheet) (literals_of l.given) l.r)) l.initial.list l.initial.after l.list l.after
+    (l.i ≤ l.rows) × Adds (178 * l.i) (series l.i (row_marks (sheet_of l.sheet) (literals_of l.given) l.r))
+    l.initial.list l.initial.after l.list l.after
 
 abbrev pub decreases-loop-i : goal.decreases-loop-i
 decreases-loop-i l = l.rows - l.i

@@ -23,7 +23,8 @@ pairs_with-after-requires c =
     let loop = c.loop-k in
     let h = c.loop-k-test.true in
     let w = get_or start.args.row.now loop.k (pos 0) in record {
-      small = adds-small loop.invariant.1.adds start.requires.small (omega (arith, loop.invariant.0, start.requires.members.few));
+      small = adds-small loop.invariant.1.adds start.requires.small
+          (omega (arith, loop.invariant.0, start.requires.members.few));
       inside = rw (back w (record { sfits = c.p-1.given })) (member-inside start.requires.members loop.k h);
       members = members-after start.requires.members (loop.k + 1) 7 (omega arith);
     }

@@ -67,7 +67,8 @@ returns-in-Fits c =
     ap (λ x. text_of z.variables (take z.words x)) c.write-written.ensures.list_after
     ∙ written-text input list _ _ _ a h
     in
-    let p = subst (λ x. PrintsText x c.args.text.now c.put_clauses.new.text c.put_clauses.result) e c.put_clauses.ensures
+    let p = subst (λ x. PrintsText x c.args.text.now c.put_clauses.new.text c.put_clauses.result) e
+    c.put_clauses.ensures
     in record {
       upper_bound = text-counts p;
       prints = p.prints;

@@ -15,7 +15,8 @@ use Rattle.solve.proofs.find_in.Goals as goal
 pub copy_cells-requires : goal.copy_cells-requires
 copy_cells-requires c =
     let v = c.args.size.variables in
-    let e : length (take v c.search-ended.new.values) ≡ v = length-take-le v c.search-ended.new.values (search rules) in record {
+    let e : length (take v c.search-ended.new.values) ≡ v = length-take-le v c.search-ended.new.values (search rules)
+    in record {
       cells_in_bounds = rw e (cells-below _ _ c.args.size c.args.cells c.requires);
       cells_in_bounds_2 = omega (arith, c.requires.room.instance, c.requires.cells_are);
     }

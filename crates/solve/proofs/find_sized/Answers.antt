@@ -24,7 +24,8 @@ module _ {s : List ℕ} {lent : Slices} {budget : ℕ} {z : Size} (e : count_ans
 pub returns-then-words-gt2147483647 : goal.returns-then-words-gt2147483647
 returns-then-words-gt2147483647 c =
     let z = c.args.size in
-    too-many-words c.args.sheet.now _ c.args.budget z.variables z.clauses z.words c.requires.sheet_value c.if-words-gt2147483647.true
+    too-many-words c.args.sheet.now _ c.args.budget z.variables z.clauses z.words c.requires.sheet_value
+    c.if-words-gt2147483647.true
 
 pub returns-then-list-words : goal.returns-then-list-words
 returns-then-list-words c =
@@ -32,7 +33,8 @@ returns-then-list-words c =
 
 pub returns-then-values-variables : goal.returns-then-values-variables
 returns-then-values-variables c =
-    declines c.requires.sheet_value c.if-words-gt2147483647.false λ r. omega (arith, r.values, c.if-values-variables.true)
+    declines c.requires.sheet_value c.if-words-gt2147483647.false λ r. omega
+    (arith, r.values, c.if-values-variables.true)
 
 pub returns-then-trail-variables : goal.returns-then-trail-variables
 returns-then-trail-variables c =

@@ -11,7 +11,8 @@ read_cells-requires c =
 pub returns-in-Refused : goal.returns-in-Refused
 returns-in-Refused c =
     let a = c.args in
-    let g = refuses a.sheet.now a.values.now a.instance.now _ (count-refused a.sheet.now _ _ c.count-counted.ensures c.in-Refused.is) in
+    let g = refuses a.sheet.now a.values.now a.instance.now _
+    (count-refused a.sheet.now _ _ c.count-counted.ensures c.in-Refused.is) in
     record { result_value = g.0; instance_after = g.1 }
 
 pub returns-in-Fits : goal.returns-in-Fits

@@ -12,6 +12,7 @@ or-made-requires c =
       bounded = start.requires.bounded;
       inputs = record {
         few = omega (arith, start.requires.inputs.few, turned.auto);
-        inside = rw turned.ensures (all-opposites (literals_of ws) start.requires.bounded.first start.requires.inputs.inside);
+        inside = rw turned.ensures (all-opposites (literals_of ws) start.requires.bounded.first
+            start.requires.inputs.inside);
       };
     }

@@ -13,7 +13,8 @@ use Rattle.clauses_emission.proofs.gates.either.Goals as goal
 pub returns-then-l-ne0 : goal.returns-then-l-ne0
 returns-then-l-ne0 c =
     let l = c.told-l.result in
-    let tells : Tells c.args.p c.args.q l = rw (back c.args.p c.ranges.p, back c.args.q c.ranges.q) at c.told-l.ensures in
+    let tells : Tells c.args.p c.args.q l = rw (back c.args.p c.ranges.p, back c.args.q c.ranges.q) at
+    c.told-l.ensures in
     rw (back l (record { sfits = c.told-l.type_inv }))
     (emits-told either (tells.told (λ z. c.if-l-ne0.true (ap (of_z w32) z)))
     c.args.list.now c.args.tape c.requires.bounded c.requires.inside c.requires.inside_2)

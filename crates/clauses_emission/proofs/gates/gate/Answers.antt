@@ -34,7 +34,8 @@ pub emit_clause-end-requires : goal.emit_clause-end-requires
 emit_clause-end-requires c =
     let start = c.before.before.before.before.before.before.before.before.before in
     let ws = start.args.inputs.now in
-    inputs-room start.args.tape (literals_of ws) ws start.requires.bounded (omega (arith, length-literals ws, start.requires.inputs.few))
+    inputs-room start.args.tape (literals_of ws) ws start.requires.bounded
+    (omega (arith, length-literals ws, start.requires.inputs.few))
     start.requires.inputs.few c.gate_inputs-middle.ensures
 
 pub returns : goal.returns
@@ -46,7 +47,8 @@ returns c =
     let made = c.positive-g in
     let turned = c.opposite in
     let within : Within tape.next = c.if-tape-gt-LIMIT.false in
-    let l : literal_of made.result ≡ positive tape.next = ap literal_of (sym (back made.result (record { sfits = made.type_inv })) ∙ word) in
+    let l : literal_of made.result ≡ positive tape.next = ap literal_of
+    (sym (back made.result (record { sfits = made.type_inv })) ∙ word) in
     let i : Inside (suc tape.next) (literal_of made.result) =
     rw l (record { low = omega (arith, start.requires.bounded.first); high = omega arith })
     in
@@ -54,11 +56,13 @@ returns c =
     opposite-read (suc tape.next) made.result turned.result (omega (arith, within))
     (record { sfits = made.type_inv }) i turned.ensures (record { sfits = turned.type_inv })
     in
-    let e : ◌≡◌ {A = List Clause} ((literal_of (read turned.result) ∷ literals_of ws) ∷ []) ((negative tape.next ∷ literals_of ws) ∷ []) =
+    let e : ◌≡◌ {A = List Clause} ((literal_of (read turned.result) ∷ literals_of ws) ∷ [])
+    ((negative tape.next ∷ literals_of ws) ∷ []) =
     ap (λ (k : Literal). (k ∷ literals_of ws) ∷ []) (o ∙ ap opposite l)
     in
     emits-literal (sym (ap literal_of word))
-    (gate-emits tape (literals_of ws) start.requires.bounded within (omega (arith, length-literals ws, start.requires.inputs.few))
+    (gate-emits tape (literals_of ws) start.requires.bounded within
+    (omega (arith, length-literals ws, start.requires.inputs.few))
     c.gate_inputs-middle.ensures
     (appends-as e c.emit_clause-end.ensures)
     refl refl refl)

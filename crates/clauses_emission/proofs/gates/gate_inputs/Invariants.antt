@@ -7,7 +7,8 @@ use Rattle.clauses_emission.proofs.gates.gate_inputs.Given as goal
 
 abbrev pub invariant-loop-k : goal.invariant-loop-k
 invariant-loop-k l =
-    (l.k ≤ length l.inputs) × Appends (input_clauses l.initial.after.next (literals_of (take l.k l.inputs))) l.initial.list l.initial.after l.list l.after
+    (l.k ≤ length l.inputs) × Appends (input_clauses l.initial.after.next (literals_of (take l.k l.inputs)))
+    l.initial.list l.initial.after l.list l.after
 
 abbrev pub decreases-loop-k : goal.decreases-loop-k
 decreases-loop-k l = length l.inputs - l.k

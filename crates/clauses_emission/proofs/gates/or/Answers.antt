@@ -24,7 +24,8 @@ returns-then-n-eq0 c =
     (or-none (take n out) g (length-take-le n out (search rules) ∙ c.if-n-eq0.true)
     ∙ settled-or c.args.inputs.now out n c.settle-n.ensures g)
     refl
-    (emits-return (negative 1) c.args.list.now c.args.tape c.requires.bounded (inside-absent g c.requires.bounded.first))
+    (emits-return (negative 1) c.args.list.now c.args.tape c.requires.bounded
+    (inside-absent g c.requires.bounded.first))
 
 pub returns-then-n-eq1 : goal.returns-then-n-eq1
 returns-then-n-eq1 c =

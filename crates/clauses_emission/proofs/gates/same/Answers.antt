@@ -18,9 +18,11 @@ returns c =
     let ey = back y.result.literal (search rules) in
     let ep = back p c.ranges.p in
     let eq = back q c.ranges.q in
-    emits-bind (two.implies (literal_of p, literal_of q)) (λ l. two.implies (literal_of q, literal_of p) >>= λ m. two.both (l, m))
+    emits-bind (two.implies (literal_of p, literal_of q))
+    (λ l. two.implies (literal_of q, literal_of p) >>= λ m. two.both (l, m))
     (regular-or _)
-    (λ l. regular-bind (two.implies (literal_of q, literal_of p)) (λ m. two.both (l, m)) (regular-or _) (λ m. regular-and (l ∷ m ∷ [])))
+    (λ l. regular-bind (two.implies (literal_of q, literal_of p)) (λ m. two.both (l, m)) (regular-or _)
+    (λ m. regular-and (l ∷ m ∷ [])))
     (rw (ep, eq) at x.ensures)
     (emits-bind (two.implies (literal_of q, literal_of p)) (λ m. two.both (literal_of x.result.literal, m))
     (regular-or _) (λ m. regular-and (literal_of x.result.literal ∷ m ∷ []))

@@ -16,7 +16,8 @@ use Rattle.clauses_rules.specs.Translation.{absent}
 use Rattle.clauses_emission.specs.Emission.{Inside}
 use Rattle.clauses_emission.specs.Settling.{Tells}
 use Rattle.clauses_emission.proofs.Ranges.{opposite-read, inside_one}
-use Rattle.clauses_emission.proofs.Twos.{or-absent-first, or-absent-second, or-repeat, or-one-first, or-one-second, or-opposites}
+use Rattle.clauses_emission.proofs.Twos.{or-absent-first, or-absent-second, or-repeat, or-one-first, or-one-second}
+use Rattle.clauses_emission.proofs.Twos.{or-opposites}
 use Rattle.clauses_emission.proofs.gates.told.Goals as goal
 use Rattle.clauses_emission.proofs.gates.told.Lts as lts
 use Rattle.clauses_emission.proofs.gates.told.Tie as tie
@@ -74,7 +75,8 @@ returns-then-p-eqminus1 c =
     let start = c.before in
     let a = start.args in
     gives-second start
-    (λ g. or-absent-first (literal_of a.p) (literal_of a.q) g (ap literal_of (same-as a.p start.ranges.p c.if-p-eqminus1.true)))
+    (λ g. or-absent-first (literal_of a.p) (literal_of a.q) g
+    (ap literal_of (same-as a.p start.ranges.p c.if-p-eqminus1.true)))
 
 pub returns-then-q-eqminus1 : goal.returns-then-q-eqminus1
 returns-then-q-eqminus1 c =
@@ -92,7 +94,8 @@ returns-then-p-q c =
     gives-first start
     (λ g.
     or-repeat (literal_of a.p) (literal_of a.q) g (not-absent a.p c.if-p-eqminus1.false)
-    (not-absent a.q c.if-q-eqminus1.false) (ap literal_of (same_word a.p a.q start.ranges.p start.ranges.q c.if-p-q.true)))
+    (not-absent a.q c.if-q-eqminus1.false) (ap literal_of
+    (same_word a.p a.q start.ranges.p start.ranges.q c.if-p-q.true)))
 
 pub returns-then-p-eq1 : goal.returns-then-p-eq1
 returns-then-p-eq1 c =
@@ -106,7 +109,8 @@ returns-then-q-eq1 c =
     let start = c.before.before.before.before.before in
     let a = start.args in
     gives_one start
-    (λ g. or-one-second (literal_of a.p) (literal_of a.q) g (ap literal_of (same-as a.q start.ranges.q c.if-q-eq1.true)))
+    (λ g. or-one-second (literal_of a.p) (literal_of a.q) g
+    (ap literal_of (same-as a.q start.ranges.q c.if-q-eq1.true)))
 
 -- the word of the opposite of q
 turned : (c : At-After-opposite)
@@ -115,7 +119,8 @@ turned c =
     let start = c.before.before.before.before.before.before in
     let f : SFits w32 c.opposite.result = record { sfits = c.opposite.type_inv } in
     ap literal_of (sym (back c.opposite.result f))
-    ∙ opposite-read 16002 start.args.q c.opposite.result (omega arith) start.ranges.q start.requires.inside_2 c.opposite.ensures f
+    ∙ opposite-read 16002 start.args.q c.opposite.result (omega arith) start.ranges.q start.requires.inside_2
+    c.opposite.ensures f
 
 pub returns-then-p-opposite : goal.returns-then-p-opposite
 returns-then-p-opposite c =
@@ -125,4 +130,5 @@ returns-then-p-opposite c =
     gives_one start
     (λ g.
     or-opposites (literal_of a.p) (literal_of a.q) g
-    (ap literal_of (same_word a.p r.result start.ranges.p (record { sfits = r.type_inv }) c.if-p-opposite.true) ∙ turned c.before))
+    (ap literal_of (same_word a.p r.result start.ranges.p (record { sfits = r.type_inv }) c.if-p-opposite.true)
+    ∙ turned c.before))

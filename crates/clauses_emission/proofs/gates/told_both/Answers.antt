@@ -47,4 +47,5 @@ returns c n =
     let g : SFits w32 r = record { sfits = c.opposite-3.type_inv } in
     let t = c.told.ensures.told (λ z. n (back r g ∙ c.opposite-3.ensures ∙ ap (λ (w : ℤ). opposite_word (read w)) z)) in
     told-turned (turned-p at.before) (turned-q at)
-    (opposite-read 16002 l r (omega arith) f (t.inside (omega arith) (inside-p at) (inside-q at)) c.opposite-3.ensures g) t
+    (opposite-read 16002 l r (omega arith) f (t.inside (omega arith) (inside-p at) (inside-q at)) c.opposite-3.ensures
+    g) t

@@ -12,7 +12,8 @@ use Rattle.literal.proofs.Signs.{read, back, same_word, same-as}
 use Rattle.literal.proofs.Same.{one_word}
 use Rattle.clauses_emission.specs.Emission.{Inside}
 use Rattle.clauses_emission.proofs.Ranges.{opposite-read}
-use Rattle.clauses_emission.proofs.Looks.{look-itself, look-opposite, look-past, look-end, look-absent, look_one, look-further}
+use Rattle.clauses_emission.proofs.Looks.{look-itself, look-opposite, look-past, look-end, look-absent, look_one}
+use Rattle.clauses_emission.proofs.Looks.{look-further}
 use Rattle.clauses_emission.proofs.inputs.look.Goals as goal
 
 -- the word of the opposite literal

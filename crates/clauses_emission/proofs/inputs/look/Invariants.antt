@@ -12,7 +12,8 @@ use Rattle.clauses_emission.proofs.inputs.look.Given as goal
 abbrev pub invariant-loop-k : goal.invariant-loop-k
 invariant-loop-k l =
     (l.k ≤ length l.kept)
-    × (seen_in (literals_of (drop l.k l.kept)) (literal_of l.l) ≡ seen_in (absent ∷ literals_of l.kept) (literal_of l.l))
+    × (seen_in (literals_of (drop l.k l.kept)) (literal_of l.l) ≡ seen_in (absent ∷ literals_of l.kept)
+    (literal_of l.l))
 
 abbrev pub decreases-loop-k : goal.decreases-loop-k
 decreases-loop-k l = length l.kept - l.k

@@ -61,4 +61,5 @@ loop-k-preserved c =
 pub returns : goal.returns
 returns c =
     let loop = c.loop-k in
-    settling-done c.args.inputs.now loop.inputs loop.n loop.k (omega (arith, c.loop-k-test.false, loop.invariant.size)) loop.invariant
+    settling-done c.args.inputs.now loop.inputs loop.n loop.k
+    (omega (arith, c.loop-k-test.false, loop.invariant.size)) loop.invariant

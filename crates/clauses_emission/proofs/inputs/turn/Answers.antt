@@ -29,6 +29,7 @@ loop-k-preserved c =
     in (
       omega arith,
       simp length-set loop.invariant.1,
-      rw (add-one k) (opposites-next ws loop.inputs k (read c.opposite.result) h (omega (arith, loop.invariant.1)) loop.invariant.2 o),
+      rw (add-one k) (opposites-next ws loop.inputs k (read c.opposite.result) h (omega (arith, loop.invariant.1))
+          loop.invariant.2 o),
       rest-set loop.inputs ws k k (read c.opposite.result) (omega arith) loop.invariant.3,
     )

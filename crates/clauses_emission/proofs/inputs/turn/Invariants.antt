@@ -1,4 +1,5 @@
--- `inputs::turn` meets its contract. The loop's invariant: before place k stand the opposites, behind it what was there.
+-- `inputs::turn` meets its contract. The loop's invariant: before place k stand the opposites, behind it what was
+-- there.
 use mathlib.Core.Path.{◌≡◌}
 use mathlib.Core.List.{map}
 use Prim.Native.Nat.{◌-◌, ◌≤◌}

@@ -28,7 +28,8 @@ returns c =
     let call = c.positive-count in
     let more : 1 + length others ≡ suc (length others) = omega arith in
     let count : read call.result ≡ pos (suc (length others)) =
-    back call.result (record { sfits = call.type_inv }) ∙ call.ensures ∙ positive-is (1 + length others) (omega (arith, start.requires)) ∙ ap pos more
+    back call.result (record { sfits = call.type_inv }) ∙ call.ensures ∙ positive-is (1 + length others)
+    (omega (arith, start.requires)) ∙ ap pos more
     in
     put-done start.args.rest.now _ _ c.loop-k.rest _ _ _ _ c.loop-k.k others
     c.put.ensures

@@ -8,7 +8,8 @@ use Rattle.clauses_marks.proofs.members.members.Given as goal
 
 abbrev pub invariant-loop-r : goal.invariant-loop-r
 invariant-loop-r l =
-    (l.r ≤ l.count) × Adds (384 * l.r) (series l.r (relation_inside (sheet_of l.sheet) (literals_of l.given))) l.initial.list l.initial.after l.list l.after
+    (l.r ≤ l.count) × Adds (384 * l.r) (series l.r (relation_inside (sheet_of l.sheet) (literals_of l.given)))
+    l.initial.list l.initial.after l.list l.after
 
 abbrev pub decreases-loop-r : goal.decreases-loop-r
 decreases-loop-r l = l.count - l.r

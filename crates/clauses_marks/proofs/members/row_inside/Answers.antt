@@ -20,7 +20,8 @@ use Rattle.clauses_marks.proofs.members.row_inside.Tie as tie
 use Rattle.clauses_marks.proofs.members.row_inside.Reads as reads
 
 abbrev At-After-word_at : Type 0
-At-After-word_at = lts.After-word_at tie.the-claims reads.Pre reads.Post goal.the-invariant-loop-j goal.the-decreases-loop-j tie.handed_clauses
+At-After-word_at = lts.After-word_at tie.the-claims reads.Pre reads.Post goal.the-invariant-loop-j
+    goal.the-decreases-loop-j tie.handed_clauses
 
 pub loop-j-init : goal.loop-j-init
 loop-j-init c =

@@ -8,7 +8,8 @@ use Rattle.clauses_marks.proofs.members.row_inside.Given as goal
 
 abbrev pub invariant-loop-j : goal.invariant-loop-j
 invariant-loop-j l =
-    (l.j ≤ l.columns) × Adds (6 * l.j) (series l.j (cell_clauses (sheet_of l.sheet) (literals_of l.given) l.r l.i)) l.initial.list l.initial.after l.list l.after
+    (l.j ≤ l.columns) × Adds (6 * l.j) (series l.j (cell_clauses (sheet_of l.sheet) (literals_of l.given) l.r l.i))
+    l.initial.list l.initial.after l.list l.after
 
 abbrev pub decreases-loop-j : goal.decreases-loop-j
 decreases-loop-j l = l.columns - l.j

@@ -11,8 +11,11 @@ use Rattle.clauses_matrix.proofs.operators.closure.Goals as goal
 pub loop-k-init : goal.loop-k-init
 unfolding after_rounds
 loop-k-init c =
-    let start = c.before in
-    (omega arith, emits-return (matrix_of start.args.p) start.args.list.now start.args.tape start.requires.bounded start.requires.operand)
+    let start = c.before in (
+      omega arith,
+      emits-return (matrix_of start.args.p) start.args.list.now start.args.tape start.requires.bounded
+          start.requires.operand,
+    )
 
 pub returns-then-same_words : goal.returns-then-same_words
 returns-then-same_words c =
@@ -31,5 +34,6 @@ loop-k-preserved c =
     let k = loop.k in (
       add-one-le call.loop-k-test.true,
       rw (add-one k)
-          (emits-bind (after_rounds k p) round_of (regular-rounds k p) regular-round loop.invariant.1 call.round-made.ensures),
+          (emits-bind (after_rounds k p) round_of (regular-rounds k p) regular-round loop.invariant.1
+          call.round-made.ensures),
     )

@@ -31,14 +31,16 @@ pub loop-k-init : goal.loop-k-init
 loop-k-init c =
     let p = c.args.p in (
       omega arith,
-      λ list. cells-start (λ l. return l) (λ a. literal_of (get_or p.cells ((a % p.rows) * p.columns + a / p.rows) (pos 0))) list
+      λ list. cells-start (λ l. return l) (λ a. literal_of
+          (get_or p.cells ((a % p.rows) * p.columns + a / p.rows) (pos 0))) list
           c.args.tape c.requires.bounded,
     )
 
 below : (c : At-In-loop) → c.loop-k.k < 64
 below c =
     let start = c.before.before in
-    cell_below start.args.p.columns start.args.p.rows c.loop-k.k start.requires.operand.columns start.requires.operand.rows
+    cell_below start.args.p.columns start.args.p.rows c.loop-k.k start.requires.operand.columns
+    start.requires.operand.rows
     c.loop-k-test.true
 
 -- the place that the cell comes from
@@ -87,15 +89,18 @@ returns c =
     (row_below p.columns p.rows a l))
     in
     let e : map (λ a. turned (place_of p.rows a)) (upto (p.columns * p.rows)) ≡ map turned (places p.columns p.rows) =
-    sym (ap (map turned) (places-by-number p.columns p.rows) ∙ map-map turned (place_of p.rows) (upto (p.columns * p.rows)))
+    sym (ap (map turned) (places-by-number p.columns p.rows) ∙ map-map turned (place_of p.rows)
+    (upto (p.columns * p.rows)))
     in
     λ list.
     let cells = cells-done (λ l. return l) (λ l. regular-return l)
     (λ a. literal_of (get_or p.cells ((a % p.rows) * p.columns + a / p.rows) (pos 0)))
-    (λ a. turned (place_of p.rows a)) loop.k (p.columns * p.rows) loop.cells loop.invariant.0 c.loop-k-test.false same (loop.invariant.1 list)
+    (λ a. turned (place_of p.rows a)) loop.k (p.columns * p.rows) loop.cells loop.invariant.0 c.loop-k-test.false same
+    (loop.invariant.1 list)
     in
     emits-map (relation_of p.columns p.rows) (return (map turned (places p.columns p.rows)))
-    (emits-as (ap (λ ls. each (λ l. return l) ls n) e ∙ each-return (map turned (places p.columns p.rows)) n) refl cells) refl
+    (emits-as (ap (λ ls. each (λ l. return l) ls n) e ∙ each-return (map turned (places p.columns p.rows)) n) refl
+    cells) refl
     (record {
       arity_low = omega arith;
       arity_high = omega arith;

@@ -13,7 +13,8 @@ abbrev pub invariant-loop-k : goal.invariant-loop-k
 invariant-loop-k l =
     (l.k ≤ l.size)
     × ((list : List ℤ) → EmitsCells l.k
-    (each (λ l. return l) (map (λ a. literal_of (get_or l.p.cells ((a % l.rows) * l.columns + a / l.rows) (pos 0))) (upto l.k))
+    (each (λ l. return l) (map (λ a. literal_of (get_or l.p.cells ((a % l.rows) * l.columns + a / l.rows) (pos 0)))
+    (upto l.k))
     l.tape.next) list l.tape l.cells list l.tape)
 
 abbrev pub decreases-loop-k : goal.decreases-loop-k

@@ -26,7 +26,8 @@ both-made-requires c =
       bounded = loop.invariant.emits.bounded;
       inside = rw (back (get_or a.left.now loop.k (pos 0)) (record { sfits = c.both-arg-in-loop-k-1.given }))
           (row_inside start.requires.row_and_column turn.loop-k-test.true grows);
-      inside_2 = rw (back (get_or a.right.now (loop.k * a.columns + a.j) (pos 0)) (record { sfits = c.both-arg-in-loop-k-2-1.given }))
+      inside_2 = rw (back (get_or a.right.now (loop.k * a.columns + a.j) (pos 0))
+          (record { sfits = c.both-arg-in-loop-k-2-1.given }))
           (column-inside start.requires.row_and_column turn.loop-k-test.true grows);
     }
 
@@ -43,7 +44,8 @@ loop-k-preserved c =
     (met_next start.requires.row_and_column turn.loop-k-test.true w loop.invariant
     (rw (
       back (get_or a.left.now loop.k (pos 0)) (record { sfits = read.both-arg-in-loop-k-1.given }),
-      back (get_or a.right.now (loop.k * a.columns + a.j) (pos 0)) (record { sfits = read.both-arg-in-loop-k-2-1.given }),
+      back (get_or a.right.now (loop.k * a.columns + a.j) (pos 0))
+          (record { sfits = read.both-arg-in-loop-k-2-1.given }),
     )
     at call.ensures))
 

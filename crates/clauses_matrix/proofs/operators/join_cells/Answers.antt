@@ -45,12 +45,15 @@ join_cell-made-requires-clause-row_and_column c =
     columns.result columns.ensures.0 loop.k c.loop-k-test.true loop.invariant.1.bounded.first)
 
 -- one cell more
-made : (p q : Literals) (columns : ℕ) → p.rows ≤ 8 → columns ≤ 8 → (k start j : ℕ) → k < p.rows * columns → AtPlace columns p.columns k start j
+made : (p q : Literals) (columns : ℕ) → p.rows ≤ 8 → columns ≤ 8 → (k start j : ℕ) → k < p.rows * columns
+    → AtPlace columns p.columns k start j
     → {old mid new : List ℤ} {a b c : Tape} (out : List ℤ) (w : ℤ)
     → EmitsCells k (each join_cell (map (middles_at p.cells q.cells p.columns columns) (upto k)) a.next) old a out mid b
-    → EmitsLiteral (join_cell (row_middles (literals_of (take (start + p.columns - start) (drop start p.cells))) (literals_of q.cells) columns j) b.next)
+    → EmitsLiteral (join_cell (row_middles (literals_of (take (start + p.columns - start) (drop start p.cells)))
+    (literals_of q.cells) columns j) b.next)
     mid b w new c
-    → EmitsCells (k + 1) (each join_cell (map (middles_at p.cells q.cells p.columns columns) (upto (k + 1))) a.next) old a (set out k w) new c
+    → EmitsCells (k + 1) (each join_cell (map (middles_at p.cells q.cells p.columns columns) (upto (k + 1))) a.next)
+    old a (set out k w) new c
 made p q columns h l k start j t at out w s e =
     rw (add-one k)
     (cells-next join_cell regular-join-cell (middles_at p.cells q.cells p.columns columns) k out w
@@ -63,7 +66,8 @@ loop-k-preserved-then-j-columns c =
     let call = c.join_cell-made in
     rw (back call.result.literal (search rules)) (
       add-one-le c.loop-k-test.true,
-      made c.args.p c.args.q columns.result c.requires.operand.rows columns.ensures.1 loop.k loop.start loop.j c.loop-k-test.true
+      made c.args.p c.args.q columns.result c.requires.operand.rows columns.ensures.1 loop.k loop.start loop.j
+          c.loop-k-test.true
           loop.invariant.2 loop.cells call.result.literal loop.invariant.1 call.ensures,
       place_down loop.invariant.2 c.if-j-columns.true,
     )
@@ -77,7 +81,8 @@ loop-k-preserved c =
     rw loop.invariant.2.column (column-below c.args.p.rows columns.result loop.k c.loop-k-test.true) in
     rw (back call.result.literal (search rules)) (
       add-one-le c.loop-k-test.true,
-      made c.args.p c.args.q columns.result c.requires.operand.rows columns.ensures.1 loop.k loop.start loop.j c.loop-k-test.true
+      made c.args.p c.args.q columns.result c.requires.operand.rows columns.ensures.1 loop.k loop.start loop.j
+          c.loop-k-test.true
           loop.invariant.2 loop.cells call.result.literal loop.invariant.1 call.ensures,
       place-right loop.invariant.2 h c.if-j-columns.false,
     )
@@ -89,8 +94,10 @@ returns c =
     let p = matrix_of c.args.p in
     let q = matrix_of c.args.q in
     let same = middles-same c.requires.operand c.requires.operand_2 columns c.join_columns-columns.ensures.0 in
-    let cells = cells-done join_cell regular-join-cell (middles_at c.args.p.cells c.args.q.cells c.args.p.columns columns)
-    (λ k. middles absent p q (place_of columns k)) loop.k (c.args.p.rows * columns) loop.cells loop.invariant.0 c.loop-k-test.false
+    let cells = cells-done join_cell regular-join-cell
+    (middles_at c.args.p.cells c.args.q.cells c.args.p.columns columns)
+    (λ k. middles absent p q (place_of columns k)) loop.k (c.args.p.rows * columns) loop.cells loop.invariant.0
+    c.loop-k-test.false
     same loop.invariant.1
     in
     rw c.join_columns-columns.ensures.0 at (emits-as (join-by-number p q columns c.args.tape.next) refl cells)

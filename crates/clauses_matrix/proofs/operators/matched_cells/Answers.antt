@@ -22,7 +22,8 @@ use Rattle.clauses_matrix.proofs.operators.matched_cells.Tie as tie
 use Rattle.clauses_matrix.proofs.operators.matched_cells.Reads as reads
 
 abbrev At-In-loop : Type 0
-At-In-loop = lts.In-loop tie.the-claims reads.Pre reads.Post goal.the-invariant-loop-k goal.the-decreases-loop-k tie.handed_clauses
+At-In-loop = lts.In-loop tie.the-claims reads.Pre reads.Post goal.the-invariant-loop-k goal.the-decreases-loop-k
+    tie.handed_clauses
 
 pub loop-k-init : goal.loop-k-init
 loop-k-init c = (
@@ -34,7 +35,8 @@ loop-k-init c = (
 below : (c : At-In-loop) → c.loop-k.k < 64
 below c =
     let start = c.before.before in
-    cell_below start.args.p.rows start.args.p.columns c.loop-k.k start.requires.operand.rows start.requires.operand.columns
+    cell_below start.args.p.rows start.args.p.columns c.loop-k.k start.requires.operand.rows
+    start.requires.operand.columns
     c.loop-k-test.true
 
 pub pair-made-requires : goal.pair-made-requires
@@ -65,7 +67,8 @@ loop-k-preserved c =
     let w = call.result.literal in (
       add-one-le turn.loop-k-test.true,
       rw (add-one k, back w (search rules))
-          (cells-next (pairing kind) (regular-pairing kind) (pair_at left right (λ i. i) (λ i. i)) k loop.cells w (below turn) loop.invariant.1
+          (cells-next (pairing kind) (regular-pairing kind) (pair_at left right (λ i. i) (λ i. i)) k loop.cells w
+          (below turn) loop.invariant.1
           (rw (
             back (get_or left k (pos 0)) (record { sfits = c.pair-arg-in-loop-k-1.given }),
             back (get_or right k (pos 0)) (record { sfits = c.pair-arg-in-loop-k-2-1.given }),

@@ -11,7 +11,8 @@ use Rattle.clauses_matrix.proofs.operators.matched_cells.Given as goal
 abbrev pub invariant-loop-k : goal.invariant-loop-k
 invariant-loop-k l =
     (l.k ≤ l.size)
-    × EmitsCells l.k (each (pairing l.kind) (map (pair_at l.p.cells l.q.cells (λ i. i) (λ i. i)) (upto l.k)) l.initial.after.next)
+    × EmitsCells l.k (each (pairing l.kind) (map (pair_at l.p.cells l.q.cells (λ i. i) (λ i. i)) (upto l.k))
+    l.initial.after.next)
     l.initial.list l.initial.after l.cells l.list l.after
 
 abbrev pub decreases-loop-k : goal.decreases-loop-k

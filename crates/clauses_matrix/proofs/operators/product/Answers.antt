@@ -26,7 +26,8 @@ use Rattle.clauses_matrix.proofs.operators.product.Tie as tie
 use Rattle.clauses_matrix.proofs.operators.product.Reads as reads
 
 abbrev At-In-loop : Type 0
-At-In-loop = lts.In-loop tie.the-claims reads.Pre reads.Post goal.the-invariant-loop-k goal.the-decreases-loop-k tie.handed_clauses
+At-In-loop = lts.In-loop tie.the-claims reads.Pre reads.Post goal.the-invariant-loop-k goal.the-decreases-loop-k
+    tie.handed_clauses
 
 pub loop-k-init : goal.loop-k-init
 loop-k-init c = (
@@ -38,7 +39,8 @@ loop-k-init c = (
 below : (c : At-In-loop) → c.loop-k.k < 64
 below c =
     let start = c.before.before in
-    cell_below start.args.p.columns start.args.q.columns c.loop-k.k start.requires.operand.columns start.requires.operand_2.columns
+    cell_below start.args.p.columns start.args.q.columns c.loop-k.k start.requires.operand.columns
+    start.requires.operand_2.columns
     c.loop-k-test.true
 
 small : (k n : ℕ) → k < n → n ≤ 8 → k < 64
@@ -86,7 +88,8 @@ loop-k-preserved c =
     let w = call.result.literal in (
       add-one-le turn.loop-k-test.true,
       rw (add-one k, back w (search rules))
-          (cells-next both (regular-pairing Both) (pair_at left right (λ a. a / columns) (λ a. a % columns)) k loop.cells w (below turn)
+          (cells-next both (regular-pairing Both) (pair_at left right (λ a. a / columns) (λ a. a % columns)) k
+          loop.cells w (below turn)
           loop.invariant.1
           (rw (
             back (get_or left (k / columns) (pos 0)) (record { sfits = c.both-arg-in-loop-k-1.given }),
@@ -106,7 +109,11 @@ returns c =
     let n = start.args.tape.next in
     let cross : Place → Two = λ t. (cell_at absent (matrix_of p) t.0, cell_at absent (matrix_of q) t.1) in
     let same : (a : ℕ) → a < rows * columns
-    → ◌≡◌ {A = Two} (literal_of (get_or p.cells (a / columns) (pos 0)), literal_of (get_or q.cells (a % columns) (pos 0)))
+    → ◌≡◌ {A = Two} (
+      literal_of (get_or p.cells (a / columns) (pos 0)),
+      literal_of
+          (get_or q.cells (a % columns) (pos 0)),
+    )
     (cross (place_of columns a)) =
     λ a l.
     let h = small (a / columns) rows (row_below rows columns a l) start.requires.operand.columns in
@@ -114,7 +121,8 @@ returns c =
     rw (operand_at n p (a / columns) start.requires.operand h, operand_at n q (a % columns) start.requires.operand_2 g)
     in
     let cells = cells-done both (regular-pairing Both) (pair_at p.cells q.cells (λ a. a / columns) (λ a. a % columns))
-    (λ a. cross (place_of columns a)) loop.k (rows * columns) loop.cells loop.invariant.0 c.loop-k-test.false same loop.invariant.1
+    (λ a. cross (place_of columns a)) loop.k (rows * columns) loop.cells loop.invariant.0 c.loop-k-test.false same
+    loop.invariant.1
     in
     let e : map (λ a. cross (place_of columns a)) (upto (rows * columns)) ≡ crossed absent (matrix_of p) (matrix_of q) =
     sym (ap (map cross) (places-by-number rows columns) ∙ map-map cross (place_of columns) (upto (rows * columns)))

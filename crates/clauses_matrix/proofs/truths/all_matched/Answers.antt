@@ -13,7 +13,8 @@ and-requires c =
     let made = c.matched_cells-made in
     let size = start.args.p.rows * start.args.p.columns in record {
       bounded = made.ensures.bounded;
-      inputs = front-inputs size size made.result.tape.next made.result.cells made.ensures.bounded.first made.ensures.fine;
+      inputs = front-inputs size size made.result.tape.next made.result.cells made.ensures.bounded.first
+          made.ensures.fine;
     }
 
 pub returns : goal.returns

@@ -24,7 +24,8 @@ use Rattle.clauses_emission.proofs.Twos.{emits-told}
 use Rattle.clauses_emission.proofs.Steps.{regular-each, regular-pairing, regular-or, emits-bind, emits-as}
 use Rattle.clauses_matrix.proofs.Fills.{operand_at, operand-inside, cells-length}
 use Rattle.clauses_matrix.proofs.Pairs.{passed_start, passed-room, passed-stay}
-use Rattle.clauses_matrix.proofs.Pairs.{passed-wrap, passed-all, passed-few, passed-inputs, never_both, less-stay, less-wrap}
+use Rattle.clauses_matrix.proofs.Pairs.{passed-wrap, passed-all, passed-few, passed-inputs, never_both, less-stay}
+use Rattle.clauses_matrix.proofs.Pairs.{less-wrap}
 use Rattle.clauses_matrix.proofs.truths.lone.Goals as goal
 use Rattle.clauses_matrix.proofs.truths.lone.Goals.{then-l-eq0, else-l-eq0}
 use Rattle.clauses_matrix.specs.declared.Literals.{Literals}
@@ -56,19 +57,22 @@ pub told_both-l-requires-clause-inside_2 : goal.told_both-l-requires-clause-insi
 told_both-l-requires-clause-inside_2 c =
     rw (back (get_or c.args.p.cells c.loop-j.j (pos 0)) (search rules))
     (inside-grows c.requires.bounded.last
-    (operand-inside c.args.tape.next c.args.p c.loop-j.j c.requires.operand (below c.requires.operand c.loop-j-test.true)))
+    (operand-inside c.args.tape.next c.args.p c.loop-j.j c.requires.operand
+    (below c.requires.operand c.loop-j-test.true)))
 
 pub both-made-requires-clause-inside : goal.both-made-requires-clause-inside
 both-made-requires-clause-inside c =
     let h : c.loop-j.i < 64 = omega (arith, below c.requires.operand c.loop-j-test.true, c.loop-j.invariant.later) in
     rw (back (get_or c.args.p.cells c.loop-j.i (pos 0)) (search rules))
-    (inside-grows c.loop-j.invariant.emits.grows (operand-inside c.args.tape.next c.args.p c.loop-j.i c.requires.operand h))
+    (inside-grows c.loop-j.invariant.emits.grows
+    (operand-inside c.args.tape.next c.args.p c.loop-j.i c.requires.operand h))
 
 pub both-made-requires-clause-inside_2 : goal.both-made-requires-clause-inside_2
 both-made-requires-clause-inside_2 c =
     rw (back (get_or c.args.p.cells c.loop-j.j (pos 0)) (search rules))
     (inside-grows c.loop-j.invariant.emits.grows
-    (operand-inside c.args.tape.next c.args.p c.loop-j.j c.requires.operand (below c.requires.operand c.loop-j-test.true)))
+    (operand-inside c.args.tape.next c.args.p c.loop-j.j c.requires.operand
+    (below c.requires.operand c.loop-j-test.true)))
 
 pub bounds-pairs-t : goal.bounds-pairs-t
 bounds-pairs-t c =
@@ -88,15 +92,18 @@ loop-j-smaller-then-j-n c =
     (inner o c.loop-j-test.true) (few o) (c.if-j-n.true ∙ sym (size_of o))
 
 -- the step of two words is the step of their cells
-of_words : {n : ℕ} {p : Literals} (o : Operand n p) (i j : ℕ) → i < 64 → j < 64 → {old new : List ℤ} {a b : Tape} (w : ℤ)
+of_words : {n : ℕ} {p : Literals} (o : Operand n p) (i j : ℕ) → i < 64 → j < 64
+    → {old new : List ℤ} {a b : Tape} (w : ℤ)
     → EmitsTwo both (get_or p.cells i (pos 0)) (get_or p.cells j (pos 0)) old a w new b
-    → EmitsLiteral (both (get_or (matrix_of p).cells i absent, get_or (matrix_of p).cells j absent) a.next) old a w new b
+    → EmitsLiteral (both (get_or (matrix_of p).cells i absent, get_or (matrix_of p).cells j absent) a.next) old a w
+    new b
 of_words {n} {p} o i j h l w e = rw (operand_at n p i o h, operand_at n p j o l) at e
 
 -- what a turn's pair gives: made, or told
 made : (c : goal.Joined-l-eq0)
     → EmitsLiteral
-    (both (get_or (matrix_of c.args.p).cells c.loop-j.i absent, get_or (matrix_of c.args.p).cells c.loop-j.j absent) c.loop-j.after.next)
+    (both (get_or (matrix_of c.args.p).cells c.loop-j.i absent, get_or (matrix_of c.args.p).cells c.loop-j.j absent)
+    c.loop-j.after.next)
     c.loop-j.list c.loop-j.after (to_z w32 c.if-l-eq0.l-bits) c.if-l-eq0.list c.if-l-eq0.after
 made c =
     let loop = c.loop-j in
@@ -113,9 +120,11 @@ made c =
     elim c.if-l-eq0.branch [
       | then-l-eq0 w ↦
           let r = w.both-made.result.literal in
-          rw (w.list-is, w.after-is, w.l-is, back r (search rules)) (of_words o loop.i loop.j h l r (rw (p, q) at w.both-made.ensures))
+          rw (w.list-is, w.after-is, w.l-is, back r (search rules))
+          (of_words o loop.i loop.j h l r (rw (p, q) at w.both-made.ensures))
       | else-l-eq0 w ↦
-          let told : Told both first second call.result = rw (p, q) at (call.ensures (λ z. w.if-l-eq0.false (ap (of_z w32) z))) in
+          let told : Told both first second call.result = rw (p, q) at
+          (call.ensures (λ z. w.if-l-eq0.false (ap (of_z w32) z))) in
           rw (w.list-is, w.after-is, w.l-is, back call.result (record { sfits = call.type_inv }))
           (of_words o loop.i loop.j h l call.result
           (emits-told both told loop.list loop.after loop.invariant.emits.bounded
@@ -139,7 +148,8 @@ pub loop-j-preserved : goal.loop-j-preserved
 loop-j-preserved c =
     let o = c.requires.operand in
     passed-stay (matrix_of c.args.p).cells c.loop-j.t c.loop-j.i c.loop-j.j c.loop-j.pairs c.loop-j.invariant
-    (inner o c.loop-j-test.true) (few o) (to_z w32 c.if-l-eq0.l-bits) (made c.before) (λ e. c.if-j-n.false (e ∙ size_of o))
+    (inner o c.loop-j-test.true) (few o) (to_z w32 c.if-l-eq0.l-bits) (made c.before)
+    (λ e. c.if-j-n.false (e ∙ size_of o))
 
 pub slice_bounds-pairs-end : goal.slice_bounds-pairs-end
 slice_bounds-pairs-end c =
@@ -153,7 +163,8 @@ slice_bounds-pairs-end c =
 pub slice_bounds-or-end : goal.slice_bounds-or-end
 slice_bounds-or-end c =
     let loop = c.loop-j in
-    let f = passed-few (matrix_of c.args.p).cells loop.t loop.i loop.j loop.pairs loop.invariant (few c.requires.operand) in
+    let f = passed-few (matrix_of c.args.p).cells loop.t loop.i loop.j loop.pairs loop.invariant
+    (few c.requires.operand) in
     sym (length-take-le loop.t loop.pairs (omega (arith, loop.invariant.room, f)))
 
 pub or-met-requires-clause-inputs : goal.or-met-requires-clause-inputs

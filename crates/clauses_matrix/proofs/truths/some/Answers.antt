@@ -9,5 +9,6 @@ or-requires c =
     let p = start.args.p in
     let size = p.rows * p.columns in record {
       bounded = start.requires.bounded;
-      inputs = front-inputs size size start.args.tape.next p.cells start.requires.bounded.first start.requires.operand.cells;
+      inputs = front-inputs size size start.args.tape.next p.cells start.requires.bounded.first
+          start.requires.operand.cells;
     }

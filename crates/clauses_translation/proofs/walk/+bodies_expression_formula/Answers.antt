@@ -30,7 +30,8 @@ use Rattle.clauses_translation.proofs.BodyWalks.{done_none, done_more, done_all}
 use Rattle.clauses_translation.proofs.walk.+bodies_expression_formula.Goals as goal
 
 -- the node that the walk has read
-module _ {s : List ℕ} {layout : Layout} {given : List ℤ} {starts : List ℕ} {tape : Tape} (r : Ready s layout given starts tape)
+module _ {s : List ℕ} {layout : Layout} {given : List ℤ} {starts : List ℕ} {tape : Tape}
+    (r : Ready s layout given starts tape)
     {v : ℕ} {node : Node} (e : node ≡ node_at (sheet_of s).nodes v) where
   expression_node : IsExpression (sheet_of s) v → Reached (sheet_of s) v node IsExpression
   expression_node i = record { facts = accepted-facts _ _ r.located.taken; read = e; tree = i }
@@ -61,7 +62,8 @@ bodies-returns t c =
 
 pub expression-returns-then-tape-gt-LIMIT : goal.expression-returns-then-tape-gt-LIMIT
 expression-returns-then-tape-gt-LIMIT t c =
-    expression-over c.args.given.now c.args.env c.requires.ready.bounded c.if-tape-gt-LIMIT.true c.nothing-matrix.ensures
+    expression-over c.args.given.now c.args.env c.requires.ready.bounded c.if-tape-gt-LIMIT.true
+    c.nothing-matrix.ensures
 
 pub formula-returns-then-tape-gt-LIMIT : goal.formula-returns-then-tape-gt-LIMIT
 formula-returns-then-tape-gt-LIMIT t c =
@@ -81,75 +83,91 @@ expression-leaf-matrix-requires-clause-a_bound t c =
 
 pub expression-expression-p-requires : goal.expression-expression-p-requires
 expression-expression-p-requires t c =
-    let b = at-binary (expression_node c.requires.ready c.read_node-node.ensures.0 c.requires.expression) c.in-Binary.is in
+    let b = at-binary (expression_node c.requires.ready c.read_node-node.ensures.0 c.requires.expression)
+    c.in-Binary.is in
     (omega (arith, b.lower_a, c.decreases), (c.requires.ready, b.left))
 
 pub expression-expression-q-requires : goal.expression-expression-q-requires
 expression-expression-q-requires t c =
-    let b = at-binary (expression_node c.requires.ready c.read_node-node.ensures.0 c.requires.expression) c.in-Binary.is in
+    let b = at-binary (expression_node c.requires.ready c.read_node-node.ensures.0 c.requires.expression)
+    c.in-Binary.is in
     (omega (arith, b.lower_b, c.decreases), (ready-after c.expression-p.ensures b.left c.requires.ready, b.right))
 
 pub expression-binary-requires : goal.expression-binary-requires
 expression-binary-requires t c =
-    let b = at-binary (expression_node c.requires.ready c.read_node-node.ensures.0 c.requires.expression) c.in-Binary.is in
-    let e = both-finished c.expression-q.ensures b.right (λ _ _. operand-grow) (finished c.expression-p.ensures b.left).1 in
+    let b = at-binary (expression_node c.requires.ready c.read_node-node.ensures.0 c.requires.expression)
+    c.in-Binary.is in
+    let e = both-finished c.expression-q.ensures b.right (λ _ _. operand-grow)
+    (finished c.expression-p.ensures b.left).1 in
     record { bounded = e.0; operand = e.1.0; operand_2 = e.1.1 }
 
 pub expression-expression-p-requires-in-Unary : goal.expression-expression-p-requires-in-Unary
 expression-expression-p-requires-in-Unary t c =
-    let b = at-unary (expression_node c.requires.ready c.read_node-node.ensures.0 c.requires.expression) c.in-Unary.is in
+    let b = at-unary (expression_node c.requires.ready c.read_node-node.ensures.0 c.requires.expression) c.in-Unary.is
+    in
     (omega (arith, b.lower_a, c.decreases), (c.requires.ready, b.left))
 
 pub expression-unary-requires : goal.expression-unary-requires
 expression-unary-requires t c =
-    let e = finished c.expression-p-in-Unary.ensures (at-unary (expression_node c.requires.ready c.read_node-node.ensures.0 c.requires.expression) c.in-Unary.is).left in
+    let e = finished c.expression-p-in-Unary.ensures
+    (at-unary (expression_node c.requires.ready c.read_node-node.ensures.0 c.requires.expression) c.in-Unary.is).left in
     record { bounded = e.0; operand = e.1 }
 
 pub expression-bodies-row-requires : goal.expression-bodies-row-requires
 expression-bodies-row-requires t c =
-    let b = at-comprehension (expression_node c.requires.ready c.read_node-node.ensures.0 c.requires.expression) c.in-Comprehension.is in
+    let b = at-comprehension (expression_node c.requires.ready c.read_node-node.ensures.0 c.requires.expression)
+    c.in-Comprehension.is in
     (omega (arith, b.lower_b, c.decreases), (c.requires.ready, (b.body, b.names)))
 
 pub expression-comprehend-requires-clause-bodies : goal.expression-comprehend-requires-clause-bodies
 expression-comprehend-requires-clause-bodies t c =
-    let b = at-comprehension (expression_node c.requires.ready c.read_node-node.ensures.0 c.requires.expression) c.in-Comprehension.is in
+    let b = at-comprehension (expression_node c.requires.ready c.read_node-node.ensures.0 c.requires.expression)
+    c.in-Comprehension.is in
     let r = ready-after c.bodies-row.ensures b.body c.requires.ready in
     record { bounded = r.bounded; fine = (finished c.bodies-row.ensures b.body).1; inside = r.inside }
 
 pub expression-returns-in-Leaf : goal.expression-returns-in-Leaf
 expression-returns-in-Leaf t c =
-    leaf-walks c.args.given.now c.args.env (expression_node c.requires.ready c.read_node-node.ensures.0 c.requires.expression) c.in-Leaf.is
+    leaf-walks c.args.given.now c.args.env (expression_node c.requires.ready c.read_node-node.ensures.0
+    c.requires.expression) c.in-Leaf.is
     c.requires.ready.bounded c.requires.ready.inside c.leaf-matrix.ensures
 
 pub expression-returns-in-Binary : goal.expression-returns-in-Binary
 expression-returns-in-Binary t c =
-    binary-walks c.args.given.now c.args.env (expression_node c.requires.ready c.read_node-node.ensures.0 c.requires.expression) c.in-Binary.is
+    binary-walks c.args.given.now c.args.env (expression_node c.requires.ready c.read_node-node.ensures.0
+    c.requires.expression) c.in-Binary.is
     c.expression-p.ensures c.expression-q.ensures c.binary.ensures
 
 pub expression-returns-in-Unary : goal.expression-returns-in-Unary
 expression-returns-in-Unary t c =
-    unary-walks c.args.given.now c.args.env (expression_node c.requires.ready c.read_node-node.ensures.0 c.requires.expression) c.in-Unary.is
+    unary-walks c.args.given.now c.args.env (expression_node c.requires.ready c.read_node-node.ensures.0
+    c.requires.expression) c.in-Unary.is
     c.expression-p-in-Unary.ensures c.unary.ensures
 
 pub expression-returns-in-Comprehension : goal.expression-returns-in-Comprehension
 expression-returns-in-Comprehension t c =
-    comprehension-walks c.args.given.now c.args.env (expression_node c.requires.ready c.read_node-node.ensures.0 c.requires.expression) c.in-Comprehension.is
+    comprehension-walks c.args.given.now c.args.env
+    (expression_node c.requires.ready c.read_node-node.ensures.0 c.requires.expression) c.in-Comprehension.is
     c.bodies-row.ensures (c.comprehend.ensures (environment c.args.env))
 
 pub formula-expression-p-requires : goal.formula-expression-p-requires
 formula-expression-p-requires t c =
-    let b = at-comparison (formula_node c.requires.ready c.read_node-node.ensures.0 c.requires.formula) c.in-Comparison.is in
+    let b = at-comparison (formula_node c.requires.ready c.read_node-node.ensures.0 c.requires.formula)
+    c.in-Comparison.is in
     (omega (arith, b.lower_a, c.decreases), (c.requires.ready, b.left))
 
 pub formula-expression-q-requires : goal.formula-expression-q-requires
 formula-expression-q-requires t c =
-    let b = at-comparison (formula_node c.requires.ready c.read_node-node.ensures.0 c.requires.formula) c.in-Comparison.is in
+    let b = at-comparison (formula_node c.requires.ready c.read_node-node.ensures.0 c.requires.formula)
+    c.in-Comparison.is in
     (omega (arith, b.lower_b, c.decreases), (ready-after c.expression-p.ensures b.left c.requires.ready, b.right))
 
 pub formula-compare-requires : goal.formula-compare-requires
 formula-compare-requires t c =
-    let b = at-comparison (formula_node c.requires.ready c.read_node-node.ensures.0 c.requires.formula) c.in-Comparison.is in
-    let e = both-finished c.expression-q.ensures b.right (λ _ _. operand-grow) (finished c.expression-p.ensures b.left).1 in
+    let b = at-comparison (formula_node c.requires.ready c.read_node-node.ensures.0 c.requires.formula)
+    c.in-Comparison.is in
+    let e = both-finished c.expression-q.ensures b.right (λ _ _. operand-grow)
+    (finished c.expression-p.ensures b.left).1 in
     record { bounded = e.0; operand = e.1.0; operand_2 = e.1.1 }
 
 pub formula-expression-p-requires-in-Test : goal.formula-expression-p-requires-in-Test
@@ -159,67 +177,80 @@ formula-expression-p-requires-in-Test t c =
 
 pub formula-test-requires : goal.formula-test-requires
 formula-test-requires t c =
-    let e = finished c.expression-p-in-Test.ensures (at_test (formula_node c.requires.ready c.read_node-node.ensures.0 c.requires.formula) c.in-Test.is).left in
+    let e = finished c.expression-p-in-Test.ensures
+    (at_test (formula_node c.requires.ready c.read_node-node.ensures.0 c.requires.formula) c.in-Test.is).left in
     record { bounded = e.0; operand = e.1 }
 
 pub formula-formula-requires : goal.formula-formula-requires
 formula-formula-requires t c =
-    let b = at-negation (formula_node c.requires.ready c.read_node-node.ensures.0 c.requires.formula) c.in-Negation.is in
+    let b = at-negation (formula_node c.requires.ready c.read_node-node.ensures.0 c.requires.formula) c.in-Negation.is
+    in
     (omega (arith, b.lower_a, c.decreases), (c.requires.ready, b.left))
 
 pub formula-negate-requires : goal.formula-negate-requires
 formula-negate-requires t c =
-    let e = finished c.formula.ensures (at-negation (formula_node c.requires.ready c.read_node-node.ensures.0 c.requires.formula) c.in-Negation.is).left in
+    let e = finished c.formula.ensures (at-negation
+    (formula_node c.requires.ready c.read_node-node.ensures.0 c.requires.formula) c.in-Negation.is).left in
     record { bounded = e.0; inside = e.1 }
 
 pub formula-formula-p-requires : goal.formula-formula-p-requires
 formula-formula-p-requires t c =
-    let b = at-connective (formula_node c.requires.ready c.read_node-node.ensures.0 c.requires.formula) c.in-Connective.is in
+    let b = at-connective (formula_node c.requires.ready c.read_node-node.ensures.0 c.requires.formula)
+    c.in-Connective.is in
     (omega (arith, b.lower_a, c.decreases), (c.requires.ready, b.left))
 
 pub formula-formula-q-requires : goal.formula-formula-q-requires
 formula-formula-q-requires t c =
-    let b = at-connective (formula_node c.requires.ready c.read_node-node.ensures.0 c.requires.formula) c.in-Connective.is in
+    let b = at-connective (formula_node c.requires.ready c.read_node-node.ensures.0 c.requires.formula)
+    c.in-Connective.is in
     (omega (arith, b.lower_b, c.decreases), (ready-after c.formula-p.ensures b.left c.requires.ready, b.right))
 
 pub formula-connect-requires : goal.formula-connect-requires
 formula-connect-requires t c =
-    let b = at-connective (formula_node c.requires.ready c.read_node-node.ensures.0 c.requires.formula) c.in-Connective.is in
+    let b = at-connective (formula_node c.requires.ready c.read_node-node.ensures.0 c.requires.formula)
+    c.in-Connective.is in
     let e = both-finished c.formula-q.ensures b.right (λ _ _. inside-grows) (finished c.formula-p.ensures b.left).1 in
     record { bounded = e.0; inside = e.1.0; inside_2 = e.1.1 }
 
 pub formula-bodies-row-requires : goal.formula-bodies-row-requires
 formula-bodies-row-requires t c =
-    let b = at-quantifier (formula_node c.requires.ready c.read_node-node.ensures.0 c.requires.formula) c.in-Quantifier.is in
+    let b = at-quantifier (formula_node c.requires.ready c.read_node-node.ensures.0 c.requires.formula)
+    c.in-Quantifier.is in
     (omega (arith, b.lower_b, c.decreases), (c.requires.ready, (b.body, b.names)))
 
 pub formula-quantify_over-requires-clause-bodies : goal.formula-quantify_over-requires-clause-bodies
 formula-quantify_over-requires-clause-bodies t c =
-    let b = at-quantifier (formula_node c.requires.ready c.read_node-node.ensures.0 c.requires.formula) c.in-Quantifier.is in
+    let b = at-quantifier (formula_node c.requires.ready c.read_node-node.ensures.0 c.requires.formula)
+    c.in-Quantifier.is in
     let r = ready-after c.bodies-row.ensures b.body c.requires.ready in
     record { bounded = r.bounded; fine = (finished c.bodies-row.ensures b.body).1; inside = r.inside }
 
 pub formula-returns-in-Comparison : goal.formula-returns-in-Comparison
 formula-returns-in-Comparison t c =
-    comparison-walks c.args.given.now c.args.env (formula_node c.requires.ready c.read_node-node.ensures.0 c.requires.formula) c.in-Comparison.is
+    comparison-walks c.args.given.now c.args.env
+    (formula_node c.requires.ready c.read_node-node.ensures.0 c.requires.formula) c.in-Comparison.is
     c.expression-p.ensures c.expression-q.ensures c.compare.ensures
 
 pub formula-returns-in-Test : goal.formula-returns-in-Test
 formula-returns-in-Test t c =
-    test-walks c.args.given.now c.args.env (formula_node c.requires.ready c.read_node-node.ensures.0 c.requires.formula) c.in-Test.is
+    test-walks c.args.given.now c.args.env (formula_node c.requires.ready c.read_node-node.ensures.0
+    c.requires.formula) c.in-Test.is
     c.expression-p-in-Test.ensures c.test.ensures
 
 pub formula-returns-in-Negation : goal.formula-returns-in-Negation
 formula-returns-in-Negation t c =
-    negation-walks c.args.given.now c.args.env (formula_node c.requires.ready c.read_node-node.ensures.0 c.requires.formula) c.in-Negation.is
+    negation-walks c.args.given.now c.args.env
+    (formula_node c.requires.ready c.read_node-node.ensures.0 c.requires.formula) c.in-Negation.is
     c.formula.ensures c.negate.ensures.0 c.negate.ensures.1
 
 pub formula-returns-in-Connective : goal.formula-returns-in-Connective
 formula-returns-in-Connective t c =
-    connective-walks c.args.given.now c.args.env (formula_node c.requires.ready c.read_node-node.ensures.0 c.requires.formula) c.in-Connective.is
+    connective-walks c.args.given.now c.args.env
+    (formula_node c.requires.ready c.read_node-node.ensures.0 c.requires.formula) c.in-Connective.is
     c.formula-p.ensures c.formula-q.ensures c.connect.ensures
 
 pub formula-returns-in-Quantifier : goal.formula-returns-in-Quantifier
 formula-returns-in-Quantifier t c =
-    quantifier-walks c.args.given.now c.args.env (formula_node c.requires.ready c.read_node-node.ensures.0 c.requires.formula) c.in-Quantifier.is
+    quantifier-walks c.args.given.now c.args.env
+    (formula_node c.requires.ready c.read_node-node.ensures.0 c.requires.formula) c.in-Quantifier.is
     c.bodies-row.ensures (c.quantify_over.ensures (environment c.args.env))

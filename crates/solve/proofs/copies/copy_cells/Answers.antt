@@ -9,6 +9,7 @@ loop-i-preserved c =
     let t = c.loop-i-test.true in (
       omega arith,
       simp length-set loop.invariant.1,
-      pasted c.args.values.now c.args.instance.now loop.instance loop.i c.settled.result (omega (arith, t, c.requires.cells_in_bounds))
+      pasted c.args.values.now c.args.instance.now loop.instance loop.i c.settled.result
+          (omega (arith, t, c.requires.cells_in_bounds))
           (omega (arith, t, c.requires.cells_in_bounds_2)) loop.invariant.2 c.settled.ensures,
     )

@@ -8,7 +8,8 @@ use Rattle.solve.proofs.copies.copy_cells.Given as goal
 
 abbrev pub invariant-loop-i : goal.invariant-loop-i
 invariant-loop-i l =
-    (l.i ≤ l.cells) × (length l.instance ≡ length l.initial.instance) × (l.instance ≡ take l.i (drop 1 (map settle l.values)) ++ drop l.i l.initial.instance)
+    (l.i ≤ l.cells) × (length l.instance ≡ length l.initial.instance) ×
+    (l.instance ≡ take l.i (drop 1 (map settle l.values)) ++ drop l.i l.initial.instance)
 
 abbrev pub decreases-loop-i : goal.decreases-loop-i
 decreases-loop-i l = l.cells - l.i

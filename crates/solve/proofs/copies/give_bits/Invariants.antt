@@ -8,7 +8,8 @@ use Rattle.search_rules.specs.Rules.{settle}
 use Rattle.solve.proofs.copies.give_bits.Given as goal
 
 abbrev pub invariant-loop-i : goal.invariant-loop-i
-invariant-loop-i l = (l.i ≤ length l.values) × (all (λ (b : ℕ). leb (settle b) 1) l.values ≡ all (λ (b : ℕ). leb (settle b) 1) (drop l.i l.values))
+invariant-loop-i l = (l.i ≤ length l.values) ×
+    (all (λ (b : ℕ). leb (settle b) 1) l.values ≡ all (λ (b : ℕ). leb (settle b) 1) (drop l.i l.values))
 
 abbrev pub decreases-loop-i : goal.decreases-loop-i
 decreases-loop-i l = length l.values - l.i

@@ -13,7 +13,8 @@ use Prim.Native.Nat.{ℕ, ◌+◌, ◌-◌}
 use mathlib.Core.List.{List}
 
 -- what was asked of the cells' values
-asked : (cells : ℕ) (values : List ℕ) {r b : Bool} → r ≡ all (λ (b : ℕ). leb b 1) (map settle (take (cells + 1 - 1) (drop 1 values)))
+asked : (cells : ℕ) (values : List ℕ) {r b : Bool} → r ≡ all (λ (b : ℕ). leb b 1)
+    (map settle (take (cells + 1 - 1) (drop 1 values)))
     → r ≡ b → all (λ (b : ℕ). leb b 1) (take cells (drop 1 (map settle values))) ≡ b
 asked cells values e f = sym (e ∙ ap (all (λ (b : ℕ). leb b 1)) (cells-part cells values)) ∙ f
 
