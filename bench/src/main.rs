@@ -6,6 +6,7 @@ mod calls;
 mod counters;
 mod every;
 mod idle;
+mod reading;
 mod resuming;
 mod search;
 mod steps;
@@ -183,6 +184,7 @@ fn main() {
     match std::env::args().nth(1).as_deref() {
         Some("steps") => steps::each(),
         Some("few") => steps::few(),
+        Some("reading") => reading::each(),
         Some("alone") => alone(),
         _ => all(),
     }
@@ -210,6 +212,7 @@ fn all() {
     resuming::number_14(&format!("a state of a list of {words} words"), &large, 5_000, 400);
     let k1 = read(&[1, 0, 1, 2, 0, 0, 0, 4, 1, 0, 0, 0, 0, 6, 1, 0, 0, 22, 0, 0]).and_then(|sheet| translate(&sheet));
     resuming::number_14("a state of K1", &[k1.expect("a list")], 5_000, 20_000);
+    reading::each();
     translations(&sheets);
     texts(&lists, &large[0]);
     giving_up();
