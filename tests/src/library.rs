@@ -1,4 +1,4 @@
-//! The Rattle library through its C boundary (crate `boundary`): the exported functions, and safe
+//! The Rattle library through its C boundary (crate `boundary_c`): the exported functions, and safe
 //! calls of them whose answers have the form of the reference's. A slice passes as pointer and length.
 //! The first field of an answer is a refusal's number, 0 where nothing is refused.
 
