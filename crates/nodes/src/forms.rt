@@ -1,13 +1,11 @@
 // A node of the sheet, and what the walk does there.
 ghost use Rattle.std.specs.Prelude.{◌≡◌, ◌≤◌, ◌<◌};
 ghost use Rattle.sheet_rules.specs.Blocks.{sheet_of};
-ghost use Rattle.sheet_rules.specs.Reading.{accepted, reading};
 ghost use Rattle.nodes.specs.Nodes.{expression_form, formula_form, node_at};
 
-use cells::blocks::nodes_of;
+use cells::Sheet;
 use kinds::{Rule, rule_of};
 use sheet::bytes::field;
-use sheet_rules::Layout;
 
 // The kinds of expressions that the walk treats alike.
 #[derive(Clone, Copy)]
@@ -42,22 +40,10 @@ fn expression_form(rule: Rule) -> ExpressionForm
     ensures { result ≡ expression_form rule }
 {
     match rule {
-        Rule::Unknown => ExpressionForm::Leaf,
-        Rule::OfRelation => ExpressionForm::Leaf,
-        Rule::OfVariable => ExpressionForm::Leaf,
-        Rule::OfSort => ExpressionForm::Leaf,
-        Rule::OfIdentity => ExpressionForm::Leaf,
-        Rule::Same => ExpressionForm::Binary,
-        Rule::Join => ExpressionForm::Binary,
-        Rule::Product => ExpressionForm::Binary,
-        Rule::Inverse => ExpressionForm::Unary,
-        Rule::Closure => ExpressionForm::Unary,
+        Rule::Same | Rule::Join | Rule::Product => ExpressionForm::Binary,
+        Rule::Inverse | Rule::Closure => ExpressionForm::Unary,
         Rule::Comprehension => ExpressionForm::Comprehension,
-        Rule::Comparison => ExpressionForm::Leaf,
-        Rule::Test => ExpressionForm::Leaf,
-        Rule::Negation => ExpressionForm::Leaf,
-        Rule::Connective => ExpressionForm::Leaf,
-        Rule::Quantifier => ExpressionForm::Leaf,
+        _ => ExpressionForm::Leaf,
     }
 }
 
@@ -66,41 +52,27 @@ fn formula_form(rule: Rule) -> FormulaForm
     ensures { result ≡ formula_form rule }
 {
     match rule {
-        Rule::Unknown => FormulaForm::Negation,
-        Rule::OfRelation => FormulaForm::Negation,
-        Rule::OfVariable => FormulaForm::Negation,
-        Rule::OfSort => FormulaForm::Negation,
-        Rule::OfIdentity => FormulaForm::Negation,
-        Rule::Same => FormulaForm::Negation,
-        Rule::Join => FormulaForm::Negation,
-        Rule::Product => FormulaForm::Negation,
-        Rule::Inverse => FormulaForm::Negation,
-        Rule::Closure => FormulaForm::Negation,
-        Rule::Comprehension => FormulaForm::Negation,
         Rule::Comparison => FormulaForm::Comparison,
         Rule::Test => FormulaForm::Test,
-        Rule::Negation => FormulaForm::Negation,
         Rule::Connective => FormulaForm::Connective,
         Rule::Quantifier => FormulaForm::Quantifier,
+        _ => FormulaForm::Negation,
     }
 }
 
 // Node v of an accepted sheet.
-pub fn read_node(sheet: &[u8], layout: Layout, v: usize) -> Node
-    requires sheet_value { reading sheet.now ≡ accepted layout }
-    requires v_bound { v ≤ 200 }
-    ensures { (result ≡ node_at (sheet_of sheet.now).nodes v) × (result.a < 256) }
+pub fn read_node(sheet: &Sheet, v: usize) -> Node
+    requires { v ≤ 200 }
+    ensures { (result ≡ node_at (sheet_of sheet.now.bytes.now).nodes v) × (result.a < 256) }
 {
-    let nodes = nodes_of(sheet, layout);
+    let nodes = sheet.nodes();
     let kind = field(nodes, 3, v, 0);
     let a = field(nodes, 3, v, 1);
     let b = field(nodes, 3, v, 2);
     let rule = rule_of(kind);
-    let expression = expression_form(rule);
-    let formula = formula_form(rule);
     Node {
-        expression,
-        formula,
+        expression: expression_form(rule),
+        formula: formula_form(rule),
         kind,
         a,
         b,
