@@ -9,8 +9,8 @@ ghost use Rattle.instance.specs.Answers.{CheckAnswers, answer_of};
 ghost use Rattle.instance.specs.Held.{check_answer};
 
 use answer::Check;
-use cells::{are_bits, first_cells};
-use instance_evaluation::holds;
+use cells::{Cells, Sheet, are_bits};
+use instance_evaluation::Instance;
 use refusal::Refusal;
 use sheet::answer::Reading;
 use sheet::read;
@@ -23,20 +23,20 @@ fn check_accepted(sheet: &[u8], layout: Layout, instance: &[u8]) -> Check
     requires { reading sheet.now ≡ accepted layout }
     ensures { answer_of result ≡ check_answer sheet.now instance.now }
 {
-    let cells = first_cells(sheet, layout);
-    let count = cells.count;
-    let starts = cells.starts;
-    if instance.len() != count {
+    let accepted = Sheet {
+        bytes: sheet,
+        layout,
+    };
+    let Cells { count, starts } = accepted.cells();
+    if instance.len() != count || !are_bits(instance) {
         return Check::Refused(Refusal::Cells);
     }
-    if !are_bits(instance) {
-        return Check::Refused(Refusal::Cells);
-    }
-    if holds(sheet, layout, instance, &starts) {
-        Check::Yes
-    } else {
-        Check::No
-    }
+    let given = Instance {
+        sheet: accepted,
+        cells: instance,
+        starts,
+    };
+    if given.holds() { Check::Yes } else { Check::No }
 }
 
 // Whether the instance is within the scopes and satisfies marks and formula: what the answer means, and which it is.
