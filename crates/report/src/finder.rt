@@ -15,7 +15,7 @@ ghost use Rattle.report.specs.Printed.{instance_lines, report, lines_of, finder_
 ghost use Rattle.report.specs.Tells.{Tells};
 
 use super::lines::put_lines;
-use cells::MOST_CELLS;
+use cells::{MOST_CELLS, Sheet};
 use search::answer::{Search, Steps};
 use sheet::answer::Reading;
 use text::put_end;
@@ -41,7 +41,13 @@ fn put_found(text: &mut [u8], input: &[u8], steps: Steps, instance: &[u8]) -> us
     let reading = sheet::read(input);
     match reading {
         Reading::Refused(_) => at,
-        Reading::Accepted(layout) => put_lines(text, at, input, layout, instance),
+        Reading::Accepted(layout) => {
+            let sheet = Sheet {
+                bytes: input,
+                layout,
+            };
+            put_lines(text, at, &sheet, instance)
+        }
     }
 }
 

@@ -3,15 +3,23 @@ ghost use Rattle.std.specs.Prelude.{◌≡◌, suc, ◌+◌, ◌≤◌, ◌<◌,
 ghost use Rattle.text.specs.Puts.{Put};
 ghost use Rattle.sheet_rules.specs.Blocks.{sheet_of};
 ghost use Rattle.sheet_rules.specs.Blocks as blocks;
-ghost use Rattle.sheet_rules.specs.Reading.{accepted, reading};
 ghost use Rattle.relational.specs.Cells.{most_cells};
 ghost use Rattle.report.specs.Printed.{cell_digit, relation_lines, member_line, member_lines, instance_lines};
 ghost use Rattle.report.specs.Private.{row_from, line_from};
 
-use cells::{first_member, is_bounded, row_count, row_length, scope};
+use cells::Sheet;
 use sheet::bytes::byte;
-use sheet_rules::Layout;
 use text::put_decimal;
+
+// The cells of a sort or a relation: rows of so many cells, from the first on.
+#[derive(Clone, Copy)]
+struct Grid<'a> {
+    instance: &'a [u8],
+    first: usize,
+    rows: usize,
+    columns: usize,
+    ghost small: { (first ≤ most_cells) × ((rows ≤ 8) × (columns ≤ 8)) },
+}
 
 // The digit of cell k.
 fn cell_digit(instance: &[u8], k: usize) -> u8
@@ -27,135 +35,91 @@ fn put_row(text: &mut [u8], at: usize, instance: &[u8], first: usize, columns: u
     ensures { Put text.old at (row_from instance.now first columns) text.new result }
 {
     text[at] = b' ';
-    let mut end = at + 1;
-    let mut j = 0;
-    while j < columns {
-        text[end] = cell_digit(instance, first + j);
-        end += 1;
-        j += 1;
+    let start = at + 1;
+    for j in 0..columns {
+        text[start + j] = cell_digit(instance, first + j);
     }
-    end
+    start + columns
 }
 
-// Puts a line: a letter, a number and rows, of which the first cell, how many they are and the cells in one are known.
-fn put_line(
-    text: &mut [u8],
-    at: usize,
-    letter: u8,
-    instance: &[u8],
-    number: usize,
-    first: usize,
-    rows: usize,
-    columns: usize,
-) -> usize
+// Puts a line: a letter, a number and rows.
+fn put_line(text: &mut [u8], at: usize, letter: u8, number: usize, grid: &Grid) -> usize
     requires at_in_bounds { at + 76 ≤ length text.old }
     requires number_bound { number < 16 }
-    requires first_le_most_cells { first ≤ most_cells }
-    requires rows_bound { rows ≤ 8 }
-    requires columns_bound { columns ≤ 8 }
-    ensures put { Put text.old at (line_from letter instance.now number first rows columns)
+    ensures put { Put text.old at (line_from letter grid.now.instance.now number grid.now.first grid.now.rows grid.now.columns)
         text.new result }
     ensures upper_bound { result ≤ at + 76 }
 {
     text[at] = letter;
     let mut end = put_decimal(text, at + 1, number);
-    let mut i = 0;
-    while i < rows {
-        end = put_row(text, end, instance, first + i * columns, columns);
-        i += 1;
+    for i in 0..grid.rows {
+        end = put_row(text, end, grid.instance, grid.first + i * grid.columns, grid.columns);
     }
     text[end] = b'\n';
     end + 1
 }
 
 // Puts the line of sort k, if it is bounded.
-fn put_sort(
-    text: &mut [u8],
-    at: usize,
-    sheet: &[u8],
-    layout: Layout,
-    instance: &[u8],
-    k: usize,
-) -> usize
-    requires sheet_value { reading sheet.now ≡ accepted layout }
+fn put_sort(text: &mut [u8], at: usize, sheet: &Sheet, instance: &[u8], k: usize) -> usize
     requires at_in_bounds { (at + 76 ≤ length text.old) × (k < 8) }
-    ensures put { Put text.old at (member_line (sheet_of sheet.now) instance.now k)
+    ensures put { Put text.old at (member_line (sheet_of sheet.now.bytes.now) instance.now k)
         text.new result }
     ensures upper_bound { result ≤ at + 76 }
 {
-    if is_bounded(sheet, layout, k) {
-        let first = first_member(sheet, layout, k);
-        return put_line(
-            text,
-            at,
-            b's',
+    if sheet.is_bounded(k) {
+        let grid = Grid {
             instance,
-            k,
-            first,
-            1,
-            scope(sheet, layout, k),
-        );
+            first: sheet.first_member(k),
+            rows: 1,
+            columns: sheet.scope(k),
+        };
+        return put_line(text, at, b's', k, &grid);
     }
     at
 }
 
-// Puts the lines of an accepted sheet's sorts.
-fn put_sorts(text: &mut [u8], at: usize, sheet: &[u8], layout: Layout, instance: &[u8]) -> usize
-    requires sheet_value { reading sheet.now ≡ accepted layout }
-    requires at_in_bounds { at + 608 ≤ length text.old }
-    ensures put { Put text.old at (member_lines (sheet_of sheet.now) instance.now)
+// Puts the lines of a sheet's sorts.
+fn put_sorts(text: &mut [u8], at: usize, sheet: &Sheet, instance: &[u8]) -> usize
+    requires { at + 608 ≤ length text.old }
+    ensures put { Put text.old at (member_lines (sheet_of sheet.now.bytes.now) instance.now)
         text.new result }
     ensures upper_bound { result ≤ at + 608 }
 {
-    let sorts = layout.sorts;
-    let count = sorts.count;
     let mut end = at;
-    let mut k: usize = 0;
-    while k < count {
-        end = put_sort(text, end, sheet, layout, instance, k);
-        k += 1;
+    for k in 0..sheet.layout.sorts.count {
+        end = put_sort(text, end, sheet, instance, k);
     }
     end
 }
 
-// Puts the lines of an accepted sheet's relations.
-fn put_relations(text: &mut [u8], at: usize, sheet: &[u8], layout: Layout, instance: &[u8]) -> usize
-    requires sheet_value { reading sheet.now ≡ accepted layout }
-    requires at_in_bounds { at + 1216 ≤ length text.old }
-    ensures put { Put text.old at (relation_lines (sheet_of sheet.now) instance.now)
+// Puts the lines of a sheet's relations.
+fn put_relations(text: &mut [u8], at: usize, sheet: &Sheet, instance: &[u8]) -> usize
+    requires { at + 1216 ≤ length text.old }
+    ensures put { Put text.old at (relation_lines (sheet_of sheet.now.bytes.now) instance.now)
         text.new result }
     ensures upper_bound { result ≤ at + 1216 }
 {
-    let relations = layout.relations;
-    let count = relations.count;
-    let sorts = layout.sorts;
+    let starts = sheet.cells().starts;
     let mut end = at;
-    let mut first = first_member(sheet, layout, sorts.count);
-    let mut r: usize = 0;
-    while r < count {
-        let rows = row_count(sheet, layout, r);
-        let columns = row_length(sheet, layout, r);
-        end = put_line(text, end, b'r', instance, r, first, rows, columns);
-        first += rows * columns;
-        r += 1;
+    for r in 0..sheet.layout.relations.count {
+        let grid = Grid {
+            instance,
+            first: starts[r],
+            rows: sheet.row_count(r),
+            columns: sheet.row_length(r),
+        };
+        end = put_line(text, end, b'r', r, &grid);
     }
     end
 }
 
-// Puts the lines of an instance of an accepted sheet.
-pub(crate) fn put_lines(
-    text: &mut [u8],
-    at: usize,
-    sheet: &[u8],
-    layout: Layout,
-    instance: &[u8],
-) -> usize
-    requires sheet_value { reading sheet.now ≡ accepted layout }
-    requires at_in_bounds { at + 1824 ≤ length text.old }
-    ensures put { Put text.old at (instance_lines (sheet_of sheet.now) instance.now)
+// Puts the lines of an instance of a sheet.
+pub(crate) fn put_lines(text: &mut [u8], at: usize, sheet: &Sheet, instance: &[u8]) -> usize
+    requires { at + 1824 ≤ length text.old }
+    ensures put { Put text.old at (instance_lines (sheet_of sheet.now.bytes.now) instance.now)
         text.new result }
     ensures upper_bound { result ≤ at + 1824 }
 {
-    let end = put_sorts(text, at, sheet, layout, instance);
-    put_relations(text, end, sheet, layout, instance)
+    let end = put_sorts(text, at, sheet, instance);
+    put_relations(text, end, sheet, instance)
 }

@@ -13,7 +13,7 @@ ghost use Rattle.solve.specs.Answers.{answer_of};
 ghost use Rattle.solve.specs.Private.{Fitting, Left};
 
 use answer::ReadBack;
-use cells::cell_count;
+use cells::Sheet;
 use clauses::answer::{Count, Size};
 use clauses::{count, write};
 use copies::{copy_cells, read_cells};
@@ -48,8 +48,11 @@ pub fn read_back(sheet: &[u8], values: &[u8], instance: &mut [u8]) -> ReadBack
     match reading {
         Reading::Refused(r) => ReadBack::Refused(r),
         Reading::Accepted(layout) => {
-            let cells = cell_count(sheet, layout);
-            read_accepted(sheet, cells, values, instance)
+            let accepted = Sheet {
+                bytes: sheet,
+                layout,
+            };
+            read_accepted(sheet, accepted.cells().count, values, instance)
         }
     }
 }
@@ -165,8 +168,11 @@ pub fn find(
     match reading {
         Reading::Refused(r) => Search::Refused(r),
         Reading::Accepted(layout) => {
-            let cells = cell_count(sheet, layout);
-            find_accepted(sheet, cells, list, values, trail, instance, budget)
+            let accepted = Sheet {
+                bytes: sheet,
+                layout,
+            };
+            find_accepted(sheet, accepted.cells().count, list, values, trail, instance, budget)
         }
     }
 }
