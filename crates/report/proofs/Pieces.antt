@@ -52,34 +52,26 @@ row_is sheet instance r i =
     let e : (j : ℕ) → first_cell sheet r + i * n + j ≡ cell sheet r i j = λ j. omega arith in
     λ k. 32 ∷ series n (λ j. cell_digit (byte instance (e j k)) ∷ [])
 
-line-is : (sheet : Sheet) (instance : List ℕ) (r : ℕ)
-    → line_from 114 instance r (first_cell sheet r) (row_count sheet r) (row_length sheet r) ≡ relation_line sheet instance r
+pub relation-line : (sheet : Sheet) (instance : List ℕ) (r : ℕ) {first rows columns : ℕ} → first ≡ first_cell sheet r
+    → rows ≡ row_count sheet r → columns ≡ row_length sheet r
+    → line_from 114 instance r first rows columns ≡ relation_line sheet instance r
 unfolding line_from
-line-is sheet instance r = λ k. 114 ∷ (decimal r ++ (series (row_count sheet r) (λ i. row_is sheet instance r i k) ++ (10 ∷ [])))
+relation-line sheet instance r ef er ec =
+    (λ k. line_from 114 instance r (ef k) (er k) (ec k))
+    ∙ λ k. 114 ∷ (decimal r ++ (series (row_count sheet r) (λ i. row_is sheet instance r i k) ++ (10 ∷ [])))
 
--- what the loop over the relations has put: the lines of those before r, whose next first cell is known
-pub record PutLines (sheet : Sheet) (instance old : List ℕ) (at : ℕ) (new : List ℕ) (end first r : ℕ) : Type 0 where
-  pub most : end ≤ at + 76 * r
-  pub next : first ≡ first_cell sheet r
-  pub puts : Put old at (series r (relation_line sheet instance)) new end
+-- what a loop has put: n lines, each of at most 76 bytes
+pub record Lines (line : ℕ → List ℕ) (old : List ℕ) (at : ℕ) (new : List ℕ) (end n : ℕ) : Type 0 where
+  pub most : end ≤ at + 76 * n
+  pub puts : Put old at (series n line) new end
 
-module _ {sheet : Sheet} {instance old : List ℕ} {at : ℕ} where
-  pub lines_none : {first : ℕ} → first ≡ member_count sheet → PutLines sheet instance old at old at first 0
-  unfolding first_cell
-  lines_none e = record { most = omega arith; next = e; puts = put-none-of (relation_line sheet instance) old at }
+module _ {line : ℕ → List ℕ} {old : List ℕ} {at : ℕ} where
+  pub lines_none : Lines line old at old at 0
+  lines_none = record { most = omega arith; puts = put-none-of line old at }
 
-  pub lines_more : {mid new : List ℕ} {m end r first rows columns : ℕ} → PutLines sheet instance old at mid m first r
-      → rows ≡ row_count sheet r → columns ≡ row_length sheet r
-      → Put mid m (line_from 114 instance r first rows columns) new end → end ≤ m + 76
-      → PutLines sheet instance old at new end (first + rows * columns) (r + 1)
-  unfolding first_cell
-  lines_more {r = r} p a b q h =
-      let e = (λ k. line_from 114 instance r (p.next k) (a k) (b k)) ∙ line-is sheet instance r in
-      record {
-        most = omega (arith, p.most);
-        next = rw (add-one r, a, b) (ap (λ (n : ℕ). n + cells_of sheet r) p.next);
-        puts = put-more (relation_line sheet instance) r p.puts (put_as e q);
-      }
+  pub lines_more : {mid new : List ℕ} {m end n : ℕ} → Lines line old at mid m n → Put mid m (line n) new end → end ≤ m + 76
+      → Lines line old at new end (n + 1)
+  lines_more {n = n} p q h = record { most = omega (arith, p.most); puts = put-more line n p.puts q }
 
 -- the line of a sort: its only row is its membership cells
 pub sort-line : (sheet : Sheet) (instance : List ℕ) (k : ℕ) {first columns : ℕ} → first ≡ first_member sheet k

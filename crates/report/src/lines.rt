@@ -53,7 +53,13 @@ fn put_line(text: &mut [u8], at: usize, letter: u8, number: usize, grid: &Grid) 
     text[at] = letter;
     let mut end = put_decimal(text, at + 1, number);
     for i in 0..grid.rows {
-        end = put_row(text, end, grid.instance, grid.first + i * grid.columns, grid.columns);
+        end = put_row(
+            text,
+            end,
+            grid.instance,
+            grid.first + i * grid.columns,
+            grid.columns,
+        );
     }
     text[end] = b'\n';
     end + 1

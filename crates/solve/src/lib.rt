@@ -172,7 +172,15 @@ pub fn find(
                 bytes: sheet,
                 layout,
             };
-            find_accepted(sheet, accepted.cells().count, list, values, trail, instance, budget)
+            find_accepted(
+                sheet,
+                accepted.cells().count,
+                list,
+                values,
+                trail,
+                instance,
+                budget,
+            )
         }
     }
 }

@@ -15,12 +15,13 @@ put_end-at-requires c = record {
   word_len_bound = omega arith;
 }
 
+pub invariant_of-sheet : goal.invariant_of-sheet
+invariant_of-sheet c = record { taken = sym c.read-reading.ensures ∙ ap answer_of c.in-Accepted.is }
+
 pub put_lines-requires : goal.put_lines-requires
 put_lines-requires c =
-    let e = c.put_end-at.ensures in record {
-      sheet_value = sym c.read-reading.ensures ∙ ap answer_of c.in-Accepted.is;
-      at_in_bounds = omega (arith, e.upper_bound, put-length e.put, c.requires.in_bounds);
-    }
+    let e = c.put_end-at.ensures in
+    omega (arith, e.upper_bound, put-length e.put, c.requires.in_bounds)
 
 pub returns-in-Refused : goal.returns-in-Refused
 returns-in-Refused c =

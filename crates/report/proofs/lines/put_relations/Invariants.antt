@@ -1,13 +1,9 @@
--- `put_relations` meets its contract. The loop's invariant: the lines of the relations passed were put, and the next
--- one's first cell is known.
-use Prim.Native.Nat.{◌-◌, ◌≤◌}
+-- The loop puts the lines of the relations before r.
 use Rattle.sheet_rules.specs.Blocks.{sheet_of}
-use Rattle.report.proofs.Pieces.{PutLines}
+use Rattle.report.specs.Printed.{relation_line}
+use Rattle.report.proofs.Pieces.{Lines}
 use Rattle.report.proofs.lines.put_relations.Given as goal
 
 abbrev pub invariant-loop-r : goal.invariant-loop-r
 invariant-loop-r l =
-    (l.r ≤ l.count) × PutLines (sheet_of l.sheet) l.instance l.initial.text l.at l.text l.end l.first l.r
-
-abbrev pub decreases-loop-r : goal.decreases-loop-r
-decreases-loop-r l = l.count - l.r
+    Lines (relation_line (sheet_of l.sheet.bytes.now) l.instance) l.initial.text l.at l.text l.end l.r

@@ -1,4 +1,4 @@
--- `put_sort` meets its contract: a line, or nothing.
+-- A line, or nothing.
 use mathlib.Core.Path.{sym, ◌∙◌}
 use native.Mathlib.Omega.{arith}
 use Rattle.text.proofs.Puts.{put-nothing, put_as}
@@ -9,10 +9,8 @@ use Rattle.report.proofs.lines.put_sort.Goals as goal
 pub returns-then-is_bounded : goal.returns-then-is_bounded
 returns-then-is_bounded c =
     let a = c.args in
-    let e = sort-line (sheet_of a.sheet.now) a.instance.now a.k
-    c.first_member-first.ensures.0 c.scope.ensures.0
-    (sym c.is_bounded.ensures
-    ∙ c.if-is_bounded.true) in record {
+    let e = sort-line (sheet_of a.sheet.now.bytes.now) a.instance.now a.k c.first_member.ensures.0 c.scope.ensures.0
+    (sym c.is_bounded.ensures ∙ c.if-is_bounded.true) in record {
       put = put_as e c.put_line.ensures.put;
       upper_bound = c.put_line.ensures.upper_bound;
     }
@@ -20,8 +18,7 @@ returns-then-is_bounded c =
 pub returns : goal.returns
 returns c =
     let a = c.args in
-    let e = no_line (sheet_of a.sheet.now) a.instance.now a.k
-    (sym c.is_bounded.ensures ∙ c.if-is_bounded.false) in record {
+    let e = no_line (sheet_of a.sheet.now.bytes.now) a.instance.now a.k (sym c.is_bounded.ensures ∙ c.if-is_bounded.false) in record {
       put = put_as e (put-nothing _ _);
       upper_bound = omega arith;
     }

@@ -4,63 +4,39 @@ use native.Mathlib.Omega.{arith}
 use Rattle.text.proofs.Puts.{put_as, put-length}
 use Rattle.sheet_rules.specs.Blocks.{sheet_of, sort_count}
 use Rattle.sheet_rules.proofs.Acceptance.{accepted-facts}
+use Rattle.cells.specs.declared.sheets.Sheet.{Sheet}
 use Rattle.cells.proofs.Parts.{sorts-counted}
 use Rattle.clauses_rules.specs.Whole.{series}
 use Rattle.report.specs.Printed.{member_line, member_lines}
-use Rattle.report.proofs.Pieces.{put-none-of, put-more}
+use Rattle.report.proofs.Pieces.{lines_none, lines_more}
 use Rattle.report.proofs.lines.put_sorts.Goals as goal
-use Rattle.report.proofs.lines.put_sorts.Lts as lts
-use Rattle.report.proofs.lines.put_sorts.Tie as tie
-use Rattle.report.proofs.lines.put_sorts.Reads as reads
 
-abbrev At-Start : Type 0
-At-Start = lts.Start tie.the-claims reads.Pre reads.Post goal.the-invariant-loop-k goal.the-decreases-loop-k tie.handed_clauses
-
-few_sorts : (s : At-Start) → s.args.layout.sorts.count ≤ 8
-few_sorts s = omega (arith, sorts-counted _ _ s.requires.sheet_value, (accepted-facts _ _ s.requires.sheet_value).counts.few_sorts)
+few : (sheet : Sheet) → sheet.layout.sorts.count ≤ 8
+few sheet = omega (arith, sorts-counted _ _ sheet.taken, (accepted-facts _ _ sheet.taken).counts.few_sorts)
 
 pub loop-k-init : goal.loop-k-init
-loop-k-init c = (omega arith, omega arith, put-none-of _ _ _)
+loop-k-init c = lines_none
 
 pub put_sort-end-requires : goal.put_sort-end-requires
 put_sort-end-requires c =
-    let s = c.before.before.before.before.before.before.before.before in
-    let l = c.loop-k in
-    let few = few_sorts s in record {
-      sheet_value = s.requires.sheet_value;
+    let l = c.loop-k.invariant in
+    let few_sorts = few c.args.sheet.now in
+    record {
       at_in_bounds = (
-        omega (arith, l.invariant.1, put-length l.invariant.2, few, c.loop-k-test.true, s.requires.at_in_bounds),
-        omega (arith, few, c.loop-k-test.true),
+        omega (arith, l.most, put-length l.puts, few_sorts, c.requires, c.loop-k-test.true),
+        omega (arith, few_sorts, c.loop-k-test.true),
       );
     }
 
-pub overflow_add-k : goal.overflow_add-k
-overflow_add-k c = omega (
-  arith,
-  few_sorts c.before.before.before.before.before.before.before.before.before.before.before,
-  c.loop-k-test.true,
-)
-
 pub loop-k-preserved : goal.loop-k-preserved
-loop-k-preserved c =
-    let a = c.args in
-    let l = c.loop-k in
-    let call = c.put_sort-end in (
-      omega (arith, c.loop-k-test.true),
-      omega (arith, l.invariant.1, call.ensures.upper_bound),
-      put-more (member_line (sheet_of a.sheet.now) a.instance.now) l.k l.invariant.2 call.ensures.put,
-    )
+loop-k-preserved c = lines_more c.loop-k.invariant c.put_sort-end.ensures.put c.put_sort-end.ensures.upper_bound
 
-pub shape_of-text : goal.shape_of-text
-shape_of-text c = put-length c.loop-k.invariant.2
-
-pub returns : goal.returns
+pub returns-clause-put : goal.returns-clause-put
 unfolding member_lines
-returns c =
-    let s = c.before.before.before.before.before.before.before in
-    let l = c.loop-k in
-    let sheet = sheet_of s.args.sheet.now in
-    let k : l.k ≡ sort_count sheet = omega (arith, sorts-counted _ _ s.requires.sheet_value, l.invariant.0, c.loop-k-test.false) in record {
-      put = put_as (ap (λ n. series n (member_line sheet s.args.instance.now)) k) l.invariant.2;
-      upper_bound = omega (arith, l.invariant.1, l.invariant.0, few_sorts s);
-    }
+returns-clause-put c =
+    let sheet = sheet_of c.args.sheet.now.bytes.now in
+    let k : c.loop-k.k ≡ sort_count sheet = omega (arith, sorts-counted _ _ c.args.sheet.now.taken) in
+    put_as (ap (λ n. series n (member_line sheet c.args.instance.now)) k) c.loop-k.invariant.puts
+
+pub returns-clause-upper_bound : goal.returns-clause-upper_bound
+returns-clause-upper_bound c = omega (arith, c.loop-k.invariant.most, few c.args.sheet.now)
