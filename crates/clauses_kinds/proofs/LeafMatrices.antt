@@ -15,7 +15,8 @@ use Rattle.literal.specs.Words.{literal_of}
 use Rattle.sheet_rules.specs.Blocks.{Sheet, scope, is_bounded, relation_count}
 use Rattle.sheet_rules.specs.Blocks as blocks
 use Rattle.sheet_rules.specs.Facts.{Facts}
-use Rattle.relational.specs.Trees.{Leaf, relation, atoms, identity}
+use Rattle.relational.specs.declared.Leaf.{Leaf}
+use Rattle.relational.specs.declared.Leaf.TheVariants.{Relation as relation, Atoms as atoms, Identity as identity}
 use Rattle.relational.specs.Cells.{first_member, row_count, row_length, first_cell}
 use Rattle.relational.specs.Meaning.{Environment}
 use Rattle.relational.specs.Matrices.{from, upto, Place, places, Matrix, set_of, relation_of, leaf_matrix}

@@ -4,7 +4,7 @@ use Rattle.std.specs.Prelude.{◌≡◌, false, cond, List, map, ℕ, ◌+◌, �
 use Rattle.literal.specs.Literals.{Literal}
 use Rattle.literal.specs.Words.{literal_of}
 use Rattle.sheet_rules.specs.Blocks.{Sheet}
-use Rattle.relational.specs.Trees.{Leaf}
+use Rattle.relational.specs.declared.Leaf.{Leaf}
 use Rattle.relational.specs.Meaning.{Environment}
 use Rattle.relational.specs.Matrices.{upto, Place, places, Matrix, set_of, relation_of, leaf_matrix}
 use Rattle.clauses_rules.specs.Translation.{constant, absent, literal_at}

@@ -1,9 +1,19 @@
 // The operators, by kind (document 01, "Clauses", the last list). What an operand left on the tape is where the operator starts.
 ghost use Rattle.std.specs.Prelude.{◌≡◌};
 ghost use Rattle.literal.specs.Words.{literal_of};
-ghost use Rattle.relational.specs.Trees.{Binary, Unary, Comparison, Test, Connective, Quantifier};
-ghost use Rattle.relational.specs.Trees.{binary-symbol, unary-symbol, comparison-symbol, test-symbol, connective-symbol};
-ghost use Rattle.relational.specs.Trees.{quantifier-symbol, symbol_of, intersection, for_some};
+ghost use Rattle.relational.specs.Trees.{symbol_of};
+ghost use Rattle.relational.specs.declared.Binary.{Binary};
+ghost use Rattle.relational.specs.declared.Unary.{Unary};
+ghost use Rattle.relational.specs.declared.Comparison.{Comparison};
+ghost use Rattle.relational.specs.declared.Test.{Test};
+ghost use Rattle.relational.specs.declared.Connective.{Connective};
+ghost use Rattle.relational.specs.declared.Quantifier.{Quantifier};
+ghost use Rattle.relational.specs.declared.Binary.TheVariants.{Intersection as intersection};
+ghost use Rattle.relational.specs.declared.Quantifier.TheVariants.{Some as for_some};
+ghost use Rattle.relational.specs.declared.Symbol.TheVariants.{Binary as binary-symbol, Unary as unary-symbol};
+ghost use Rattle.relational.specs.declared.Symbol.TheVariants.{Comparison as comparison-symbol, Test as test-symbol};
+ghost use Rattle.relational.specs.declared.Symbol.TheVariants.{Connective as connective-symbol};
+ghost use Rattle.relational.specs.declared.Symbol.TheVariants.{Quantifier as quantifier-symbol};
 ghost use Rattle.relational.specs.Meaning.{Environment};
 ghost use Rattle.sheet_rules.specs.Blocks.{sheet_of};
 ghost use Rattle.sheet_rules.specs.Reading.{accepted, reading};

@@ -4,8 +4,10 @@ ghost use Rattle.literal.specs.Literals.{word_of};
 ghost use Rattle.literal.specs.Words.{literal_of};
 ghost use Rattle.sheet_rules.specs.Blocks.{relation_count, sort_of, sheet_of};
 ghost use Rattle.sheet_rules.specs.Reading.{accepted, reading};
-ghost use Rattle.relational.specs.Trees.{Leaf, leaf-symbol, symbol_of};
-ghost use Rattle.relational.specs.Trees as trees;
+ghost use Rattle.relational.specs.Trees.{symbol_of};
+ghost use Rattle.relational.specs.declared.Leaf.{Leaf};
+ghost use Rattle.relational.specs.declared.Symbol.TheVariants.{Leaf as leaf-symbol};
+ghost use Rattle.relational.specs.declared.Leaf.TheVariants as leaf_operator;
 ghost use Rattle.relational.specs.Meaning.{Environment};
 ghost use Rattle.relational.specs.Cells.{most_cells};
 ghost use Rattle.relational.specs.Matrices.{set_of, upto};
@@ -50,7 +52,7 @@ fn copied(given: &[i32], first: usize, size: usize) -> [i32; 64]
 fn relation(sheet: &[u8], layout: Layout, given: &[i32], starts: &[usize], r: usize) -> Literals
     requires located { Located sheet.now layout starts.now }
     requires r_bound { r < relation_count (sheet_of sheet.now) }
-    ensures { (env : Environment) → LeafIs (sheet_of sheet.now) given.now trees.relation r env result }
+    ensures { (env : Environment) → LeafIs (sheet_of sheet.now) given.now leaf_operator.Relation r env result }
 {
     let first = starts[r];
     let arity = arity(sheet, layout, r);
@@ -108,7 +110,7 @@ fn full(n: usize) -> Literals
 fn atoms(sheet: &[u8], layout: Layout, given: &[i32], sort: usize) -> Literals
     requires { reading sheet.now ≡ accepted layout }
     ensures { (env : Environment)
-        → LeafIs (sheet_of sheet.now) given.now trees.atoms sort env result }
+        → LeafIs (sheet_of sheet.now) given.now leaf_operator.Atoms sort env result }
 {
     let columns = scope(sheet, layout, sort);
     if is_bounded(sheet, layout, sort) {
@@ -127,7 +129,7 @@ fn atoms(sheet: &[u8], layout: Layout, given: &[i32], sort: usize) -> Literals
 pub(crate) fn range(sheet: &[u8], layout: Layout, given: &[i32], x: usize) -> Literals
     requires { reading sheet.now ≡ accepted layout }
     ensures { (env : Environment)
-        → LeafIs (sheet_of sheet.now) given.now trees.atoms
+        → LeafIs (sheet_of sheet.now) given.now leaf_operator.Atoms
         (sort_of (sheet_of sheet.now) x) env result }
 {
     atoms(sheet, layout, given, sort_of_variable(sheet, layout, x))

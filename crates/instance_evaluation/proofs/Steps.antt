@@ -5,9 +5,19 @@ use mathlib.Core.List.{List}
 use Prim.Native.Nat.{ℕ}
 use lib.ListN.{replicate}
 use Rattle.sheet_rules.specs.Blocks.{Sheet}
-use Rattle.relational.specs.Trees.{Leaf, Binary, intersection, Unary, Comparison, Test, Connective, Quantifier}
-use Rattle.relational.specs.Trees.{leaf-symbol, binary-symbol, unary-symbol, comparison-symbol, test-symbol, connective-symbol}
-use Rattle.relational.specs.Trees.{quantifier-symbol, symbol_of, Tree, expression, formula, broken}
+use Rattle.relational.specs.Trees.{symbol_of, Tree, expression, formula, broken}
+use Rattle.relational.specs.declared.Leaf.{Leaf}
+use Rattle.relational.specs.declared.Binary.{Binary}
+use Rattle.relational.specs.declared.Unary.{Unary}
+use Rattle.relational.specs.declared.Comparison.{Comparison}
+use Rattle.relational.specs.declared.Test.{Test}
+use Rattle.relational.specs.declared.Connective.{Connective}
+use Rattle.relational.specs.declared.Quantifier.{Quantifier}
+use Rattle.relational.specs.declared.Binary.TheVariants.{Intersection as intersection}
+use Rattle.relational.specs.declared.Symbol.TheVariants.{Leaf as leaf-symbol, Binary as binary-symbol}
+use Rattle.relational.specs.declared.Symbol.TheVariants.{Unary as unary-symbol, Comparison as comparison-symbol}
+use Rattle.relational.specs.declared.Symbol.TheVariants.{Test as test-symbol, Connective as connective-symbol}
+use Rattle.relational.specs.declared.Symbol.TheVariants.{Quantifier as quantifier-symbol}
 use Rattle.relational.specs.Matrices.{Matrix}
 use Rattle.relational.specs.Meaning.{Environment}
 use Rattle.relational.specs.Evaluation.{value_binary, value_unary, truth_comparison, truth_test, truth_connective, truth_quantifier}

@@ -3,8 +3,10 @@
 ghost use Rattle.std.specs.Prelude.{◌≡◌};
 ghost use Rattle.sheet_rules.specs.Blocks.{sheet_of};
 ghost use Rattle.sheet_rules.specs.Reading.{accepted, reading};
-ghost use Rattle.relational.specs.Trees as trees;
-ghost use Rattle.relational.specs.Trees.{Quantifier, quantifier-symbol, symbol_of};
+ghost use Rattle.relational.specs.declared.Binary.TheVariants as binary_operator;
+ghost use Rattle.relational.specs.Trees.{symbol_of};
+ghost use Rattle.relational.specs.declared.Quantifier.{Quantifier};
+ghost use Rattle.relational.specs.declared.Symbol.TheVariants.{Quantifier as quantifier-symbol};
 ghost use Rattle.relational.specs.Meaning.{Environment};
 ghost use Rattle.relational.specs.Evaluation as spec;
 ghost use Rattle.instance_matrix.specs.Values.{Fine, Gives, matrix_of};
@@ -35,7 +37,7 @@ pub(crate) fn comprehend(
 ) -> Value
     requires sheet_value { reading sheet.now ≡ accepted layout }
     requires fine { Fine row }
-    ensures { (env : Environment) → Gives result (spec.value_binary trees.intersection
+    ensures { (env : Environment) → Gives result (spec.value_binary binary_operator.Intersection
         (spec.range (sheet_of sheet.now) instance.now x env) (matrix_of row)) }
 {
     binary(6, range(sheet, layout, instance, x), row)

@@ -1,8 +1,10 @@
 // 2.2.1 Basic expressions, the leaves: a relation, a variable, a sort, an identity.
 ghost use Rattle.std.specs.Prelude.{◌≡◌, ◌<◌};
 ghost use Rattle.sheet_rules.specs.Blocks.{sheet_of, relation_count};
-ghost use Rattle.relational.specs.Trees as trees;
-ghost use Rattle.relational.specs.Trees.{Leaf, leaf-symbol, symbol_of};
+ghost use Rattle.relational.specs.declared.Leaf.TheVariants as leaf_operator;
+ghost use Rattle.relational.specs.Trees.{symbol_of};
+ghost use Rattle.relational.specs.declared.Leaf.{Leaf};
+ghost use Rattle.relational.specs.declared.Symbol.TheVariants.{Leaf as leaf-symbol};
 ghost use Rattle.relational.specs.Meaning.{Environment};
 ghost use Rattle.relational.specs.Evaluation.{value_leaf};
 ghost use Rattle.cells.specs.Private.{Located};
@@ -21,7 +23,7 @@ fn relation(sheet: &[u8], layout: Layout, instance: &[u8], starts: &[usize], r: 
     requires located { Located sheet.now layout starts.now }
     requires r_bound { r < relation_count (sheet_of sheet.now) }
     ensures { (env : Environment)
-        → Gives result (value_leaf (sheet_of sheet.now) instance.now trees.relation r env) }
+        → Gives result (value_leaf (sheet_of sheet.now) instance.now leaf_operator.Relation r env) }
 {
     let first = starts[r];
     let rows = row_count(sheet, layout, r);

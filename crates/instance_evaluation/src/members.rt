@@ -2,7 +2,7 @@
 ghost use Rattle.std.specs.Prelude.{◌≡◌, ◌<◌};
 ghost use Rattle.sheet_rules.specs.Blocks.{sheet_of};
 ghost use Rattle.sheet_rules.specs.Reading.{accepted, reading};
-ghost use Rattle.relational.specs.Trees as trees;
+ghost use Rattle.relational.specs.declared.Leaf.TheVariants as leaf_operator;
 ghost use Rattle.relational.specs.Meaning.{Environment};
 ghost use Rattle.relational.specs.Evaluation as spec;
 ghost use Rattle.instance_matrix.specs.Values.{Gives};
@@ -35,7 +35,7 @@ pub(crate) fn is_member(
 pub(crate) fn atoms(sheet: &[u8], layout: Layout, instance: &[u8], sort: usize) -> Value
     requires { reading sheet.now ≡ accepted layout }
     ensures { (env : Environment)
-        → Gives result (spec.value_leaf (sheet_of sheet.now) instance.now trees.atoms sort env) }
+        → Gives result (spec.value_leaf (sheet_of sheet.now) instance.now leaf_operator.Atoms sort env) }
 {
     let n = scope(sheet, layout, sort);
     if is_bounded(sheet, layout, sort) {

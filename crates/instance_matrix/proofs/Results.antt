@@ -10,7 +10,8 @@ use lib.ListN.{get_or, take}
 use borrow.Author.Tests.{eq-eqb, ne_eqb}
 use Rattle.prelude.specs.Tests.{any}
 use Rattle.sheet_rules.specs.Blocks.{byte}
-use Rattle.relational.specs.Trees.{join, product, inverse}
+use Rattle.relational.specs.declared.Binary.TheVariants.{Join as join, Product as product}
+use Rattle.relational.specs.declared.Unary.TheVariants.{Inverse as inverse}
 use Rattle.relational.specs.Matrices.{Matrix, upto, Place, places, set_of, relation_of, same_size, cell_at, join_columns}
 use Rattle.relational.specs.Matrices.{matched, middles, crossed}
 use Rattle.relational.specs.Evaluation.{both, join_cells, value_binary, value_unary}

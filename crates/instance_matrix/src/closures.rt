@@ -1,5 +1,5 @@
 // 2.2.5 Transitive closure.
-ghost use Rattle.relational.specs.Trees as trees;
+ghost use Rattle.relational.specs.declared.Unary.TheVariants as unary_operator;
 ghost use Rattle.relational.specs.Evaluation as spec;
 ghost use Rattle.instance_matrix.specs.Values.{matrix_of, Fine, Gives};
 
@@ -20,7 +20,7 @@ fn round(p: Value) -> Value
 // Kind 11: "as many rounds as the least k with 2^k at least n".
 pub(crate) fn closure(p: Value) -> Value
     requires { Fine p }
-    ensures { Gives result (spec.value_unary trees.closure (matrix_of p)) }
+    ensures { Gives result (spec.value_unary unary_operator.Closure (matrix_of p)) }
 {
     let n = rounds(p.rows);
     let mut closed = p;

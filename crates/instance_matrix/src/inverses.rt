@@ -1,5 +1,5 @@
 // 2.2.4 Relational inverse.
-ghost use Rattle.relational.specs.Trees as trees;
+ghost use Rattle.relational.specs.declared.Unary.TheVariants as unary_operator;
 ghost use Rattle.relational.specs.Evaluation as spec;
 ghost use Rattle.instance_matrix.specs.Values.{matrix_of, Fine, Gives};
 
@@ -8,7 +8,7 @@ use super::{Value, index, size};
 // Kind 10: "Inverse transposes its operand's cells."
 pub(crate) fn inverse(p: Value) -> Value
     requires { Fine p }
-    ensures { Gives result (spec.value_unary trees.inverse (matrix_of p)) }
+    ensures { Gives result (spec.value_unary unary_operator.Inverse (matrix_of p)) }
 {
     let n = size(p.columns, p.rows);
     let mut cells = [false; 64];

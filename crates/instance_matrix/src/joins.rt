@@ -1,7 +1,7 @@
 // 2.2.2 Relational join.
 ghost use Rattle.std.specs.Prelude.{◌≡◌, false, ◌<◌, ◌≤◌};
 ghost use Rattle.prelude.specs.Tests.{any};
-ghost use Rattle.relational.specs.Trees as trees;
+ghost use Rattle.relational.specs.declared.Binary.TheVariants as binary_operator;
 ghost use Rattle.relational.specs.Matrices as matrices;
 ghost use Rattle.relational.specs.Evaluation as spec;
 ghost use Rattle.instance_matrix.specs.Values.{matrix_of, Fine, Gives};
@@ -32,7 +32,7 @@ fn join_cell(p: Value, q: Value, columns: usize, i: usize, j: usize) -> bool
 pub(crate) fn join(p: Value, q: Value) -> Value
     requires fine { Fine p }
     requires fine_2 { Fine q }
-    ensures { Gives result (spec.value_binary trees.join (matrix_of p) (matrix_of q)) }
+    ensures { Gives result (spec.value_binary binary_operator.Join (matrix_of p) (matrix_of q)) }
 {
     let columns = join_columns(q.arity, q.columns);
     let n = size(p.rows, columns);

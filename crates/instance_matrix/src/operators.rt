@@ -1,6 +1,9 @@
 // 2.2.1 to 2.2.5: the operators on expressions, by the numbers of their kinds.
 ghost use Rattle.std.specs.Prelude.{◌≡◌};
-ghost use Rattle.relational.specs.Trees.{Binary, Unary, binary-symbol, unary-symbol, symbol_of};
+ghost use Rattle.relational.specs.Trees.{symbol_of};
+ghost use Rattle.relational.specs.declared.Binary.{Binary};
+ghost use Rattle.relational.specs.declared.Unary.{Unary};
+ghost use Rattle.relational.specs.declared.Symbol.TheVariants.{Binary as binary-symbol, Unary as unary-symbol};
 ghost use Rattle.relational.specs.Evaluation as spec;
 ghost use Rattle.instance_matrix.specs.Values.{matrix_of, Fine, Gives};
 

@@ -1,5 +1,5 @@
 // 2.2.3 Relational product.
-ghost use Rattle.relational.specs.Trees as trees;
+ghost use Rattle.relational.specs.declared.Binary.TheVariants as binary_operator;
 ghost use Rattle.relational.specs.Evaluation as spec;
 ghost use Rattle.instance_matrix.specs.Values.{matrix_of, Fine, Gives};
 
@@ -10,7 +10,7 @@ use prelude::both;
 pub(crate) fn product(p: Value, q: Value) -> Value
     requires fine { Fine p }
     requires fine_2 { Fine q }
-    ensures { Gives result (spec.value_binary trees.product (matrix_of p) (matrix_of q)) }
+    ensures { Gives result (spec.value_binary binary_operator.Product (matrix_of p) (matrix_of q)) }
 {
     let n = size(p.columns, q.columns);
     let mut cells = [false; 64];

@@ -1,8 +1,14 @@
 // 2.2.6 Quantifiers and logical connectives: comparisons and tests of matrices, connectives, quantifiers.
 ghost use Rattle.std.specs.Prelude.{◌≡◌, false, ◌<◌};
 ghost use Rattle.prelude.specs.Tests.{all};
-ghost use Rattle.relational.specs.Trees.{Comparison, Test, Connective, Quantifier, symbol_of};
-ghost use Rattle.relational.specs.Trees.{comparison-symbol, test-symbol, connective-symbol, quantifier-symbol};
+ghost use Rattle.relational.specs.Trees.{symbol_of};
+ghost use Rattle.relational.specs.declared.Comparison.{Comparison};
+ghost use Rattle.relational.specs.declared.Test.{Test};
+ghost use Rattle.relational.specs.declared.Connective.{Connective};
+ghost use Rattle.relational.specs.declared.Quantifier.{Quantifier};
+ghost use Rattle.relational.specs.declared.Symbol.TheVariants.{Comparison as comparison-symbol, Test as test-symbol};
+ghost use Rattle.relational.specs.declared.Symbol.TheVariants.{Connective as connective-symbol};
+ghost use Rattle.relational.specs.declared.Symbol.TheVariants.{Quantifier as quantifier-symbol};
 ghost use Rattle.relational.specs.Matrices as matrices;
 ghost use Rattle.relational.specs.Evaluation as spec;
 ghost use Rattle.relational.specs.Evaluation.{truth_connective};

@@ -1,5 +1,4 @@
 pub mod Binding
-pub mod Numbers
 pub mod Views
 pub mod ExpressionViews
 pub mod FormulaViews

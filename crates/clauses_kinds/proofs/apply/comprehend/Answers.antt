@@ -1,7 +1,7 @@
 -- `comprehend` meets its contract: AND with the atoms.
 use mathlib.Core.Path.{ap, refl}
 use Rattle.literal.specs.Literals.{Literal}
-use Rattle.relational.specs.Trees.{intersection}
+use Rattle.relational.specs.declared.Binary.TheVariants.{Intersection as intersection}
 use Rattle.relational.specs.Matrices.{Matrix}
 use Rattle.clauses_rules.specs.Translation.{translate_binary}
 use Rattle.clauses_emission.proofs.Steps.{emits-as}

@@ -1,5 +1,6 @@
 -- `some_matched` meets its contract: the intersection, then some.
-use Rattle.relational.specs.Trees.{intersection, some}
+use Rattle.relational.specs.declared.Binary.TheVariants.{Intersection as intersection}
+use Rattle.relational.specs.declared.Test.TheVariants.{Some as some}
 use Rattle.clauses_rules.specs.Translation.{translate_binary, translate_test}
 use Rattle.clauses_emission.proofs.Steps.{emits-bind}
 use Rattle.clauses_matrix.specs.Matrices.{matrix_of}

@@ -1,7 +1,9 @@
 -- The intersection with the variable's atoms.
 use mathlib.Core.Path.{◌≡◌, refl, ap}
 use mathlib.Core.Bool.{Bool}
-use Rattle.relational.specs.Trees.{intersection, binary-symbol, symbol_of}
+use Rattle.relational.specs.Trees.{symbol_of}
+use Rattle.relational.specs.declared.Binary.TheVariants.{Intersection as intersection}
+use Rattle.relational.specs.declared.Symbol.TheVariants.{Binary as binary-symbol}
 use Rattle.relational.specs.Matrices.{Matrix}
 use Rattle.relational.specs.Evaluation.{value_binary}
 use Rattle.instance_matrix.specs.Values.{matrix_of}

@@ -2,7 +2,7 @@
 use mathlib.Core.Path.{ap}
 use Prim.Native.Nat.{ℕ}
 use Rattle.sheet_rules.specs.Blocks.{sheet_of}
-use Rattle.relational.specs.Trees as trees
+use Rattle.relational.specs.declared.Leaf.TheVariants as leaf_operator
 use Rattle.relational.specs.Evaluation.{value_leaf}
 use Rattle.instance_matrix.proofs.Results.{gives_as}
 use Rattle.instance_evaluation.proofs.binders.range.Goals as goal
@@ -11,6 +11,6 @@ pub returns : goal.returns
 returns c env =
     let s = c.before.before.before.before.before in
     gives_as _ _ _
-    (ap (λ (k : ℕ). value_leaf (sheet_of s.args.sheet.now) s.args.instance.now trees.atoms k env)
+    (ap (λ (k : ℕ). value_leaf (sheet_of s.args.sheet.now) s.args.instance.now leaf_operator.Atoms k env)
     c.sort_of_variable.ensures)
     (c.atoms.ensures env)
