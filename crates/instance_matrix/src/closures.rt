@@ -5,7 +5,6 @@ ghost use Rattle.instance_matrix.specs.Values.{matrix_of, Fine, Gives};
 
 use super::Value;
 use super::basic::matched;
-use super::flags::Pairing;
 use super::joins::join;
 use nodes::sizes::rounds;
 
@@ -14,7 +13,7 @@ fn round(p: Value) -> Value
     requires { Fine p }
     ensures { Gives result (spec.round_of (matrix_of p)) }
 {
-    matched(Pairing::Either, p, join(p, p))
+    matched(|a, b| a || b, p, join(p, p))
 }
 
 // Kind 11: "as many rounds as the least k with 2^k at least n".
@@ -22,12 +21,9 @@ pub(crate) fn closure(p: Value) -> Value
     requires { Fine p }
     ensures { Gives result (spec.value_unary unary_operator.Closure (matrix_of p)) }
 {
-    let n = rounds(p.rows);
     let mut closed = p;
-    let mut k: usize = 0;
-    while k < n {
+    for _ in 0..rounds(p.rows) {
         closed = round(closed);
-        k += 1;
     }
     closed
 }

@@ -10,7 +10,6 @@ ghost use Rattle.instance_matrix.specs.Values.{matrix_of, Fine, Gives};
 use super::Value;
 use super::basic::matched;
 use super::closures::closure;
-use super::flags::Pairing;
 use super::inverses::inverse;
 use super::joins::join;
 use super::products::product;
@@ -23,9 +22,9 @@ pub fn binary(kind: usize, p: Value, q: Value) -> Value
 {
     match kind {
         // 2.2.1
-        5 => matched(Pairing::Either, p, q),
-        6 => matched(Pairing::Both, p, q),
-        7 => matched(Pairing::Without, p, q),
+        5 => matched(|a, b| a || b, p, q),
+        6 => matched(|a, b| a && b, p, q),
+        7 => matched(|a, b| a && !b, p, q),
         // 2.2.2
         8 => join(p, q),
         // 2.2.3

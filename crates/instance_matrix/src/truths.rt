@@ -1,5 +1,5 @@
 // 2.2.6 Quantifiers and logical connectives: comparisons and tests of matrices, connectives, quantifiers.
-ghost use Rattle.std.specs.Prelude.{◌≡◌, false, ◌<◌};
+ghost use Rattle.std.specs.Prelude.{◌≡◌, Bool, false};
 ghost use Rattle.prelude.specs.Tests.{all};
 ghost use Rattle.relational.specs.Trees.{symbol_of};
 ghost use Rattle.relational.specs.declared.Comparison.{Comparison};
@@ -12,27 +12,21 @@ ghost use Rattle.relational.specs.declared.Symbol.TheVariants.{Quantifier as qua
 ghost use Rattle.relational.specs.Matrices as matrices;
 ghost use Rattle.relational.specs.Evaluation as spec;
 ghost use Rattle.relational.specs.Evaluation.{truth_connective};
-ghost use Rattle.instance_matrix.specs.Values.{matrix_of, Fine, counted, paired};
+ghost use Rattle.instance_matrix.specs.Values.{matrix_of, Fine};
 
+use super::Value;
 use super::basic::matched;
-use super::flags::{Pairing, pair};
-use super::{Value, size};
-use prelude::both;
+use nodes::matrix::size;
 
 // Whether each pair of cells at the same place makes true.
-fn all_matched(pairing: Pairing, p: Value, q: Value) -> bool
+fn all_matched<F: Fn(bool, bool) -> bool>(pair: F, p: Value, q: Value) -> bool
+    requires pairs { (a b : Bool) → F.pre pair a b }
     requires fine { Fine p }
     requires fine_2 { Fine q }
-    ensures { result ≡ all (paired pairing) (matrices.matched false (matrix_of p) (matrix_of q)) }
+    ensures { (paired : Bool × Bool → Bool) → ((a b r : Bool) → F.post pair a b r → r ≡ paired (a, b))
+        → result ≡ all paired (matrices.matched false (matrix_of p) (matrix_of q)) }
 {
-    let n = size(p.rows, p.columns);
-    let mut fine = true;
-    let mut k: usize = 0;
-    while k < n {
-        fine = both(fine, pair(pairing, p.cells[k], q.cells[k]));
-        k += 1;
-    }
-    fine
+    (0..size(p.rows, p.columns)).all(|k| pair(p.cells[k], q.cells[k]))
 }
 
 // Kinds 20 and 21: equal, within.
@@ -42,17 +36,9 @@ pub fn compare(kind: usize, p: Value, q: Value) -> bool
     ensures { (o : Comparison) → symbol_of kind ≡ comparison-symbol o → result ≡ spec.truth_comparison o (matrix_of p) (matrix_of q) }
 {
     match kind {
-        20 => all_matched(Pairing::Same, p, q),
-        _ => all_matched(Pairing::Implies, p, q),
+        20 => all_matched(|a, b| a == b, p, q),
+        _ => all_matched(|a, b| !a || b, p, q),
     }
-}
-
-// One more flag.
-fn add_flag(n: usize, flag: bool) -> usize
-    requires { n < 64 }
-    ensures { result ≡ counted n flag }
-{
-    if flag { n + 1 } else { n }
 }
 
 // How many cells are true.
@@ -60,14 +46,10 @@ pub(crate) fn count(p: Value) -> usize
     requires { Fine p }
     ensures { result ≡ spec.count (matrix_of p).cells }
 {
-    let n = size(p.rows, p.columns);
-    let mut total: usize = 0;
-    let mut k: usize = 0;
-    while k < n {
-        total = add_flag(total, p.cells[k]);
-        k += 1;
-    }
-    total
+    p.cells[..size(p.rows, p.columns)]
+        .iter()
+        .filter(|cell| **cell)
+        .count()
 }
 
 // Kinds 22 to 24: some, none, at most one.
@@ -88,10 +70,10 @@ pub fn connect(kind: usize, a: bool, b: bool) -> bool
     ensures { (o : Connective) → symbol_of kind ≡ connective-symbol o → result ≡ truth_connective o a b }
 {
     match kind {
-        31 => pair(Pairing::Both, a, b),
-        32 => pair(Pairing::Either, a, b),
-        33 => pair(Pairing::Implies, a, b),
-        _ => pair(Pairing::Same, a, b),
+        31 => a && b,
+        32 => a || b,
+        33 => !a || b,
+        _ => a == b,
     }
 }
 
@@ -103,7 +85,7 @@ pub fn quantify(kind: usize, atoms: Value, bodies: Value) -> bool
         → result ≡ spec.truth_quantifier o (matrix_of atoms) (matrix_of bodies) }
 {
     match kind {
-        40 => all_matched(Pairing::Implies, atoms, bodies),
-        _ => 1 <= count(matched(Pairing::Both, atoms, bodies)),
+        40 => all_matched(|a, b| !a || b, atoms, bodies),
+        _ => 1 <= count(matched(|a, b| a && b, atoms, bodies)),
     }
 }

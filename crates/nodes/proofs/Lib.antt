@@ -4,3 +4,4 @@ pub mod ExpressionViews
 pub mod FormulaViews
 pub mod Roots
 mod Powers
+mod Placed
