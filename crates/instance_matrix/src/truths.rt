@@ -1,14 +1,6 @@
 // 2.2.6 Quantifiers and logical connectives: comparisons and tests of matrices, connectives, quantifiers.
 ghost use Rattle.std.specs.Prelude.{◌≡◌, Bool, false};
 ghost use Rattle.prelude.specs.Tests.{all};
-ghost use Rattle.relational.specs.Trees.{symbol_of};
-ghost use Rattle.relational.specs.declared.Comparison.{Comparison};
-ghost use Rattle.relational.specs.declared.Test.{Test};
-ghost use Rattle.relational.specs.declared.Connective.{Connective};
-ghost use Rattle.relational.specs.declared.Quantifier.{Quantifier};
-ghost use Rattle.relational.specs.declared.Symbol.TheVariants.{Comparison as comparison-symbol, Test as test-symbol};
-ghost use Rattle.relational.specs.declared.Symbol.TheVariants.{Connective as connective-symbol};
-ghost use Rattle.relational.specs.declared.Symbol.TheVariants.{Quantifier as quantifier-symbol};
 ghost use Rattle.relational.specs.Matrices as matrices;
 ghost use Rattle.relational.specs.Evaluation as spec;
 ghost use Rattle.relational.specs.Evaluation.{truth_connective};
@@ -17,6 +9,7 @@ ghost use Rattle.instance_matrix.specs.Values.{matrix_of, Fine};
 use super::Value;
 use super::basic::matched;
 use nodes::matrix::size;
+use relational::{Comparison, Connective, Quantifier, Test};
 
 // Whether each pair of cells at the same place makes true.
 fn all_matched<F: Fn(bool, bool) -> bool>(pair: F, p: Value, q: Value) -> bool
@@ -30,14 +23,14 @@ fn all_matched<F: Fn(bool, bool) -> bool>(pair: F, p: Value, q: Value) -> bool
 }
 
 // Kinds 20 and 21: equal, within.
-pub fn compare(kind: usize, p: Value, q: Value) -> bool
+pub fn compare(operator: Comparison, p: Value, q: Value) -> bool
     requires fine { Fine p }
     requires fine_2 { Fine q }
-    ensures { (o : Comparison) → symbol_of kind ≡ comparison-symbol o → result ≡ spec.truth_comparison o (matrix_of p) (matrix_of q) }
+    ensures { result ≡ spec.truth_comparison operator (matrix_of p) (matrix_of q) }
 {
-    match kind {
-        20 => all_matched(|a, b| a == b, p, q),
-        _ => all_matched(|a, b| !a || b, p, q),
+    match operator {
+        Comparison::Equal => all_matched(|a, b| a == b, p, q),
+        Comparison::Within => all_matched(|a, b| !a || b, p, q),
     }
 }
 
@@ -53,39 +46,38 @@ pub(crate) fn count(p: Value) -> usize
 }
 
 // Kinds 22 to 24: some, none, at most one.
-pub fn test(kind: usize, p: Value) -> bool
+pub fn test(operator: Test, p: Value) -> bool
     requires { Fine p }
-    ensures { (o : Test) → symbol_of kind ≡ test-symbol o → result ≡ spec.truth_test o (matrix_of p).cells }
+    ensures { result ≡ spec.truth_test operator (matrix_of p).cells }
 {
     let n = count(p);
-    match kind {
-        22 => 1 <= n,
-        23 => n == 0,
-        _ => n <= 1,
+    match operator {
+        Test::Some => 1 <= n,
+        Test::None => n == 0,
+        Test::Lone => n <= 1,
     }
 }
 
 // Kinds 31 to 34: and, or, implies, iff.
-pub fn connect(kind: usize, a: bool, b: bool) -> bool
-    ensures { (o : Connective) → symbol_of kind ≡ connective-symbol o → result ≡ truth_connective o a b }
+pub fn connect(operator: Connective, a: bool, b: bool) -> bool
+    ensures { result ≡ truth_connective operator a b }
 {
-    match kind {
-        31 => a && b,
-        32 => a || b,
-        33 => !a || b,
-        _ => a == b,
+    match operator {
+        Connective::Conjunction => a && b,
+        Connective::Disjunction => a || b,
+        Connective::Implication => !a || b,
+        Connective::Equivalence => a == b,
     }
 }
 
 // Kinds 40 and 41, over the atoms and the set of those for which the body holds: for all, for some.
-pub fn quantify(kind: usize, atoms: Value, bodies: Value) -> bool
+pub fn quantify(operator: Quantifier, atoms: Value, bodies: Value) -> bool
     requires fine { Fine atoms }
     requires fine_2 { Fine bodies }
-    ensures { (o : Quantifier) → symbol_of kind ≡ quantifier-symbol o
-        → result ≡ spec.truth_quantifier o (matrix_of atoms) (matrix_of bodies) }
+    ensures { result ≡ spec.truth_quantifier operator (matrix_of atoms) (matrix_of bodies) }
 {
-    match kind {
-        40 => all_matched(|a, b| !a || b, atoms, bodies),
-        _ => 1 <= count(matched(|a, b| a && b, atoms, bodies)),
+    match operator {
+        Quantifier::All => all_matched(|a, b| !a || b, atoms, bodies),
+        Quantifier::Some => 1 <= count(matched(|a, b| a && b, atoms, bodies)),
     }
 }

@@ -1,7 +1,7 @@
 -- The join, then the union with the old cells.
 use Rattle.std.proofs.Common.{ap, rules}
 use Rattle.relational.specs.Evaluation.{either, value_binary}
-use Rattle.relational.specs.Trees.{union}
+use Rattle.relational.specs.declared.Binary.TheVariants.{Union as union}
 use Rattle.instance_matrix.specs.Values.{matrix_of}
 use Rattle.instance_matrix.proofs.Results.{gives_as}
 use Rattle.instance_matrix.proofs.closures.round.Goals as goal
