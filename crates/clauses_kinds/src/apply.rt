@@ -16,20 +16,19 @@ ghost use Rattle.relational.specs.declared.Symbol.TheVariants.{Connective as con
 ghost use Rattle.relational.specs.declared.Symbol.TheVariants.{Quantifier as quantifier-symbol};
 ghost use Rattle.relational.specs.Meaning.{Environment};
 ghost use Rattle.sheet_rules.specs.Blocks.{sheet_of};
-ghost use Rattle.sheet_rules.specs.Reading.{accepted, reading};
 ghost use Rattle.clauses_rules.specs.Translation.{translate_binary, translate_unary, translate_comparison};
 ghost use Rattle.clauses_rules.specs.Translation.{translate_test, translate_connective, translate_quantifier, range};
 ghost use Rattle.clauses_emission.specs.Emission.{Inside, literals_of, Bounded, EmitsLiteral, EmitsTwo};
 ghost use Rattle.clauses_matrix.specs.Matrices.{matrix_of, Operand, EmitsMatrix, EmitsBinary, EmitsUnary, EmitsTest};
 ghost use Rattle.clauses_kinds.specs.Leaves.{Bodies};
 
-use super::leaves;
+use crate::leaves;
+use crate::source::Source;
 use clauses_emission::gates::pair;
 use clauses_emission::{Made, Pairing, Tape};
 use clauses_matrix::operators::{closure, inverse, join, matched, product};
 use clauses_matrix::truths::{all_matched, lone, none, some};
 use clauses_matrix::{Literals, MadeMatrix};
-use sheet_rules::Layout;
 
 // Kinds 5 to 9: union, intersection, difference, join, product.
 pub fn binary(list: &mut [i32], kind: usize, p: MadeMatrix, q: MadeMatrix) -> MadeMatrix
@@ -40,15 +39,12 @@ pub fn binary(list: &mut [i32], kind: usize, p: MadeMatrix, q: MadeMatrix) -> Ma
         → EmitsBinary (translate_binary o) p.matrix q.matrix
         list.old q.tape result.matrix list.new result.tape }
 {
-    let left = p.matrix;
-    let right = q.matrix;
-    let tape = q.tape;
     match kind {
-        5 => matched(list, tape, Pairing::Either, left, right),
-        6 => matched(list, tape, Pairing::Both, left, right),
-        7 => matched(list, tape, Pairing::Without, left, right),
-        8 => join(list, tape, left, right),
-        _ => product(list, tape, left, right),
+        5 => matched(list, q.tape, Pairing::Either, p.matrix, q.matrix),
+        6 => matched(list, q.tape, Pairing::Both, p.matrix, q.matrix),
+        7 => matched(list, q.tape, Pairing::Without, p.matrix, q.matrix),
+        8 => join(list, q.tape, p.matrix, q.matrix),
+        _ => product(list, q.tape, p.matrix, q.matrix),
     }
 }
 
@@ -59,11 +55,9 @@ pub fn unary(list: &mut [i32], kind: usize, p: MadeMatrix) -> MadeMatrix
     ensures { (o : Unary) → symbol_of kind ≡ unary-symbol o
         → EmitsUnary (translate_unary o) p.matrix list.old p.tape result.matrix list.new result.tape }
 {
-    let operand = p.matrix;
-    let tape = p.tape;
     match kind {
-        10 => inverse(tape, operand),
-        _ => closure(list, tape, operand),
+        10 => inverse(p.tape, p.matrix),
+        _ => closure(list, p.tape, p.matrix),
     }
 }
 
@@ -76,12 +70,9 @@ pub fn compare(list: &mut [i32], kind: usize, p: MadeMatrix, q: MadeMatrix) -> M
         → EmitsLiteral (translate_comparison o (matrix_of p.matrix) (matrix_of q.matrix) q.tape.next)
         list.old q.tape result.literal list.new result.tape }
 {
-    let left = p.matrix;
-    let right = q.matrix;
-    let tape = q.tape;
     match kind {
-        20 => all_matched(list, tape, Pairing::Same, left, right),
-        _ => all_matched(list, tape, Pairing::Implies, left, right),
+        20 => all_matched(list, q.tape, Pairing::Same, p.matrix, q.matrix),
+        _ => all_matched(list, q.tape, Pairing::Implies, p.matrix, q.matrix),
     }
 }
 
@@ -92,12 +83,10 @@ pub fn test(list: &mut [i32], kind: usize, p: MadeMatrix) -> Made
     ensures { (o : Test) → symbol_of kind ≡ test-symbol o
         → EmitsTest (translate_test o) p.matrix list.old p.tape result.literal list.new result.tape }
 {
-    let operand = p.matrix;
-    let tape = p.tape;
     match kind {
-        22 => some(list, tape, operand),
-        23 => none(list, tape, operand),
-        _ => lone(list, tape, operand),
+        22 => some(list, p.tape, p.matrix),
+        23 => none(list, p.tape, p.matrix),
+        _ => lone(list, p.tape, p.matrix),
     }
 }
 
@@ -110,12 +99,11 @@ pub fn connect(list: &mut [i32], kind: usize, p: Made, q: Made) -> Made
         → EmitsTwo (translate_connective o) p.literal q.literal
         list.old q.tape result.literal list.new result.tape }
 {
-    let tape = q.tape;
     match kind {
-        31 => pair(list, tape, Pairing::Both, p.literal, q.literal),
-        32 => pair(list, tape, Pairing::Either, p.literal, q.literal),
-        33 => pair(list, tape, Pairing::Implies, p.literal, q.literal),
-        _ => pair(list, tape, Pairing::Same, p.literal, q.literal),
+        31 => pair(list, q.tape, Pairing::Both, p.literal, q.literal),
+        32 => pair(list, q.tape, Pairing::Either, p.literal, q.literal),
+        33 => pair(list, q.tape, Pairing::Implies, p.literal, q.literal),
+        _ => pair(list, q.tape, Pairing::Same, p.literal, q.literal),
     }
 }
 
@@ -128,11 +116,9 @@ fn quantify(list: &mut [i32], kind: usize, atoms: Literals, p: MadeMatrix) -> Ma
         → EmitsLiteral (translate_quantifier o (matrix_of atoms) (matrix_of p.matrix) p.tape.next)
         list.old p.tape result.literal list.new result.tape }
 {
-    let bodies = p.matrix;
-    let tape = p.tape;
     match kind {
-        40 => all_matched(list, tape, Pairing::Implies, atoms, bodies),
-        _ => some_matched(list, tape, atoms, bodies),
+        40 => all_matched(list, p.tape, Pairing::Implies, atoms, p.matrix),
+        _ => some_matched(list, p.tape, atoms, p.matrix),
     }
 }
 
@@ -144,53 +130,42 @@ fn some_matched(list: &mut [i32], tape: Tape, p: Literals, q: Literals) -> Made
     ensures { EmitsLiteral (translate_quantifier for_some (matrix_of p) (matrix_of q) tape.next)
         list.old tape result.literal list.new result.tape }
 {
-    let made = matched(list, tape, Pairing::Both, p, q);
-    let both = made.matrix;
-    let after = made.tape;
-    some(list, after, both)
+    let both = matched(list, tape, Pairing::Both, p, q);
+    some(list, both.tape, both.matrix)
 }
 
 // Kinds 40 and 41 of variable x, over the literals of the bodies.
 pub fn quantify_over(
     list: &mut [i32],
-    sheet: &[u8],
-    layout: Layout,
-    given: &[i32],
+    source: &Source,
     kind: usize,
     x: usize,
     p: MadeMatrix,
 ) -> Made
-    requires sheet_value { reading sheet.now ≡ accepted layout }
-    requires bodies { Bodies given.now p }
+    requires { Bodies source.now.given.now p }
     ensures { (env : Environment) (o : Quantifier) → symbol_of kind ≡ quantifier-symbol o
         → EmitsLiteral (translate_quantifier o
-        (range (sheet_of sheet.now) (literals_of given.now) x env)
+        (range (sheet_of source.now.sheet.bytes.now) (literals_of source.now.given.now) x env)
         (matrix_of p.matrix) p.tape.next)
         list.old p.tape result.literal list.new result.tape }
 {
-    let atoms = leaves::range(sheet, layout, given, x);
-    quantify(list, kind, atoms, p)
+    quantify(list, kind, leaves::range(source, x), p)
 }
 
 // Kind 12 of variable x, over the literals of the bodies: AND with the atoms.
-pub fn comprehend(
-    list: &mut [i32],
-    sheet: &[u8],
-    layout: Layout,
-    given: &[i32],
-    x: usize,
-    p: MadeMatrix,
-) -> MadeMatrix
-    requires sheet_value { reading sheet.now ≡ accepted layout }
-    requires bodies { Bodies given.now p }
+pub fn comprehend(list: &mut [i32], source: &Source, x: usize, p: MadeMatrix) -> MadeMatrix
+    requires { Bodies source.now.given.now p }
     ensures { (env : Environment)
         → EmitsMatrix (translate_binary intersection
-        (range (sheet_of sheet.now) (literals_of given.now) x env)
+        (range (sheet_of source.now.sheet.bytes.now) (literals_of source.now.given.now) x env)
         (matrix_of p.matrix) p.tape.next)
         list.old p.tape result.matrix list.new result.tape }
 {
-    let atoms = leaves::range(sheet, layout, given, x);
-    let bodies = p.matrix;
-    let tape = p.tape;
-    matched(list, tape, Pairing::Both, atoms, bodies)
+    matched(
+        list,
+        p.tape,
+        Pairing::Both,
+        leaves::range(source, x),
+        p.matrix,
+    )
 }

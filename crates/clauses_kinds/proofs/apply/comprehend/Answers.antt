@@ -10,9 +10,9 @@ use Rattle.clauses_kinds.proofs.apply.comprehend.Goals as goal
 
 pub matched-requires : goal.matched-requires
 matched-requires c =
-    let b = c.requires.bodies in record {
+    let b = c.requires in record {
       bounded = b.bounded;
-      operand = (c.range-atoms.ensures (λ x. 0)).fine _ b.inside;
+      operand = (c.range.ensures (λ x. 0)).fine _ b.inside;
       operand_2 = b.fine;
     }
 
@@ -21,5 +21,5 @@ returns c env =
     let p = c.args.p in
     emits-as
     (ap (λ (m : Matrix Literal). translate_binary intersection m (matrix_of p.matrix) p.tape.next)
-    (c.range-atoms.ensures env).matrix)
+    (c.range.ensures env).matrix)
     refl c.matched.ensures

@@ -9,9 +9,9 @@ use Rattle.clauses_kinds.proofs.apply.quantify_over.Goals as goal
 
 pub quantify-requires : goal.quantify-requires
 quantify-requires c =
-    let b = c.requires.bodies in record {
+    let b = c.requires in record {
       bounded = b.bounded;
-      operand = (c.range-atoms.ensures (λ x. 0)).fine _ b.inside;
+      operand = (c.range.ensures (λ x. 0)).fine _ b.inside;
       operand_2 = b.fine;
     }
 
@@ -20,5 +20,5 @@ returns c env o e =
     let p = c.args.p in
     emits-as
     (ap (λ (m : Matrix Literal). translate_quantifier o m (matrix_of p.matrix) p.tape.next)
-    (c.range-atoms.ensures env).matrix)
+    (c.range.ensures env).matrix)
     refl (c.quantify.ensures o e)

@@ -11,10 +11,9 @@ use Rattle.clauses_kinds.proofs.leaves.leaf.Goals as goal
 
 pub identity-requires : goal.identity-requires
 identity-requires c =
-    let s = c.before.before.before.before.before in
     let h = c.atoms-in_default.ensures (λ x. 0) in
     let wide = ap (λ (m : Matrix Literal). m.columns) h.matrix in
-    (omega (arith, wide, (accepted-facts _ _ s.requires.located.taken).scope_few s.args.a), h.room)
+    (omega (arith, wide, (accepted-facts _ _ c.args.source.now.sheet.taken).scope_few c.args.a), h.room)
 
 pub returns-in-1 : goal.returns-in-1
 returns-in-1 c l s =
