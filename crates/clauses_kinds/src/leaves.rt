@@ -1,9 +1,6 @@
 // The matrices of relations, variables, sorts and identities (document 01, "Clauses").
 ghost use Rattle.std.specs.Prelude.{◌≡◌, true, map, ℕ, ◌≤◌, ◌<◌, eqb, length, get_or};
 ghost use Rattle.sheet_rules.specs.Blocks.{relation_count, sort_of, sheet_of};
-ghost use Rattle.relational.specs.Trees.{symbol_of};
-ghost use Rattle.relational.specs.declared.Leaf.{Leaf};
-ghost use Rattle.relational.specs.declared.Symbol.TheVariants.{Leaf as leaf-symbol};
 ghost use Rattle.relational.specs.declared.Leaf.TheVariants as leaf_operator;
 ghost use Rattle.relational.specs.Meaning.{Environment};
 ghost use Rattle.relational.specs.Matrices.{set_of, upto};
@@ -16,6 +13,7 @@ ghost use Rattle.clauses_kinds.specs.Leaves.{Filled, LeafIs, Constants, Diagonal
 use crate::source::Source;
 use clauses_matrix::Literals;
 use nodes::environments::atom_at;
+use relational::Leaf;
 
 // These words, and then -1s.
 fn copied(words: &[i32]) -> [i32; 64]
@@ -116,16 +114,15 @@ fn identity(p: Literals) -> Literals
 }
 
 // Kinds 1 to 4, over field a: relation, variable, sort, identity.
-pub fn leaf(source: &Source, env: [usize; 4], kind: usize, a: usize) -> Literals
-    requires { kind ≡ 1 → a < relation_count (sheet_of source.now.sheet.bytes.now) }
-    ensures { (l : Leaf) → symbol_of kind ≡ leaf-symbol l
-        → LeafIs (sheet_of source.now.sheet.bytes.now) source.now.given.now l a (environment env) result }
+pub fn leaf(source: &Source, env: [usize; 4], leaf: Leaf, a: usize) -> Literals
+    requires { leaf ≡ leaf_operator.Relation → a < relation_count (sheet_of source.now.sheet.bytes.now) }
+    ensures { LeafIs (sheet_of source.now.sheet.bytes.now) source.now.given.now leaf a (environment env) result }
 {
-    match kind {
-        1 => relation(source, a),
-        2 => single(source.sheet.scope_of_variable(a), atom_at(env, a)),
-        3 => atoms(source, a),
-        _ => identity(atoms(source, a)),
+    match leaf {
+        Leaf::Relation => relation(source, a),
+        Leaf::Variable => single(source.sheet.scope_of_variable(a), atom_at(env, a)),
+        Leaf::Atoms => atoms(source, a),
+        Leaf::Identity => identity(atoms(source, a)),
     }
 }
 

@@ -16,9 +16,9 @@ quantify-requires c =
     }
 
 pub returns : goal.returns
-returns c env o e =
+returns c env =
     let p = c.args.p in
     emits-as
-    (ap (λ (m : Matrix Literal). translate_quantifier o m (matrix_of p.matrix) p.tape.next)
+    (ap (λ (m : Matrix Literal). translate_quantifier c.args.operator m (matrix_of p.matrix) p.tape.next)
     (c.range.ensures env).matrix)
-    refl (c.quantify.ensures o e)
+    refl c.quantify.ensures
