@@ -31,8 +31,7 @@ use Rattle.nodes.proofs.Binding.{zero-atoms}
 use Rattle.nodes.proofs.Views.{Reached}
 use Rattle.nodes.proofs.ExpressionViews.{at_leaf, at-binary, at-unary, at-comprehension}
 use Rattle.nodes.proofs.FormulaViews.{at-comparison, at_test, at-negation, at-connective, at-quantifier}
-use Rattle.instance_matrix.specs.declared.Value.{Value}
-use Rattle.instance_matrix.specs.Values.{Gives, matrix_of}
+use Rattle.instance_matrix.specs.Values.{Value, Gives, matrix_of}
 use Rattle.instance_matrix.proofs.Results.{gives_as}
 use Rattle.instance_evaluation.specs.Walking.{value_of_tree, truth_in_tree, bodies_of}
 
