@@ -2,9 +2,6 @@
 ghost use Rattle.std.specs.Prelude.{◌≡◌, ◌<◌};
 ghost use Rattle.sheet_rules.specs.Blocks.{sheet_of, relation_count};
 ghost use Rattle.relational.specs.declared.Leaf.TheVariants as leaf_operator;
-ghost use Rattle.relational.specs.Trees.{symbol_of};
-ghost use Rattle.relational.specs.declared.Leaf.{Leaf};
-ghost use Rattle.relational.specs.declared.Symbol.TheVariants.{Leaf as leaf-symbol};
 ghost use Rattle.relational.specs.Meaning.{Environment};
 ghost use Rattle.relational.specs.Evaluation.{value_leaf};
 ghost use Rattle.instance_matrix.specs.Values.{Gives};
@@ -14,6 +11,7 @@ use super::Instance;
 use instance_matrix::Value;
 use instance_matrix::basic::{given, identity, single};
 use nodes::environments::atom_at;
+use relational::Leaf;
 
 impl<'a> Instance<'a> {
     // Kind 1: the flags of a relation.
@@ -29,16 +27,15 @@ impl<'a> Instance<'a> {
     }
 
     // Kinds 1 to 4: the value of a leaf over field a.
-    pub(crate) fn leaf(&self, env: [usize; 4], kind: usize, a: usize) -> Value
-        requires { kind ≡ 1 → a < relation_count (sheet_of self.now.sheet.bytes.now) }
-        ensures { (l : Leaf) → symbol_of kind ≡ leaf-symbol l
-            → Gives result (value_leaf (sheet_of self.now.sheet.bytes.now) self.now.cells.now l a (environment env)) }
+    pub(crate) fn leaf(&self, env: [usize; 4], leaf: Leaf, a: usize) -> Value
+        requires { leaf ≡ leaf_operator.Relation → a < relation_count (sheet_of self.now.sheet.bytes.now) }
+        ensures { Gives result (value_leaf (sheet_of self.now.sheet.bytes.now) self.now.cells.now leaf a (environment env)) }
     {
-        match kind {
-            1 => self.relation(a),
-            2 => single(self.sheet.scope_of_variable(a), atom_at(env, a)),
-            3 => self.atoms(a),
-            _ => identity(self.atoms(a)),
+        match leaf {
+            Leaf::Relation => self.relation(a),
+            Leaf::Variable => single(self.sheet.scope_of_variable(a), atom_at(env, a)),
+            Leaf::Atoms => self.atoms(a),
+            Leaf::Identity => identity(self.atoms(a)),
         }
     }
 }

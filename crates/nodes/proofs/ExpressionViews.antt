@@ -108,6 +108,19 @@ module _ {sheet : Sheet} {v : ℕ} {node : Node} (h : Reached sheet v node IsExp
   pub at-comprehension : node.symbol ≡ comprehension-symbol → ComprehensionAt sheet v node h.tree.it
   at-comprehension p = view comprehension-symbol p
 
-  -- no other symbol is an expression's
-  pub no-expression : {A : Type 0} (s : Symbol) → node.symbol ≡ s → (ExpressionView sheet v node h.tree.it s → ⊥) → A
-  no-expression s p e = absurd (e (view s p))
+  -- an expression has one of these four
+  pub expression-symbol : {A : Type 0} → ((l : Leaf) → node.symbol ≡ leaf-symbol l → A) → ((o : Binary) → node.symbol ≡ binary-symbol o → A)
+      → ((o : Unary) → node.symbol ≡ unary-symbol o → A) → (node.symbol ≡ comprehension-symbol → A) → A
+  expression-symbol {A} l b u k = go node.symbol refl
+    where
+      go : (s : Symbol) → node.symbol ≡ s → A
+      go (leaf-symbol x) p = l x p
+      go (binary-symbol o) p = b o p
+      go (unary-symbol o) p = u o p
+      go comprehension-symbol p = k p
+      go (comparison-symbol o) p = absurd (view (comparison-symbol o) p)
+      go (test-symbol o) p = absurd (view (test-symbol o) p)
+      go (connective-symbol o) p = absurd (view (connective-symbol o) p)
+      go (quantifier-symbol o) p = absurd (view (quantifier-symbol o) p)
+      go negation-symbol p = absurd (view negation-symbol p)
+      go unknown-symbol p = absurd (view unknown-symbol p)

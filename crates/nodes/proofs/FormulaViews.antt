@@ -99,6 +99,20 @@ module _ {sheet : Sheet} {v : ℕ} {node : Node} (h : Reached sheet v node IsFor
   pub at-quantifier : {o : Quantifier} → node.symbol ≡ quantifier-symbol o → QuantifierAt sheet v node o h.tree.it
   at-quantifier {o} p = view (quantifier-symbol o) p
 
-  -- no other symbol is a formula's
-  pub no-formula : {A : Type 0} (s : Symbol) → node.symbol ≡ s → (FormulaView sheet v node h.tree.it s → ⊥) → A
-  no-formula s p e = absurd (e (view s p))
+  -- a formula has one of these five
+  pub formula-symbol : {A : Type 0} → ((o : Comparison) → node.symbol ≡ comparison-symbol o → A) → ((o : Test) → node.symbol ≡ test-symbol o → A)
+      → (node.symbol ≡ negation-symbol → A) → ((o : Connective) → node.symbol ≡ connective-symbol o → A)
+      → ((o : Quantifier) → node.symbol ≡ quantifier-symbol o → A) → A
+  formula-symbol {A} c t n k q = go node.symbol refl
+    where
+      go : (s : Symbol) → node.symbol ≡ s → A
+      go (comparison-symbol o) p = c o p
+      go (test-symbol o) p = t o p
+      go negation-symbol p = n p
+      go (connective-symbol o) p = k o p
+      go (quantifier-symbol o) p = q o p
+      go (leaf-symbol x) p = absurd (view (leaf-symbol x) p)
+      go (binary-symbol o) p = absurd (view (binary-symbol o) p)
+      go (unary-symbol o) p = absurd (view (unary-symbol o) p)
+      go comprehension-symbol p = absurd (view comprehension-symbol p)
+      go unknown-symbol p = absurd (view unknown-symbol p)
