@@ -28,11 +28,12 @@ module _ (sheet : Sheet) (instance : List ℕ) where
   bodies_of env body x =
       set_of (scope sheet (sort_of sheet x)) (map (λ w. truth_in_tree (bind env x w) body) (atoms_of sheet instance x))
 
-  -- the rows of relation r
+  -- the mark of relation r in row i; in its rows
+  abbrev pub row_marked : ℕ → ℕ → Bool
+  row_marked r i = row_holds sheet instance (multiplicity sheet r) (row_bound sheet instance r i) (row_cells sheet instance r i)
+
   abbrev pub rows_hold : ℕ → Bool
-  rows_hold r =
-      each (row_count sheet r)
-      (λ i. row_holds sheet instance (multiplicity sheet r) (row_bound sheet instance r i) (row_cells sheet instance r i))
+  rows_hold r = each (row_count sheet r) (row_marked r)
 
   -- the atoms of a cell are members; the cells of a row, and of a relation
   abbrev pub of_members : ℕ → ℕ → ℕ → Bool

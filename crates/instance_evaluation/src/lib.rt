@@ -5,14 +5,10 @@
 
 ghost use Rattle.std.specs.Prelude.{◌≡◌};
 ghost use Rattle.sheet_rules.specs.Blocks.{sheet_of};
-ghost use Rattle.cells.specs.Private.{Located};
+ghost use Rattle.cells.specs.Private.{Starts};
 ghost use Rattle.relational.specs.Evaluation as spec;
 
-use marks::marks_hold;
-use prelude::both;
-use scopes::cells_inside;
-use sheet_rules::Layout;
-use walk::formula;
+use cells::Sheet;
 
 mod members; // members.rt, 2.2.1: the atoms of a sort
 mod leaves; // leaves.rt, 2.2.1: relations, variables, sorts, identities
@@ -21,18 +17,23 @@ mod walk; // walk.rt, 2.2.1 to 2.2.6: expressions and formulas
 mod marks; // marks.rt, 2.1.2: multiplicities
 mod scopes; // scopes.rt, 2.1.2: fields are of atoms
 
-// Whether the cells are of members, the marks hold and the root is true.
-pub fn holds(sheet: &[u8], layout: Layout, instance: &[u8], starts: &[usize]) -> bool
-    requires { Located sheet.now layout starts.now }
-    ensures { result ≡ spec.holds (sheet_of sheet.now) instance.now }
-{
-    let marked = marks_hold(sheet, layout, instance, starts);
-    let nodes = layout.nodes;
-    let root = nodes.count - 1;
-    let env = [0; 4];
-    let inside = cells_inside(sheet, layout, instance, starts);
-    both(
-        inside,
-        both(marked, formula(sheet, layout, instance, starts, env, root)),
-    )
+// An instance of an accepted sheet: its cells, and the first cell of each relation.
+#[derive(Clone, Copy)]
+pub struct Instance<'a> {
+    pub sheet: Sheet<'a>,
+    pub cells: &'a [u8],
+    pub starts: [usize; 16],
+    pub ghost located: { Starts (sheet_of sheet.bytes.now) starts },
+}
+
+impl<'a> Instance<'a> {
+    // Whether the cells are of members, the marks hold and the root is true.
+    pub fn holds(&self) -> bool
+        ensures { result ≡ spec.holds (sheet_of self.now.sheet.bytes.now) self.now.cells.now }
+    {
+        let inside = self.cells_inside();
+        let marked = self.marks_hold();
+        let root = self.sheet.layout.nodes.count - 1;
+        inside && marked && self.formula([0; 4], root)
+    }
 }

@@ -1,5 +1,0 @@
--- `first_sort` meets its contract.
-use Rattle.cells.proofs.first_sort.Goals as goal
-
-pub returns : goal.returns
-returns c = c.declared.ensures
