@@ -1,5 +1,5 @@
 // 32-bit literals (document 01, "Clauses"): a word is negated, its sign tested and its width changed here alone.
-// A function that asks nothing takes every word, and sets the lowest number, which has no opposite, aside before any negation.
+// A function that asks nothing takes every word, also the lowest number, which has no opposite.
 #![tactic(auto)]
 
 ghost use Rattle.std.specs.Prelude.{◌≡◌, min, ◌-◌, ◌≤◌, pos, nat_abs};

@@ -1,4 +1,5 @@
-// Text in a lent slice: pieces, numbers in decimal, lines. Each function that puts a piece does so where there is room, and answers where it ends.
+// Text in a lent slice: pieces, numbers in decimal, lines. Each function that puts a piece does so where there is room,
+// and answers where it ends.
 #![tactic(auto)]
 
 ghost use Rattle.std.specs.Prelude.{◌≡◌, ◌≤◌, length};
