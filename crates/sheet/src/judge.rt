@@ -5,7 +5,6 @@ ghost use Rattle.sheet_rules.specs.Blocks as blocks;
 ghost use Rattle.sheet_rules.specs.Reading as spec;
 ghost use Rattle.sheet.specs.Answers.{answer_of};
 
-use super::answer::Reading;
 use super::declarations::{relations_fine, scopes_fine, variables_fine};
 use super::nodes::nodes_fine;
 use super::tables::{all_shaped, closed, count_at, shape_at, shapes_of, visits_of};
@@ -62,7 +61,12 @@ fn layout(sorts: usize, variables: usize, relations: usize, nodes: usize) -> Lay
 }
 
 // Numbers 7 to 9, over blocks whose declarations and nodes are right.
-fn judge_walk(sorts: &[u8], variables: &[u8], relations: &[u8], nodes: &[u8]) -> Reading
+fn judge_walk(
+    sorts: &[u8],
+    variables: &[u8],
+    relations: &[u8],
+    nodes: &[u8],
+) -> Result<Layout, Refusal>
     requires { (length sorts.now ≤ 8) × (length variables.now ≤ 4) × (length relations.now ≤ 100) × (1 ≤ length nodes.now / 3)
         × (length nodes.now / 3 ≤ 200) }
     ensures { answer_of result ≡ spec.walk_judged
@@ -72,19 +76,19 @@ fn judge_walk(sorts: &[u8], variables: &[u8], relations: &[u8], nodes: &[u8]) ->
     let root = count - 1;
     let shapes = shapes_of(variables, relations, nodes);
     if !all_shaped(shapes, count) {
-        return Reading::Refused(Refusal::Shape);
+        return Err(Refusal::Shape);
     }
     if !both(
         is_formula(shape_at(shapes, root)),
         closed(nodes, variables.len()),
     ) {
-        return Reading::Refused(Refusal::Root);
+        return Err(Refusal::Root);
     }
     let visits = visits_of(sorts, variables, nodes);
     if count_at(visits, root) > 1000000 {
-        return Reading::Refused(Refusal::Walk);
+        return Err(Refusal::Walk);
     }
-    Reading::Accepted(layout(sorts.len(), variables.len(), relations.len(), nodes.len()))
+    Ok(layout(sorts.len(), variables.len(), relations.len(), nodes.len()))
 }
 
 // Numbers 2 (whole records) to 9.
@@ -93,7 +97,7 @@ pub(crate) fn judge_blocks(
     variables: &[u8],
     relations: &[u8],
     nodes: &[u8],
-) -> Reading
+) -> Result<Layout, Refusal>
     ensures { answer_of result ≡ spec.whole_judged
         (blocks.four_blocks sorts.now variables.now relations.now nodes.now) }
 {
@@ -102,22 +106,22 @@ pub(crate) fn judge_blocks(
     let relation_count = relations.len() / 4;
     let node_count = nodes.len() / 3;
     if !is_whole(relations.len(), nodes.len()) {
-        return Reading::Refused(Refusal::Length);
+        return Err(Refusal::Length);
     }
     if !is_counted(sort_count, variable_count, relation_count, node_count) {
-        return Reading::Refused(Refusal::Count);
+        return Err(Refusal::Count);
     }
     if !scopes_fine(sorts) {
-        return Reading::Refused(Refusal::Scope);
+        return Err(Refusal::Scope);
     }
     if !both(
         variables_fine(variables, sort_count),
         relations_fine(relations, sort_count),
     ) {
-        return Reading::Refused(Refusal::Declaration);
+        return Err(Refusal::Declaration);
     }
     if !nodes_fine(nodes, sort_count, variable_count, relation_count) {
-        return Reading::Refused(Refusal::Node);
+        return Err(Refusal::Node);
     }
     judge_walk(sorts, variables, relations, nodes)
 }
