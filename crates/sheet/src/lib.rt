@@ -16,7 +16,8 @@ mod nodes; // nodes.rt: the reader of nodes: kinds and fields
 mod tables; // tables.rt: what every node has, from the nodes before it
 mod judge; // judge.rt: numbers 2 to 9 over the four blocks
 
-// Refused by the first number that applies, else accepted. Each block goes to its reader as the part of the sheet where it stands.
+// Refused by the first number that applies, else accepted. Each block goes to its reader as the part of the sheet where
+// it stands.
 pub fn read(sheet: &[u8]) -> Result<Layout, Refusal>
     ensures { answer_of result ≡ reading sheet.now }
 {
