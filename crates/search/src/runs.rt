@@ -10,7 +10,6 @@ ghost use Rattle.search.specs.Answers.{answer_of, answer_at, values_at, trail_at
 ghost use Rattle.search.specs.Inner.{run_of, Finished};
 
 use super::answer::{Position, Resumed, Search, Steps};
-use super::fills::{clear_all, open_all};
 use search_core::run::{End, Ran, run, run_next};
 
 // How a state is taken up: by a resumed call, or by a call for the next.
@@ -97,8 +96,8 @@ pub(crate) fn fresh(list: &[i32], values: &mut [u8], trail: &mut [i32], budget: 
     ensures trail_after { trail.new
         ≡ trail_at (length values.old) (search_run list.now (length values.old) budget) }
 {
-    open_all(values);
-    clear_all(trail);
+    values.fill(2);
+    trail.fill(0);
     let start = Position {
         length: 0,
         propagations: 0,
