@@ -14,7 +14,6 @@ use runs::{Call, fresh, go_on};
 use search_state::{is_state, too_many};
 
 pub mod answer; // answer.rt: what a search answers, and where it stands
-mod fills; // fills.rt: slices, filled
 mod runs; // runs.rt: the run over slices that fit
 
 // The search from a fresh start within a budget. Its answer and all that it leaves are those of the definition `outcome`; what "found" leaves

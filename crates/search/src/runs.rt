@@ -11,7 +11,6 @@ ghost use Rattle.search.specs.Answers.{answer_of, answer_at, values_at, trail_at
 ghost use Rattle.search.specs.Inner.{run_of, Finished};
 
 use super::answer::{Ended, Position, Resumed, Steps};
-use super::fills::{clear_all, open_all};
 use refusal::Refusal;
 use search_core::run::{Ran, run, run_next};
 
@@ -89,8 +88,8 @@ pub(crate) fn fresh(list: &[i32], values: &mut [u8], trail: &mut [i32], budget: 
     ensures trail_after { trail.new
         ≡ trail_at (length values.old) (search_run list.now (length values.old) budget) }
 {
-    open_all(values);
-    clear_all(trail);
+    values.fill(2);
+    trail.fill(0);
     let start = Position {
         length: 0,
         propagations: 0,
