@@ -5,7 +5,7 @@ use mathlib.Core.List.{List, ◌∷◌, map}
 use Prim.Native.Nat.{ℕ, zero, suc, ◌+◌}
 use native.Mathlib.Omega.{arith}
 use Rattle.sheet_rules.specs.Blocks.{Sheet, scope, is_bounded, first_sort, second_sort}
-use Rattle.relational.specs.Trees.{atoms}
+use Rattle.relational.specs.declared.Leaf.TheVariants.{Atoms as atoms}
 use Rattle.relational.specs.Cells.{first_member, member_cell}
 use Rattle.relational.specs.Meaning.{Environment}
 use Rattle.relational.specs.Matrices.{from, upto, Matrix, set_of, member, leaf_matrix}

@@ -14,6 +14,7 @@ use Rattle.prelude.specs.Tests.{between, all}
 use Rattle.prelude.proofs.Laws.{clash, and_left, and_right, and_both, and-rest, and-not-left, and-not-right}
 use Rattle.prelude.proofs.Laws.{between-low, between-high, is-between, below-not-between, above-not-between}
 use Rattle.literal.specs.Literals.{is_literal}
+use Rattle.literal.specs.Words.{count_of}
 use Rattle.clause_list.specs.ClauseList.{cut, clauses_of, words_of, is_count, well_cut, is_list}
 
 -- any number of rounds that is not below the words cuts the same clauses
@@ -71,6 +72,32 @@ well-cut-cons v count ws =
     let n = nat_abs count in
     ap (λ (b : Bool). is_count (length ws) count && (all (is_literal v) (take n ws) && b))
     (well-cut-rounds v (length ws) (length (drop n ws)) (drop n ws) (omega (arith, length-drop n ws)) (le_refl (length (drop n ws))))
+
+-- a list by the number that its first word counts
+module _ (v : ℕ) {head : ℤ} {n : ℕ} {ws rest : List ℤ} (r : rest ≡ head ∷ ws) (e : n ≡ count_of head) where
+  counted : (w : ℤ) → (n ≡ count_of w) → is_count (length ws) w ≡ between 1 (length ws) n
+  counted (pos k) p = rw p
+  counted (negsuc k) p = rw p
+
+  cut-front : well_cut_words v rest
+      ≡ (between 1 (length ws) n && (all (is_literal v) (take (nat_abs head) ws) && well_cut_words v (drop (nat_abs head) ws)))
+  cut-front = ap (well_cut_words v) r ∙ well-cut-cons v head ws ∙ rw (counted head e)
+
+  pub cut-low : n < 1 → well_cut_words v rest ≡ false
+  cut-low h = cut-front ∙ and-not-left (between 1 (length ws) n) _ (below-not-between 1 (length ws) n h)
+
+  pub cut-past : length ws < n → well_cut_words v rest ≡ false
+  cut-past h = cut-front ∙ and-not-left (between 1 (length ws) n) _ (above-not-between 1 (length ws) n h)
+
+  within : (w : ℤ) → n ≡ count_of w → 1 ≤ n → nat_abs w ≡ n
+  within (pos k) p h = sym p
+  within (negsuc k) p h = absurd (omega arith)
+
+  pub cut-clause : 1 ≤ n → n ≤ length ws → well_cut_words v rest ≡ (all (is_literal v) (take n ws) && well_cut_words v (drop n ws))
+  cut-clause l h =
+      cut-front
+      ∙ and-rest (between 1 (length ws) n) _ (is-between 1 (length ws) n l h)
+      ∙ ap (λ (k : ℕ). all (is_literal v) (take k ws) && well_cut_words v (drop k ws)) (within head e l)
 
 -- a count that passes
 pub count_word : (left : ℕ) (count : ℤ) → is_count left count ≡ true → count ≡ pos (nat_abs count)

@@ -1,3 +1,2 @@
 pub mod ClauseList
 pub mod Marked
-pub mod Private

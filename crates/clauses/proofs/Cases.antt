@@ -9,7 +9,8 @@ use Rattle.clause_list.specs.ClauseList.{words_of}
 use Rattle.sheet_rules.specs.Blocks.{sheet_of}
 use Rattle.sheet_rules.specs.Tables.{table, shape_step, free_step, visits_step}
 use Rattle.sheet_rules.specs.Reading.{counted, scoped, declared, nodes_fine, shaped, rooted, walkable, reading}
-use Rattle.relational.specs.Trees.{symbol_of, tree_step, closure}
+use Rattle.relational.specs.Trees.{symbol_of, tree_step}
+use Rattle.relational.specs.declared.Unary.TheVariants.{Closure as closure}
 use Rattle.relational.specs.Cells.{first_member, first_cell}
 use Rattle.relational.specs.Matrices.{Matrix, rounds}
 use Rattle.clauses_rules.specs.Builder as b

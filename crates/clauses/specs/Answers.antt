@@ -1,11 +1,11 @@
 -- What `count` and `write` answer, and what `write` leaves (document 01, "Clauses" and "Answers that decline").
-use Rattle.std.specs.Prelude.{cond, List, ◌++◌, ℕ, leb, ℤ, length, drop}
+use Rattle.std.specs.Prelude.{cond, List, ◌++◌, ℕ, leb, ℤ, length, drop, Result, Ok, Err}
+use Rattle.refusal.specs.declared.Refusal.{Refusal}
 use Rattle.refusal.specs.Refusals.{number_of}
 use Rattle.sheet_rules.specs.Blocks.{Sheet, sheet_of}
 use Rattle.sheet_rules.specs.Reading as sheets
 use Rattle.sheet_rules.specs.Reading.{reading}
-use Rattle.clauses.specs.declared.answer.Count.{Count}
-use Rattle.clauses.specs.declared.answer.Count.TheVariants.{Fits, Refused}
+use Rattle.clauses.specs.declared.answer.Size.{Size}
 use Rattle.clauses_rules.specs.Whole.{words, variable_total, clause_total, word_total}
 
 -- an answer in the paper's terms: "the number of variables, of clauses and of words", or the number of a refusal
@@ -13,9 +13,9 @@ pub data Answer : Type 0 where
   fits : ℕ → ℕ → ℕ → Answer
   refused : ℕ → Answer
 
-abbrev pub answer_of : Count → Answer
-answer_of (Fits size) = fits size.variables size.clauses size.words
-answer_of (Refused r) = refused (number_of r)
+abbrev pub answer_of : Result Size Refusal → Answer
+answer_of (Ok size) = fits size.variables size.clauses size.words
+answer_of (Err r) = refused (number_of r)
 
 -- "counting 1 to 10": those of reading, then 10 SIZE, "more than 16,000 variables"
 abbrev pub count_after : sheets.Answer → Sheet → Answer

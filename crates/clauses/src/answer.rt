@@ -1,15 +1,7 @@
-// What counting and writing answer.
-use refusal::Refusal;
-
+// What counting and writing answer, where they do not refuse.
 #[derive(Clone, Copy)]
 pub struct Size {
     pub variables: usize,
     pub clauses: usize,
     pub words: usize,
-}
-
-#[derive(Clone, Copy)]
-pub enum Count {
-    Fits(Size),
-    Refused(Refusal),
 }

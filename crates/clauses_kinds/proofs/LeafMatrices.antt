@@ -7,15 +7,16 @@ use Prim.Native.Nat.{ℕ, ◌+◌, ◌*◌, ◌/◌, ◌%◌, ◌≤◌, ◌<◌
 use native.Mathlib.Nat.{le_refl, one-mul, div-add-mod'}
 use native.Mathlib.Omega.{arith}
 use lib.Dec.{eqb}
-use lib.IntN.{ℤ, pos, negsuc}
+use lib.IntN.{ℤ, negsuc}
 use lib.ListN.{length, get_or, take, get_or-eq_default}
 use lib.Seq.{get_or-take}
-use Rattle.literal.specs.Literals.{Literal, word_of}
+use Rattle.literal.specs.Literals.{Literal}
 use Rattle.literal.specs.Words.{literal_of}
 use Rattle.sheet_rules.specs.Blocks.{Sheet, scope, is_bounded, relation_count}
 use Rattle.sheet_rules.specs.Blocks as blocks
 use Rattle.sheet_rules.specs.Facts.{Facts}
-use Rattle.relational.specs.Trees.{Leaf, relation, atoms, identity}
+use Rattle.relational.specs.declared.Leaf.{Leaf}
+use Rattle.relational.specs.declared.Leaf.TheVariants.{Relation as relation, Atoms as atoms, Identity as identity}
 use Rattle.relational.specs.Cells.{first_member, row_count, row_length, first_cell}
 use Rattle.relational.specs.Meaning.{Environment}
 use Rattle.relational.specs.Matrices.{from, upto, Place, places, Matrix, set_of, relation_of, leaf_matrix}
@@ -26,35 +27,39 @@ use Rattle.cells.proofs.Members.{bounded-upto}
 use Rattle.clauses_rules.specs.Translation.{constant, absent, literal_at}
 use Rattle.clauses_emission.specs.Emission.{Inside, AllInside, literals_of}
 use Rattle.clauses_matrix.specs.declared.Literals.{Literals}
-use Rattle.clauses_matrix.specs.Matrices.{matrix_of, cells_of, Operand}
-use Rattle.clauses_emission.proofs.Ranges.{get_d_any, literal-of, inside-absent}
-use Rattle.clauses_kinds.specs.Leaves.{Filled, cell_from, LeafIs, Constants, Diagonal}
+use Rattle.clauses_matrix.specs.Matrices.{matrix_of, Cells, cells_of, Operand}
+use Rattle.clauses_emission.proofs.Ranges.{literal-of, inside-absent}
+use Rattle.clauses_kinds.specs.Leaves.{Filled, LeafIs, Constants, Diagonal, row_matrix}
 use Rattle.clauses_kinds.proofs.Lists.{filled_is, filled-cells, filled-fine}
-
-pub constant-word : (b : Bool) {w : ℤ} → w ≡ word_of (constant b) → literal_of w ≡ constant b
-constant-word true e = ap literal_of e
-constant-word false e = ap literal_of e
 
 constant-inside : (b : Bool) (n : ℕ) → 2 ≤ n → Inside n (constant b)
 constant-inside true n h = record { low = omega arith; high = omega arith }
 constant-inside false n h = record { low = omega arith; high = omega arith }
 
+-- the literals of the cells, from the first on
+abbrev pub cell_from : List ℤ → ℕ → ℕ → Literal
+cell_from given first k = get_or (literals_of given) (first + k) absent
+
+-- a row of cells
+pub row-fine : {n m : ℕ} {ws : List ℤ} → n ≤ 8 → Cells n m ws → Operand m (row_matrix n ws)
+row-fine {n} few h =
+    record {
+      arity_low = omega arith;
+      arity_high = omega arith;
+      set = λ e. refl;
+      rows = omega arith;
+      columns = few;
+      cells = rw (one-mul n) h;
+    }
+
 -- all cells are constants
 module _ (n : ℕ) (f : ℕ → Bool) (ws : List ℤ) where
   pub set-from : n ≤ 8 → Filled (λ i. constant (f i)) n ws
-      → Constants (set_of n (map (λ i. constant (f i)) (upto n))) (record { arity = 1; rows = 1; columns = n; cells = ws })
+      → Constants (set_of n (map (λ i. constant (f i)) (upto n))) (row_matrix n ws)
   set-from l h =
       record {
         is = rw (one-mul n, filled-cells (λ i. constant (f i)) h (omega arith));
-        fine = λ k two.
-            record {
-              arity_low = omega arith;
-              arity_high = omega arith;
-              set = λ e. refl;
-              rows = omega arith;
-              columns = l;
-              cells = rw (one-mul n) (filled-fine (λ i. constant (f i)) h (omega arith) two λ i p. constant-inside (f i) k two);
-            };
+        fine = λ k two. row-fine l (filled-fine (λ i. constant (f i)) h (omega arith) two λ i p. constant-inside (f i) k two);
       }
 
 -- matrices are equal by their sizes and cells
@@ -141,16 +146,11 @@ constant-leaf {given = given} h e =
       fine = λ n i. h.fine n (inside-two n (literals_of given) i);
     }
 
--- the word that code reads, in its array
-pub read_word : (p : Literals) (i : ℕ) → i < 64 → length p.cells ≡ 64 → {w : ℤ} → w ≡ get_or p.cells i (pos 0)
-    → w ≡ get_or p.cells i (negsuc 0)
-read_word p i l e q = q ∙ get_d_any p.cells i (pos 0) (negsuc 0) (omega (arith, e))
-
 -- the atoms of a bounded sort: its membership cells
 pub members-from : {sheet : Sheet} (given : List ℤ) (k : ℕ) (env : Environment) {n first : ℕ} (ws : List ℤ)
     → (n ≡ scope sheet k) × (n ≤ 8)
     → first ≡ first_member sheet k → is_bounded sheet k ≡ true → Filled (cell_from given first) n ws
-    → LeafIs sheet given atoms k env (record { arity = 1; rows = 1; columns = n; cells = ws })
+    → LeafIs sheet given atoms k env (row_matrix n ws)
 members-from {sheet} given k env {n} {first} ws en ef b h =
     let lit : ℕ → Literal = literal_at sheet (literals_of given) in
     record {
@@ -159,17 +159,9 @@ members-from {sheet} given k env {n} {first} ws en ef b h =
           ∙ bounded-upto sheet lit constant k env en.0 ef b;
       room = h.room;
       fine = λ m inside.
-          record {
-            arity_low = omega arith;
-            arity_high = omega arith;
-            set = λ e. refl;
-            rows = omega arith;
-            columns = en.1;
-            cells =
-                rw (one-mul n)
-                (filled-fine (cell_from given first) h (omega (arith, en.1)) (inside-two m (literals_of given) inside) λ
-                i p. inside (first + i));
-          };
+          row-fine en.1
+          (filled-fine (cell_from given first) h (omega (arith, en.1)) (inside-two m (literals_of given) inside) λ
+          i p. inside (first + i));
     }
 
 -- the identity leaf, from the atoms

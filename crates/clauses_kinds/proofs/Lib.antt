@@ -1,2 +1,3 @@
+pub mod Sources
 mod Lists
-mod LeafMatrices
+pub mod LeafMatrices

@@ -1,13 +1,13 @@
 -- The matrices of leaves.
 -- No public contract reaches this file: nothing here needs belief.
-use Rattle.std.specs.Prelude.{◌≡◌, false, cond, List, map, ℕ, ◌+◌, ◌≤◌, ◌<◌, eqb, ℤ, pos, negsuc, length, get_or}
+use Rattle.std.specs.Prelude.{◌≡◌, false, cond, List, map, ℕ, ◌≤◌, ◌<◌, eqb, ℤ, pos, negsuc, length, get_or}
 use Rattle.literal.specs.Literals.{Literal}
 use Rattle.literal.specs.Words.{literal_of}
 use Rattle.sheet_rules.specs.Blocks.{Sheet}
-use Rattle.relational.specs.Trees.{Leaf}
+use Rattle.relational.specs.declared.Leaf.{Leaf}
 use Rattle.relational.specs.Meaning.{Environment}
 use Rattle.relational.specs.Matrices.{upto, Place, places, Matrix, set_of, relation_of, leaf_matrix}
-use Rattle.clauses_rules.specs.Translation.{constant, absent, literal_at}
+use Rattle.clauses_rules.specs.Translation.{constant, literal_at}
 use Rattle.clauses_emission.specs.Emission.{AllInside, literals_of, Bounded}
 use Rattle.clauses_matrix.specs.declared.Literals.{Literals}
 use Rattle.clauses_matrix.specs.declared.MadeMatrix.{MadeMatrix}
@@ -44,6 +44,6 @@ pub record Filled (f : ℕ → Literal) (k : ℕ) (ws : List ℤ) : Type 0 where
   pub done : (i : ℕ) → i < k → literal_of (get_or ws i (pos 0)) ≡ f i
   pub rest : (i : ℕ) → k ≤ i → i < 64 → get_or ws i (pos 0) ≡ negsuc 0
 
--- the literals of the cells, from the first on
-abbrev pub cell_from : List ℤ → ℕ → ℕ → Literal
-cell_from given first k = get_or (literals_of given) (first + k) absent
+-- one row of n cells
+abbrev pub row_matrix : ℕ → List ℤ → Literals
+row_matrix n ws = record { arity = 1; rows = 1; columns = n; cells = ws }

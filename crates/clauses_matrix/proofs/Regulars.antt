@@ -3,9 +3,20 @@ use mathlib.Core.Path.{◌≡◌, refl, ap}
 use mathlib.Core.List.{List, [], ◌∷◌}
 use Prim.Native.Nat.{ℕ, zero, suc}
 use Rattle.literal.specs.Literals.{Literal, opposite}
-use Rattle.relational.specs.Trees.{Binary, union, intersection, difference, join, product, Unary, inverse, closure}
-use Rattle.relational.specs.Trees.{Comparison, equal, within, Test, some, none, lone}
-use Rattle.relational.specs.Trees.{Connective, conjunction, disjunction, implication, equivalence, Quantifier, for-all, for_some}
+use Rattle.relational.specs.declared.Binary.{Binary}
+use Rattle.relational.specs.declared.Unary.{Unary}
+use Rattle.relational.specs.declared.Comparison.{Comparison}
+use Rattle.relational.specs.declared.Test.{Test}
+use Rattle.relational.specs.declared.Connective.{Connective}
+use Rattle.relational.specs.declared.Quantifier.{Quantifier}
+use Rattle.relational.specs.declared.Binary.TheVariants.{Union as union, Intersection as intersection}
+use Rattle.relational.specs.declared.Binary.TheVariants.{Difference as difference, Join as join, Product as product}
+use Rattle.relational.specs.declared.Unary.TheVariants.{Inverse as inverse, Closure as closure}
+use Rattle.relational.specs.declared.Comparison.TheVariants.{Equal as equal, Within as within}
+use Rattle.relational.specs.declared.Test.TheVariants.{Some as some, None as none, Lone as lone}
+use Rattle.relational.specs.declared.Connective.TheVariants.{Conjunction as conjunction, Disjunction as disjunction}
+use Rattle.relational.specs.declared.Connective.TheVariants.{Implication as implication, Equivalence as equivalence}
+use Rattle.relational.specs.declared.Quantifier.TheVariants.{All as for-all, Some as for_some}
 use Rattle.relational.specs.Matrices.{Matrix, rounds, pairs, same_size, join_size, join_places, product_size, matched, middles, crossed}
 use Rattle.clauses_rules.specs.Builder.{Built, return, each}
 use Rattle.clauses_rules.specs.Gates.{or, and}

@@ -1,6 +1,7 @@
 // Expressions, operator by operator: cells in row order (document 01, "Clauses", the last list).
 ghost use Rattle.std.specs.Prelude.{true, List, ◌≡◌, ◌*◌, ℤ, length};
-ghost use Rattle.relational.specs.Trees.{join, product, inverse, closure};
+ghost use Rattle.relational.specs.declared.Binary.TheVariants.{Join as join, Product as product};
+ghost use Rattle.relational.specs.declared.Unary.TheVariants.{Inverse as inverse, Closure as closure};
 ghost use Rattle.relational.specs.Matrices as matrices;
 ghost use Rattle.clauses_rules.specs.Translation.{join_cells, translate_binary, translate_unary, round_of};
 ghost use Rattle.clauses_emission.specs.Emission.{literals_of, Bounded, EmitsLiteral};

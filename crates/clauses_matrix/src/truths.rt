@@ -1,5 +1,5 @@
 // Comparisons, and tests of an expression (document 01, "Clauses", the last list).
-ghost use Rattle.relational.specs.Trees.{some, none, lone};
+ghost use Rattle.relational.specs.declared.Test.TheVariants.{Some as some, None as none, Lone as lone};
 ghost use Rattle.clauses_rules.specs.Translation.{translate_test};
 ghost use Rattle.clauses_emission.specs.Emission.{Bounded, EmitsLiteral};
 ghost use Rattle.clauses_matrix.specs.Matrices.{matrix_of, Operand, EmitsTest, compared};

@@ -3,7 +3,12 @@ use mathlib.Core.Bool.{Bool, not}
 use mathlib.Core.List.{List, ◌++◌, map}
 use lib.ListN.{length}
 use Rattle.literal.specs.Literals.{Literal, opposite}
-use Rattle.relational.specs.Trees.{intersection, within, Test, some, none, lone, Quantifier, for-all, for_some}
+use Rattle.relational.specs.declared.Test.{Test}
+use Rattle.relational.specs.declared.Quantifier.{Quantifier}
+use Rattle.relational.specs.declared.Binary.TheVariants.{Intersection as intersection}
+use Rattle.relational.specs.declared.Comparison.TheVariants.{Within as within}
+use Rattle.relational.specs.declared.Test.TheVariants.{Some as some, None as none, Lone as lone}
+use Rattle.relational.specs.declared.Quantifier.TheVariants.{All as for-all, Some as for_some}
 use Rattle.relational.specs.Matrices.{pairs, Matrix}
 use Rattle.relational.specs.Evaluation.{value_binary, truth_test, truth_quantifier}
 use Rattle.relational.proofs.Counts.{not_both, some-count, none-count, pairs-count}

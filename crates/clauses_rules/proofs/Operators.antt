@@ -8,8 +8,16 @@ use lib.ListN.{length, get_or}
 use Rattle.prelude.specs.Tests.{all, any}
 use Rattle.prelude.proofs.Laws.{all_map}
 use Rattle.literal.specs.Literals.{Literal}
-use Rattle.relational.specs.Trees.{Binary, union, intersection, difference, join, product, Unary, inverse, closure, Comparison, equal}
-use Rattle.relational.specs.Trees.{within, Connective, conjunction, disjunction, implication, equivalence}
+use Rattle.relational.specs.declared.Binary.{Binary}
+use Rattle.relational.specs.declared.Unary.{Unary}
+use Rattle.relational.specs.declared.Comparison.{Comparison}
+use Rattle.relational.specs.declared.Connective.{Connective}
+use Rattle.relational.specs.declared.Binary.TheVariants.{Union as union, Intersection as intersection}
+use Rattle.relational.specs.declared.Binary.TheVariants.{Difference as difference, Join as join, Product as product}
+use Rattle.relational.specs.declared.Unary.TheVariants.{Inverse as inverse, Closure as closure}
+use Rattle.relational.specs.declared.Comparison.TheVariants.{Equal as equal, Within as within}
+use Rattle.relational.specs.declared.Connective.TheVariants.{Conjunction as conjunction, Disjunction as disjunction}
+use Rattle.relational.specs.declared.Connective.TheVariants.{Implication as implication, Equivalence as equivalence}
 use Rattle.relational.specs.Matrices.{upto, Place, places, rounds, Matrix, set_of, relation_of, size, same_size, join_columns, join_places}
 use Rattle.relational.specs.Matrices.{join_size, product_places, product_size, matched, middles, crossed, inverted}
 use Rattle.relational.specs.Evaluation as e

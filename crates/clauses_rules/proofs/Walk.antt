@@ -7,9 +7,12 @@ use lib.Dec.{eqb}
 use lib.ListN.{length, get_or}
 use Rattle.literal.specs.Literals.{Literal, opposite}
 use Rattle.sheet_rules.specs.Blocks.{Sheet, byte, scope, is_bounded, sort_of}
-use Rattle.relational.specs.Trees.{Leaf, relation, variable, atoms, identity, intersection, Expression, leaf, binary}
-use Rattle.relational.specs.Trees.{unary, comprehension, Formula}
-use Rattle.relational.specs.Trees.{comparison, test, negation, connective, quantified, Tree, expression, formula, broken}
+use Rattle.relational.specs.Trees.{Expression, leaf, binary, unary, comprehension, Formula, comparison, test}
+use Rattle.relational.specs.Trees.{negation, connective, quantified, Tree, expression, formula, broken}
+use Rattle.relational.specs.declared.Leaf.{Leaf}
+use Rattle.relational.specs.declared.Leaf.TheVariants.{Relation as relation, Variable as variable, Atoms as atoms}
+use Rattle.relational.specs.declared.Leaf.TheVariants.{Identity as identity}
+use Rattle.relational.specs.declared.Binary.TheVariants.{Intersection as intersection}
 use Rattle.relational.specs.Cells.{member_cell, first_cell, cells_of}
 use Rattle.relational.specs.Meaning.{Environment, bind}
 use Rattle.relational.specs.Matrices.{from, upto, places, Place, Matrix, member, leaf_matrix}

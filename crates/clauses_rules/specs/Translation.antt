@@ -4,11 +4,23 @@
 use Rattle.std.specs.Prelude.{Bool, true, false, List, [], ◌∷◌, ℕ, zero, suc, get_or}
 use Rattle.literal.specs.Literals.{Literal, positive, negative, opposite}
 use Rattle.sheet_rules.specs.Blocks.{Sheet, scope, sort_of}
-use Rattle.relational.specs.Trees.{atoms, Binary, union, intersection, difference, join, product, Unary, inverse}
-use Rattle.relational.specs.Trees.{closure, Comparison, equal, within, Test, some, none, lone, Connective, conjunction}
-use Rattle.relational.specs.Trees.{disjunction, implication, equivalence, Quantifier, for-all, for_some, Expression}
-use Rattle.relational.specs.Trees.{leaf, binary, unary, comprehension, Formula, comparison, test, negation, connective}
-use Rattle.relational.specs.Trees.{quantified, Tree, expression, formula, broken}
+use Rattle.relational.specs.Trees.{Expression, leaf, binary, unary, comprehension, Formula, comparison, test}
+use Rattle.relational.specs.Trees.{negation, connective, quantified, Tree, expression, formula, broken}
+use Rattle.relational.specs.declared.Binary.{Binary}
+use Rattle.relational.specs.declared.Unary.{Unary}
+use Rattle.relational.specs.declared.Comparison.{Comparison}
+use Rattle.relational.specs.declared.Test.{Test}
+use Rattle.relational.specs.declared.Connective.{Connective}
+use Rattle.relational.specs.declared.Quantifier.{Quantifier}
+use Rattle.relational.specs.declared.Leaf.TheVariants.{Atoms as atoms}
+use Rattle.relational.specs.declared.Binary.TheVariants.{Union as union, Intersection as intersection}
+use Rattle.relational.specs.declared.Binary.TheVariants.{Difference as difference, Join as join, Product as product}
+use Rattle.relational.specs.declared.Unary.TheVariants.{Inverse as inverse, Closure as closure}
+use Rattle.relational.specs.declared.Comparison.TheVariants.{Equal as equal, Within as within}
+use Rattle.relational.specs.declared.Test.TheVariants.{Some as some, None as none, Lone as lone}
+use Rattle.relational.specs.declared.Connective.TheVariants.{Conjunction as conjunction, Disjunction as disjunction}
+use Rattle.relational.specs.declared.Connective.TheVariants.{Implication as implication, Equivalence as equivalence}
+use Rattle.relational.specs.declared.Quantifier.TheVariants.{All as for-all, Some as for_some}
 use Rattle.relational.specs.Meaning.{Environment, bind}
 use Rattle.relational.specs.Matrices.{upto, rounds, pairs, Matrix, set_of, leaf_matrix, same_size, join_places, join_size}
 use Rattle.relational.specs.Matrices.{product_size, matched, middles, crossed, inverted}

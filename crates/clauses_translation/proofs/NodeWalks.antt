@@ -5,9 +5,19 @@ use Prim.Native.Nat.{ℕ, ◌≤◌}
 use lib.IntN.{ℤ}
 use Rattle.literal.specs.Literals.{Literal, opposite}
 use Rattle.sheet_rules.specs.Blocks.{Sheet, scope, sort_of}
-use Rattle.relational.specs.Trees.{Leaf, Binary, intersection, Unary, Comparison, Test, Connective, Quantifier}
-use Rattle.relational.specs.Trees.{leaf-symbol, binary-symbol, unary-symbol}
-use Rattle.relational.specs.Trees.{comparison-symbol, test-symbol, connective-symbol, quantifier-symbol, symbol_of}
+use Rattle.relational.specs.Trees.{symbol_of}
+use Rattle.relational.specs.declared.Leaf.{Leaf}
+use Rattle.relational.specs.declared.Binary.{Binary}
+use Rattle.relational.specs.declared.Unary.{Unary}
+use Rattle.relational.specs.declared.Comparison.{Comparison}
+use Rattle.relational.specs.declared.Test.{Test}
+use Rattle.relational.specs.declared.Connective.{Connective}
+use Rattle.relational.specs.declared.Quantifier.{Quantifier}
+use Rattle.relational.specs.declared.Binary.TheVariants.{Intersection as intersection}
+use Rattle.relational.specs.declared.Symbol.TheVariants.{Leaf as leaf-symbol, Binary as binary-symbol}
+use Rattle.relational.specs.declared.Symbol.TheVariants.{Unary as unary-symbol, Comparison as comparison-symbol}
+use Rattle.relational.specs.declared.Symbol.TheVariants.{Test as test-symbol, Connective as connective-symbol}
+use Rattle.relational.specs.declared.Symbol.TheVariants.{Quantifier as quantifier-symbol}
 use Rattle.relational.specs.Matrices.{set_of}
 use Rattle.nodes.specs.declared.forms.Node.{Node}
 use Rattle.nodes.specs.declared.forms.ExpressionForm.TheVariants as form

@@ -3,8 +3,9 @@ use mathlib.Core.List.{List}
 use Prim.Native.Nat.{ℕ}
 use Rattle.literal.specs.Literals.{Literal, opposite}
 use Rattle.sheet_rules.specs.Blocks.{Sheet}
-use Rattle.relational.specs.Trees.{intersection, Expression, leaf, binary, unary, comprehension}
-use Rattle.relational.specs.Trees.{Formula, comparison, test, negation, connective, quantified}
+use Rattle.relational.specs.Trees.{Expression, leaf, binary, unary, comprehension, Formula, comparison, test}
+use Rattle.relational.specs.Trees.{negation, connective, quantified}
+use Rattle.relational.specs.declared.Binary.TheVariants.{Intersection as intersection}
 use Rattle.relational.specs.Meaning.{Environment, bind}
 use Rattle.clauses_rules.specs.Builder.{◌>>=◌}
 use Rattle.clauses_rules.specs.Translation.{translate_binary, translate_unary, translate_comparison, translate_test, translate_connective}

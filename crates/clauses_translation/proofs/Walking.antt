@@ -6,7 +6,8 @@ use lib.IntN.{ℤ}
 use lib.ListN.{length}
 use Rattle.sheet_rules.specs.declared.Layout.{Layout}
 use Rattle.sheet_rules.specs.Blocks.{Sheet}
-use Rattle.relational.specs.Trees.{Symbol, Tree, symbol_of}
+use Rattle.relational.specs.Trees.{Tree, symbol_of}
+use Rattle.relational.specs.declared.Symbol.{Symbol}
 use Rattle.nodes.specs.declared.forms.Node.{Node}
 use Rattle.nodes.specs.Nodes.{tree_at, IsTree}
 use Rattle.nodes.proofs.Views.{Reached, TwoAt, OneAt}

@@ -8,8 +8,7 @@ ghost use Rattle.dimacs.specs.Text.{text_of};
 ghost use Rattle.cnf_text.specs.Private.{PrintsText};
 ghost use Rattle.cnf_text.specs.Printed.{clause_text, list_left};
 
-use clauses::answer::{Count, Size};
-use dimacs::answer::TextSize;
+use clauses::answer::Size;
 use text::put_end;
 
 // The text of a list's first words, which are a list of clauses. It is lent as many bytes as it has.
@@ -23,11 +22,11 @@ fn put_clauses(text: &mut [u8], list: &[i32], size: Size) -> usize
     let words = &list[..w];
     let v = size.variables as u32;
     let sized = dimacs::size(words, v);
-    let TextSize::Bytes(n) = sized else {
+    let Ok(n) = sized else {
         return 0;
     };
     // a slice of the text's length is filled, and the call answers n again
-    dimacs::write(words, v, &mut text[..n]);
+    let _ = dimacs::write(words, v, &mut text[..n]);
     n
 }
 
@@ -42,7 +41,7 @@ pub fn clause_text(input: &[u8], list: &mut [i32; 262144], text: &mut [u8; 18350
     }
     let written = clauses::write(input, list);
     match written {
-        Count::Refused(r) => put_end(text, b"refused ", refusal::number(r) as u64),
-        Count::Fits(size) => put_clauses(text, list, size),
+        Err(r) => put_end(text, b"refused ", refusal::number(r) as u64),
+        Ok(size) => put_clauses(text, list, size),
     }
 }

@@ -1,18 +1,17 @@
 -- What `size` and `write` answer, and what `write` leaves (document 01, "Answers that decline": clause text takes 12 and 13; document 02, Change 4).
-use Rattle.std.specs.Prelude.{◌&&◌, cond, List, ◌++◌, ℕ, leb, ℤ, length, drop}
+use Rattle.std.specs.Prelude.{◌&&◌, cond, List, ◌++◌, ℕ, leb, ℤ, length, drop, Result, Ok, Err}
+use Rattle.refusal.specs.declared.Refusal.{Refusal}
 use Rattle.refusal.specs.Refusals.{number_of}
 use Rattle.clause_list.specs.ClauseList.{is_list}
 use Rattle.dimacs.specs.Text.{text_of}
-use Rattle.dimacs.specs.declared.answer.TextSize.{TextSize}
-use Rattle.dimacs.specs.declared.answer.TextSize.TheVariants.{Bytes, Refused}
 
 -- an answer in the paper's terms: a number of bytes, or the number of a refusal
 pub data Answer : Type 0 where
   bytes refused : ℕ → Answer
 
-abbrev pub answer_of : TextSize → Answer
-answer_of (Bytes n) = bytes n
-answer_of (Refused r) = refused (number_of r)
+abbrev pub answer_of : Result ℕ Refusal → Answer
+answer_of (Ok n) = bytes n
+answer_of (Err r) = refused (number_of r)
 
 -- "The sizing call now gives the text's exact length"; it takes 12 only
 unfoldable pub size_answer : ℕ → List ℤ → Answer

@@ -8,13 +8,11 @@ ghost use Rattle.dimacs.specs.Text.{literal_text, clause_line, clause_lines, hea
 ghost use Rattle.dimacs.specs.Answers.{answer_of, size_answer, write_answer, text_after};
 ghost use Rattle.dimacs.specs.Private.{Proper, Listed};
 
-use answer::TextSize;
 use measure::measure;
 use refusal::Refusal;
 use text::{put_bytes, put_decimal};
 use walk::clause_end;
 
-pub mod answer;
 mod measure;
 mod walk;
 
@@ -83,29 +81,29 @@ fn put_header(text: &mut [u8], v: usize, clauses: usize) -> usize
 }
 
 // The length of the text of a list with v variables.
-pub fn size(list: &[i32], v: u32) -> TextSize
+pub fn size(list: &[i32], v: u32) -> Result<usize, Refusal>
     ensures { answer_of result ≡ size_answer v list.now }
 {
     if !clause_list::is_list(list, v) {
-        return TextSize::Refused(Refusal::List);
+        return Err(Refusal::List);
     }
     let measured = measure(list, v);
-    TextSize::Bytes(measured.bytes)
+    Ok(measured.bytes)
 }
 
 // Writes the text of a list with v variables, and answers its bytes.
-pub fn write(list: &[i32], v: u32, text: &mut [u8]) -> TextSize
+pub fn write(list: &[i32], v: u32, text: &mut [u8]) -> Result<usize, Refusal>
     ensures result_value { answer_of result ≡ write_answer v list.now text.old }
     ensures text_after { text.new ≡ text_after v list.now text.old }
 {
     if !clause_list::is_list(list, v) {
-        return TextSize::Refused(Refusal::List);
+        return Err(Refusal::List);
     }
     let measured = measure(list, v);
     if text.len() < measured.bytes {
-        return TextSize::Refused(Refusal::Short);
+        return Err(Refusal::Short);
     }
     let start = put_header(text, v as usize, measured.clauses);
     let end = put_clauses(text, start, list);
-    TextSize::Bytes(end)
+    Ok(end)
 }

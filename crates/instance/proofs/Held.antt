@@ -64,10 +64,6 @@ pub ensured : (sheet instance : List ℕ) {answer : Answer} → answer ≡ check
     → CheckAnswers sheet instance answer × (answer ≡ check_answer sheet instance)
 ensured sheet instance e = (subst (CheckAnswers sheet instance) (sym e) (answers sheet instance), e)
 
-pub declined : (sheet instance : List ℕ) (n : ℕ) → reading sheet ≡ sheets.refused n → refused n ≡ check_answer sheet instance
-unfolding check_answer
-declined sheet instance n e = ap (λ a. check_after a (sheet_of sheet) instance) (sym e)
-
 -- ---- of an accepted sheet: the two tests of 11, and then the evaluation
 module _ (sheet instance : List ℕ) {layout : Layout} (taken : reading sheet ≡ sheets.accepted layout) where
   held : held_answer (sheet_of sheet) instance ≡ check_answer sheet instance

@@ -8,18 +8,14 @@ ghost use Rattle.sheet_rules.specs.Reading.{accepted, reading};
 ghost use Rattle.instance.specs.Answers.{CheckAnswers, answer_of};
 ghost use Rattle.instance.specs.Held.{check_answer};
 
-use answer::Check;
 use cells::{Cells, Sheet, are_bits};
 use instance_evaluation::Instance;
 use refusal::Refusal;
-use sheet::answer::Reading;
 use sheet::read;
 use sheet_rules::Layout;
 
-pub mod answer; // answer.rt: yes, no or a refusal
-
 // The check over an accepted sheet.
-fn check_accepted(sheet: &[u8], layout: Layout, instance: &[u8]) -> Check
+fn check_accepted(sheet: &[u8], layout: Layout, instance: &[u8]) -> Result<bool, Refusal>
     requires { reading sheet.now ≡ accepted layout }
     ensures { answer_of result ≡ check_answer sheet.now instance.now }
 {
@@ -29,24 +25,21 @@ fn check_accepted(sheet: &[u8], layout: Layout, instance: &[u8]) -> Check
     };
     let Cells { count, starts } = accepted.cells();
     if instance.len() != count || !are_bits(instance) {
-        return Check::Refused(Refusal::Cells);
+        return Err(Refusal::Cells);
     }
     let given = Instance {
         sheet: accepted,
         cells: instance,
         starts,
     };
-    if given.holds() { Check::Yes } else { Check::No }
+    Ok(given.holds())
 }
 
 // Whether the instance is within the scopes and satisfies marks and formula: what the answer means, and which it is.
-pub fn check(sheet: &[u8], instance: &[u8]) -> Check
+pub fn check(sheet: &[u8], instance: &[u8]) -> Result<bool, Refusal>
     ensures check_answers { CheckAnswers sheet.now instance.now (answer_of result) }
     ensures result_value { answer_of result ≡ check_answer sheet.now instance.now }
 {
-    let answer = read(sheet);
-    match answer {
-        Reading::Refused(refusal) => Check::Refused(refusal),
-        Reading::Accepted(layout) => check_accepted(sheet, layout, instance),
-    }
+    let layout = read(sheet)?;
+    check_accepted(sheet, layout, instance)
 }

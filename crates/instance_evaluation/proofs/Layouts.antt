@@ -10,7 +10,7 @@ use Rattle.sheet_rules.specs.Blocks as blocks
 use Rattle.sheet_rules.specs.Blocks.{Sheet, sheet_of, relation_count}
 use Rattle.sheet_rules.specs.Facts.{Facts}
 use Rattle.sheet_rules.proofs.Acceptance.{accepted-facts}
-use Rattle.relational.specs.Trees.{relation}
+use Rattle.relational.specs.declared.Leaf.TheVariants.{Relation as relation}
 use Rattle.relational.specs.Cells.{row_count, row_length, first_cell, cell}
 use Rattle.relational.specs.Meaning.{Environment}
 use Rattle.relational.specs.Evaluation.{value_leaf, row_cells}

@@ -2,8 +2,7 @@
 // holds.
 ghost use Rattle.std.specs.Prelude.{◌≡◌};
 ghost use Rattle.sheet_rules.specs.Blocks.{sheet_of};
-ghost use Rattle.relational.specs.Trees as trees;
-ghost use Rattle.relational.specs.Trees.{Quantifier, quantifier-symbol, symbol_of};
+ghost use Rattle.relational.specs.declared.Binary.TheVariants as binary_operator;
 ghost use Rattle.relational.specs.Meaning.{Environment};
 ghost use Rattle.relational.specs.Evaluation as spec;
 ghost use Rattle.instance_matrix.specs.Values.{Fine, Gives, matrix_of};
@@ -12,6 +11,7 @@ use super::Instance;
 use instance_matrix::Value;
 use instance_matrix::operators::binary;
 use instance_matrix::truths::quantify;
+use relational::{Binary, Quantifier};
 
 impl<'a> Instance<'a> {
     // The atoms of variable x's sort.
@@ -25,19 +25,18 @@ impl<'a> Instance<'a> {
     // Kind 12, over the set of those for which the body holds: its members.
     pub(crate) fn comprehend(&self, x: usize, row: Value) -> Value
         requires { Fine row }
-        ensures { (env : Environment) → Gives result (spec.value_binary trees.intersection
+        ensures { (env : Environment) → Gives result (spec.value_binary binary_operator.Intersection
             (spec.range (sheet_of self.now.sheet.bytes.now) self.now.cells.now x env) (matrix_of row)) }
     {
-        binary(6, self.range(x), row)
+        binary(Binary::Intersection, self.range(x), row)
     }
 
     // Kinds 40 and 41, over that set: for all, for some.
-    pub(crate) fn quantify_over(&self, kind: usize, x: usize, row: Value) -> bool
+    pub(crate) fn quantify_over(&self, operator: Quantifier, x: usize, row: Value) -> bool
         requires { Fine row }
-        ensures { (env : Environment) (o : Quantifier) → symbol_of kind ≡ quantifier-symbol o
-            → result ≡ spec.truth_quantifier o
+        ensures { (env : Environment) → result ≡ spec.truth_quantifier operator
             (spec.range (sheet_of self.now.sheet.bytes.now) self.now.cells.now x env) (matrix_of row) }
     {
-        quantify(kind, self.range(x), row)
+        quantify(operator, self.range(x), row)
     }
 }

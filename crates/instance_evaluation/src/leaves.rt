@@ -1,8 +1,7 @@
 // 2.2.1 Basic expressions, the leaves: a relation, a variable, a sort, an identity.
 ghost use Rattle.std.specs.Prelude.{◌≡◌, ◌<◌};
 ghost use Rattle.sheet_rules.specs.Blocks.{sheet_of, relation_count};
-ghost use Rattle.relational.specs.Trees as trees;
-ghost use Rattle.relational.specs.Trees.{Leaf, leaf-symbol, symbol_of};
+ghost use Rattle.relational.specs.declared.Leaf.TheVariants as leaf_operator;
 ghost use Rattle.relational.specs.Meaning.{Environment};
 ghost use Rattle.relational.specs.Evaluation.{value_leaf};
 ghost use Rattle.instance_matrix.specs.Values.{Gives};
@@ -12,13 +11,14 @@ use super::Instance;
 use instance_matrix::Value;
 use instance_matrix::basic::{given, identity, single};
 use nodes::environments::atom_at;
+use relational::Leaf;
 
 impl<'a> Instance<'a> {
     // Kind 1: the flags of a relation.
     fn relation(&self, r: usize) -> Value
         requires { r < relation_count (sheet_of self.now.sheet.bytes.now) }
         ensures { (env : Environment)
-            → Gives result (value_leaf (sheet_of self.now.sheet.bytes.now) self.now.cells.now trees.relation r env) }
+            → Gives result (value_leaf (sheet_of self.now.sheet.bytes.now) self.now.cells.now leaf_operator.Relation r env) }
     {
         let arity = self.sheet.arity(r);
         let rows = self.sheet.row_count(r);
@@ -27,16 +27,15 @@ impl<'a> Instance<'a> {
     }
 
     // Kinds 1 to 4: the value of a leaf over field a.
-    pub(crate) fn leaf(&self, env: [usize; 4], kind: usize, a: usize) -> Value
-        requires { kind ≡ 1 → a < relation_count (sheet_of self.now.sheet.bytes.now) }
-        ensures { (l : Leaf) → symbol_of kind ≡ leaf-symbol l
-            → Gives result (value_leaf (sheet_of self.now.sheet.bytes.now) self.now.cells.now l a (environment env)) }
+    pub(crate) fn leaf(&self, env: [usize; 4], leaf: Leaf, a: usize) -> Value
+        requires { leaf ≡ leaf_operator.Relation → a < relation_count (sheet_of self.now.sheet.bytes.now) }
+        ensures { Gives result (value_leaf (sheet_of self.now.sheet.bytes.now) self.now.cells.now leaf a (environment env)) }
     {
-        match kind {
-            1 => self.relation(a),
-            2 => single(self.sheet.scope_of_variable(a), atom_at(env, a)),
-            3 => self.atoms(a),
-            _ => identity(self.atoms(a)),
+        match leaf {
+            Leaf::Relation => self.relation(a),
+            Leaf::Variable => single(self.sheet.scope_of_variable(a), atom_at(env, a)),
+            Leaf::Atoms => self.atoms(a),
+            Leaf::Identity => identity(self.atoms(a)),
         }
     }
 }

@@ -1,7 +1,7 @@
 // 2.2.1 Basic expressions: the atoms of a sort, of a bounded one its members only (document 02, Change 8).
 ghost use Rattle.std.specs.Prelude.{◌≡◌, ◌<◌};
 ghost use Rattle.sheet_rules.specs.Blocks.{sheet_of};
-ghost use Rattle.relational.specs.Trees as trees;
+ghost use Rattle.relational.specs.declared.Leaf.TheVariants as leaf_operator;
 ghost use Rattle.relational.specs.Meaning.{Environment};
 ghost use Rattle.relational.specs.Evaluation as spec;
 ghost use Rattle.instance_matrix.specs.Values.{Gives};
@@ -26,7 +26,7 @@ impl<'a> Instance<'a> {
     // Kind 3: the set of a sort's atoms.
     pub(crate) fn atoms(&self, sort: usize) -> Value
         ensures { (env : Environment)
-            → Gives result (spec.value_leaf (sheet_of self.now.sheet.bytes.now) self.now.cells.now trees.atoms sort env) }
+            → Gives result (spec.value_leaf (sheet_of self.now.sheet.bytes.now) self.now.cells.now leaf_operator.Atoms sort env) }
     {
         let n = self.sheet.scope(sort);
         if self.sheet.is_bounded(sort) {

@@ -10,7 +10,8 @@ use instance_matrix::Value;
 use instance_matrix::operators::{binary, unary};
 use instance_matrix::truths::{compare, connect, test};
 use nodes::environments::bind;
-use nodes::forms::{ExpressionForm, FormulaForm, read_node};
+use nodes::forms::read_node;
+use relational::Symbol;
 
 impl<'a> Instance<'a> {
     // 2.2.1 to 2.2.5, and comprehension: the value of the expression at a node.
@@ -20,22 +21,23 @@ impl<'a> Instance<'a> {
         ensures { Gives result (value_at (sheet_of self.now.sheet.bytes.now) self.now.cells.now env at) }
     {
         let node = read_node(&self.sheet, at);
-        match node.expression {
+        match node.symbol {
             // 2.2.1 relation, variable, sort, identity
-            ExpressionForm::Leaf => self.leaf(env, node.kind, node.a),
+            Symbol::Leaf(leaf) => self.leaf(env, leaf, node.a),
             // 2.2.1 union, intersection, difference; 2.2.2 join; 2.2.3 product
-            ExpressionForm::Binary => {
+            Symbol::Binary(operator) => {
                 let p = self.expression(env, node.a);
                 let q = self.expression(env, node.b);
-                binary(node.kind, p, q)
+                binary(operator, p, q)
             }
             // 2.2.4 inverse; 2.2.5 closure
-            ExpressionForm::Unary => unary(node.kind, self.expression(env, node.a)),
+            Symbol::Unary(operator) => unary(operator, self.expression(env, node.a)),
             // 2.2.6 comprehension: a binder, as the quantifiers
-            ExpressionForm::Comprehension => {
+            Symbol::Comprehension => {
                 let row = self.bodies(env, node.b, node.a);
                 self.comprehend(node.a, row)
             }
+            _ => unreachable!(),
         }
     }
 
@@ -46,27 +48,28 @@ impl<'a> Instance<'a> {
         ensures { result ≡ truth_at (sheet_of self.now.sheet.bytes.now) self.now.cells.now env at }
     {
         let node = read_node(&self.sheet, at);
-        match node.formula {
+        match node.symbol {
             // 2.2.6 inclusion and equality
-            FormulaForm::Comparison => {
+            Symbol::Comparison(operator) => {
                 let p = self.expression(env, node.a);
                 let q = self.expression(env, node.b);
-                compare(node.kind, p, q)
+                compare(operator, p, q)
             }
             // 2.2.6 some, none, at most one
-            FormulaForm::Test => test(node.kind, self.expression(env, node.a)),
+            Symbol::Test(operator) => test(operator, self.expression(env, node.a)),
             // 2.2.6 the connectives
-            FormulaForm::Negation => !self.formula(env, node.a),
-            FormulaForm::Connective => {
+            Symbol::Negation => !self.formula(env, node.a),
+            Symbol::Connective(operator) => {
                 let p = self.formula(env, node.a);
                 let q = self.formula(env, node.b);
-                connect(node.kind, p, q)
+                connect(operator, p, q)
             }
             // 2.2.6 all and some
-            FormulaForm::Quantifier => {
+            Symbol::Quantifier(operator) => {
                 let row = self.bodies(env, node.b, node.a);
-                self.quantify_over(node.kind, node.a, row)
+                self.quantify_over(operator, node.a, row)
             }
+            _ => unreachable!(),
         }
     }
 

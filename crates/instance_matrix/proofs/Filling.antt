@@ -11,8 +11,7 @@ use lib.ListN.{length, get_or, set, take, replicate, length-set, length-replicat
 use lib.Seq.{get_or-set_same, get_or-set_other, get_or-take, length-take-le, ext_get_or}
 use Rattle.relational.specs.Matrices.{upto, Place, places, cell_at}
 use Rattle.relational.proofs.Places.{length-map-from, upto-at, length-places, places-at, square, row_below, column-below}
-use Rattle.instance_matrix.specs.declared.Value.{Value}
-use Rattle.instance_matrix.specs.Values.{matrix_of, Fine}
+use Rattle.instance_matrix.specs.Values.{Value, matrix_of, Fine}
 
 pub small-index : (i columns j : ℕ) → i < 8 → columns ≤ 8 → j < columns → i * columns + j < 64
 small-index i columns j h g l = omega (arith, mul-le-mul_right columns h)
@@ -59,10 +58,27 @@ module _ (cells : List Bool) (f : ℕ → Bool) (n : ℕ) (u : Filled cells f n)
   pub filled-upto : (g : ℕ → Bool) → ((k : ℕ) → k < n → f k ≡ g k) → take n cells ≡ map g (upto n)
   filled-upto g h = filled-list (map g (upto n)) (length-map-from g 0 n) (λ k l. h k l ∙ sym (upto-at g false n k l))
 
-pub filled-places : (cells : List Bool) (r c : ℕ) (g : Place → Bool) → Filled cells (λ k. g (k / c, k % c)) (r * c) → r * c ≤ 64
+-- ---- filled place by place
+pub record ByPlace (cells : List Bool) (g : Place → Bool) (r c : ℕ) : Type 0 where
+  pub long : length cells ≡ 64
+  pub each : (i j : ℕ) → i < r → j < c → get_or cells (i * c + j) false ≡ g (i, j)
+  pub rest : (k : ℕ) → r * c ≤ k → get_or cells k false ≡ false
+
+pub filled-places : (cells : List Bool) (g : Place → Bool) (r c : ℕ) → ByPlace cells g r c → Filled cells (λ k. g (k / c, k % c)) (r * c)
+filled-places cells g r c u =
+    record {
+      long = u.long;
+      done = λ k h.
+          ap (λ (i : ℕ). get_or cells i false) (sym (div-add-mod' k c))
+          ∙ u.each (k / c) (k % c) (row_below r c k h) (column-below r c k h);
+      rest = u.rest;
+    }
+
+pub places-list : (cells : List Bool) (g : Place → Bool) (r c : ℕ) → ByPlace cells g r c → r * c ≤ 64
     → take (r * c) cells ≡ map g (places r c)
-filled-places cells r c g u small =
-    filled-list cells (λ k. g (k / c, k % c)) (r * c) u small (map g (places r c)) (length-places g r c)
+places-list cells g r c u small =
+    filled-list cells (λ k. g (k / c, k % c)) (r * c) (filled-places cells g r c u) small (map g (places r c))
+    (length-places g r c)
     (λ k h.
     sym (places-at g false r c (k / c) (k % c) (row_below r c k h) (column-below r c k h))
     ∙ ap (λ (i : ℕ). get_or (map g (places r c)) i false) (div-add-mod' k c))

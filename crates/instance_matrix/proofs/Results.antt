@@ -10,15 +10,14 @@ use lib.ListN.{get_or, take}
 use borrow.Author.Tests.{eq-eqb, ne_eqb}
 use Rattle.prelude.specs.Tests.{any}
 use Rattle.sheet_rules.specs.Blocks.{byte}
-use Rattle.relational.specs.Trees.{join, product, inverse}
+use Rattle.relational.specs.declared.Binary.TheVariants.{Join as join, Product as product}
+use Rattle.relational.specs.declared.Unary.TheVariants.{Inverse as inverse}
 use Rattle.relational.specs.Matrices.{Matrix, upto, Place, places, set_of, relation_of, same_size, cell_at, join_columns}
 use Rattle.relational.specs.Matrices.{matched, middles, crossed}
 use Rattle.relational.specs.Evaluation.{both, join_cells, value_binary, value_unary}
-use Rattle.relational.proofs.Places.{map-map, length-map-from, from_at, upto-at, row_below, square}
-use Rattle.instance_matrix.specs.declared.Value.{Value}
-use Rattle.instance_matrix.specs.declared.flags.Pairing.{Pairing}
-use Rattle.instance_matrix.specs.Values.{matrix_of, sized, flags_from, SetOrRelation, Fine, Gives, paired}
-use Rattle.instance_matrix.proofs.Filling.{Filled, filled-list, filled-upto, filled-places, cells_of}
+use Rattle.relational.proofs.Places.{map-map, length-map-from, from_at, upto-at, square}
+use Rattle.instance_matrix.specs.Values.{Value, matrix_of, sized, flags_from, SetOrRelation, Fine, Gives}
+use Rattle.instance_matrix.proofs.Filling.{Filled, ByPlace, filled-list, filled-upto, filled-places, places-list, cells_of}
 
 abbrev pub value : ℕ → ℕ → ℕ → List Bool → Value
 value arity rows columns cells = record { arity = arity; rows = rows; columns = columns; cells = cells }
@@ -43,15 +42,14 @@ gives_set n cells f l h u e =
     gives 1 1 n cells f l (omega arith) h (inl (refl, refl)) (subst (λ (m : ℕ). Filled cells f m) one u) (rw (← one) e)
 
 -- ---- 2.2.1 relations, variables, sorts, identities
-pub given-law : (instance : List ℕ) (first arity rows columns : ℕ) (cells : List Bool) (k : ℕ) → k ≡ rows * columns → rows ≤ 8 → columns ≤ 8
-    → SetOrRelation arity rows → Filled cells (λ j. eqb (byte instance (first + j)) 1) k
+pub given-law : (instance : List ℕ) (first arity rows columns : ℕ) (cells : List Bool) → rows ≤ 8 → columns ≤ 8
+    → SetOrRelation arity rows → Filled cells (λ j. eqb (byte instance (first + j)) 1) (rows * columns)
     → Gives (value arity rows columns cells) (sized arity rows columns (flags_from instance first (rows * columns)))
-given-law instance first arity rows columns cells k e hr hc s u =
+given-law instance first arity rows columns cells hr hc s u =
     let n : ℕ = rows * columns in
     let flag : ℕ → Bool = λ i. eqb (byte instance i) 1 in
-    let w : Filled cells (λ j. flag (first + j)) n = subst (λ (m : ℕ). Filled cells (λ j. flag (first + j)) m) e u in
-    gives arity rows columns cells (λ j. flag (first + j)) (flags_from instance first n) hr hc s w
-    (filled-list cells (λ j. flag (first + j)) n w (square hr hc) (flags_from instance first n)
+    gives arity rows columns cells (λ j. flag (first + j)) (flags_from instance first n) hr hc s u
+    (filled-list cells (λ j. flag (first + j)) n u (square hr hc) (flags_from instance first n)
     (length-map-from flag first n) (λ j l. sym (from_at flag false first n j l)))
 
 pub upto-law : (n : ℕ) (f : ℕ → Bool) (cells : List Bool) (k : ℕ) → k ≡ n → n ≤ 8 → Filled cells f k
@@ -60,12 +58,11 @@ upto-law n f cells k e h u =
     let w : Filled cells f n = subst (λ (m : ℕ). Filled cells f m) e u in
     gives_set n cells f (map f (upto n)) h w (filled-upto cells f n w (omega arith) f (λ j l. refl))
 
-pub places-law : (r c : ℕ) (g : Place → Bool) (cells : List Bool) (k : ℕ) → k ≡ r * c → r ≤ 8 → c ≤ 8
-    → Filled cells (λ j. g (j / c, j % c)) k → Gives (value 2 r c cells) (relation_of r c (map g (places r c)))
-places-law r c g cells k e hr hc u =
-    let w : Filled cells (λ j. g (j / c, j % c)) (r * c) = subst (λ (m : ℕ). Filled cells (λ j. g (j / c, j % c)) m) e u in
-    gives 2 r c cells (λ j. g (j / c, j % c)) (map g (places r c)) hr hc (inr refl) w
-    (filled-places cells r c g w (square hr hc))
+pub places-law : (r c : ℕ) (g : Place → Bool) (cells : List Bool) → r ≤ 8 → c ≤ 8 → ByPlace cells g r c
+    → Gives (value 2 r c cells) (relation_of r c (map g (places r c)))
+places-law r c g cells hr hc u =
+    gives 2 r c cells (λ k. g (k / c, k % c)) (map g (places r c)) hr hc (inr refl) (filled-places cells g r c u)
+    (places-list cells g r c u (square hr hc))
 
 -- the identity on the atoms of a set
 module _ (p : Value) (fp : Fine p) (n : ℕ) (f : ℕ → Bool) (e : matrix_of p ≡ set_of n (map f (upto n))) where
@@ -80,23 +77,18 @@ module _ (p : Value) (fp : Fine p) (n : ℕ) (f : ℕ → Bool) (e : matrix_of p
   abbrev on_diagonal : Place → Bool
   on_diagonal t = cond (eqb t.0 t.1) (f t.0) false
 
-  pub identity-law : (cells : List Bool) (k : ℕ) → k ≡ p.columns * p.columns
-      → Filled cells (λ j. cond (eqb (j / p.columns) (j % p.columns)) (get_or p.cells (j / p.columns) false) false)
-      k
+  pub identity-law : (cells : List Bool)
+      → ByPlace cells (λ t. cond (eqb t.0 t.1) (get_or p.cells t.0 false) false) p.columns p.columns
       → Gives (value 2 p.columns p.columns cells) (relation_of n n (map on_diagonal (places n n)))
-  identity-law cells k ek u =
+  identity-law cells u =
       let c : ℕ = p.columns in
-      let w : Filled cells (λ j. on_diagonal (j / c, j % c)) k
-      = record {
-        long = u.long;
-        done = λ j l.
-            u.done j l
-            ∙ ap (λ (b : Bool). cond (eqb (j / c) (j % c)) b false)
-            (atom-at (j / c) (row_below c c j (omega (arith, ek))));
-        rest = u.rest;
-      } in
       gives_as _ _ _ (ap (λ (m : ℕ). relation_of m m (map on_diagonal (places m m))) wide)
-      (places-law c c on_diagonal cells k ek fp.few_columns fp.few_columns w)
+      (places-law c c on_diagonal cells fp.few_columns fp.few_columns
+      (record {
+        long = u.long;
+        each = λ i j li lj. u.each i j li lj ∙ ap (λ (b : Bool). cond (eqb i j) b false) (atom-at i li);
+        rest = u.rest;
+      }))
 
 -- ---- two operands
 module _ (p q : Value) (fp : Fine p) (fq : Fine q) where
@@ -107,19 +99,18 @@ module _ (p q : Value) (fp : Fine p) (fq : Fine q) where
   matched-cells =
       ap₂ (λ (x y : ℕ → Bool). map {B = Bool × Bool} (λ (k : ℕ). (x k, y k)) (upto (p.rows * p.columns))) (cells_of p fp) (cells_of q fq)
 
-  pub matched-law : (pairing : Pairing) (cells : List Bool) (k : ℕ) → k ≡ p.rows * p.columns
-      → Filled cells (λ j. paired pairing (get_or p.cells j false, get_or q.cells j false)) k
+  pub matched-law : (paired : Bool × Bool → Bool) (cells : List Bool)
+      → Filled cells (λ j. paired (get_or p.cells j false, get_or q.cells j false)) (p.rows * p.columns)
       → Gives (value p.arity p.rows p.columns cells)
-      (same_size (matrix_of p) (map (paired pairing) (matched false (matrix_of p) (matrix_of q))))
-  matched-law pairing cells k e u =
+      (same_size (matrix_of p) (map paired (matched false (matrix_of p) (matrix_of q))))
+  matched-law paired cells u =
       let n : ℕ = p.rows * p.columns in
       let pair : ℕ → Bool × Bool = λ j. (get_or p.cells j false, get_or q.cells j false) in
-      let f : ℕ → Bool = λ j. paired pairing (pair j) in
-      let w : Filled cells f n = subst (λ (m : ℕ). Filled cells f m) e u in
-      gives p.arity p.rows p.columns cells f (map (paired pairing) (matched false (matrix_of p) (matrix_of q))) fp.few_rows
-      fp.few_columns fp.set_or_relation w
-      (filled-upto cells f n w (square fp.few_rows fp.few_columns) f (λ j l. refl)
-      ∙ sym (map-map (paired pairing) pair (upto n)) ∙ ap (map (paired pairing)) (sym matched-cells))
+      let f : ℕ → Bool = λ j. paired (pair j) in
+      gives p.arity p.rows p.columns cells f (map paired (matched false (matrix_of p) (matrix_of q))) fp.few_rows
+      fp.few_columns fp.set_or_relation u
+      (filled-upto cells f n u (square fp.few_rows fp.few_columns) f (λ j l. refl)
+      ∙ sym (map-map paired pair (upto n)) ∙ ap (map paired) (sym matched-cells))
 
   -- ---- 2.2.2 join
   pub middle-cells : (i j : ℕ) → middles false (matrix_of p) (matrix_of q) (i, j)
@@ -148,44 +139,22 @@ module _ (p q : Value) (fp : Fine p) (fq : Fine q) where
       go (inr h) (inl g) = rw (eq-eqb q.arity 1 g.0) (omega (arith, fp.few_rows))
       go (inr h) (inr g) = absurd (apart (omega arith))
 
-  module _ (cells : List Bool) (k : ℕ) where
-    join_flag : Place → Bool
-    join_flag t = any both (middles false (matrix_of p) (matrix_of q) t)
+  pub join-relation : (cells : List Bool) (c : ℕ) → c ≡ join_columns (matrix_of q) → p.arity + q.arity ≡ 4
+      → ByPlace cells (λ t. any both (middles false (matrix_of p) (matrix_of q) t)) p.rows c
+      → Gives (value 2 p.rows c cells) (value_binary join (matrix_of p) (matrix_of q))
+  join-relation cells c e s u =
+      rw (eq-eqb (p.arity + q.arity) 4 s, e)
+      (places-law p.rows (join_columns (matrix_of q)) _ cells fp.few_rows join-narrow (rw e at u))
 
-    join-relation : p.arity + q.arity ≡ 4 → k ≡ p.rows * join_columns (matrix_of q)
-        → Filled cells (λ j. join_flag (j / join_columns (matrix_of q), j % join_columns (matrix_of q))) k
-        → Gives (value 2 p.rows (join_columns (matrix_of q)) cells) (value_binary join (matrix_of p) (matrix_of q))
-    unfolding join_flag
-    join-relation s e u =
-        rw (eq-eqb (p.arity + q.arity) 4 s)
-        (places-law p.rows (join_columns (matrix_of q)) join_flag cells k e fp.few_rows join-narrow u)
-
-    join-set : (p.arity + q.arity ≡ 4 → ⊥) → k ≡ p.rows * join_columns (matrix_of q)
-        → Filled cells (λ j. join_flag (j / join_columns (matrix_of q), j % join_columns (matrix_of q))) k
-        → Gives (value 1 1 k cells) (value_binary join (matrix_of p) (matrix_of q))
-    unfolding join_flag
-    join-set s e u =
-        let c : ℕ = join_columns (matrix_of q) in
-        let f : ℕ → Bool = λ j. join_flag (j / c, j % c) in
-        let w : Filled cells f (p.rows * c) = subst (λ (m : ℕ). Filled cells f m) e u in
-        rw (ne_eqb (p.arity + q.arity) 4 s, e)
-        (gives_set (p.rows * c) cells f (join_cells (matrix_of p) (matrix_of q)) (join-small s) w
-        (filled-places cells p.rows c join_flag w (square fp.few_rows join-narrow)))
-
-    pub join-law : (c : ℕ) → c ≡ join_columns (matrix_of q) → k ≡ p.rows * c
-        → Filled cells (λ j. any both (middles false (matrix_of p) (matrix_of q) (j / c, j % c))) k
-        → ((p.arity + q.arity ≡ 4 → Gives (value 2 p.rows c cells) (value_binary join (matrix_of p) (matrix_of q)))
-        × ((p.arity + q.arity ≡ 4 → ⊥) → Gives (value 1 1 k cells) (value_binary join (matrix_of p) (matrix_of q))))
-    unfolding join_flag
-    join-law c ec e u =
-        subst
-        (λ (x : ℕ).
-        k ≡ p.rows * x → Filled cells (λ j. any both (middles false (matrix_of p) (matrix_of q) (j / x, j % x))) k
-        → ((p.arity + q.arity ≡ 4 → Gives (value 2 p.rows x cells) (value_binary join (matrix_of p) (matrix_of q)))
-        × ((p.arity + q.arity ≡ 4 → ⊥) → Gives (value 1 1 k cells) (value_binary join (matrix_of p) (matrix_of q)))))
-        (sym ec)
-        (λ d w. ((λ s. join-relation s d w), λ s. join-set s d w))
-        e u
+  pub join-set : (cells : List Bool) (c n : ℕ) → c ≡ join_columns (matrix_of q) → n ≡ p.rows * c → (p.arity + q.arity ≡ 4 → ⊥)
+      → ByPlace cells (λ t. any both (middles false (matrix_of p) (matrix_of q) t)) p.rows c
+      → Gives (value 1 1 n cells) (value_binary join (matrix_of p) (matrix_of q))
+  join-set cells c n e en s u =
+      let w = rw e at u in
+      rw (ne_eqb (p.arity + q.arity) 4 s, en, e)
+      (gives_set (p.rows * join_columns (matrix_of q)) cells _ (join_cells (matrix_of p) (matrix_of q)) (join-small s)
+      (filled-places cells _ p.rows (join_columns (matrix_of q)) w)
+      (places-list cells _ p.rows (join_columns (matrix_of q)) w (square fp.few_rows join-narrow)))
 
   -- ---- 2.2.3 product
   crossed-cells : crossed false (matrix_of p) (matrix_of q)
@@ -195,25 +164,25 @@ module _ (p q : Value) (fp : Fine p) (fq : Fine q) where
       ap₂ (λ (x y : ℕ → Bool). map {B = Bool × Bool} (λ (t : Place). (x t.0, y t.1)) (places p.columns q.columns))
       (cells_of p fp) (cells_of q fq)
 
-  pub product_law : (cells : List Bool) (k : ℕ) → k ≡ p.columns * q.columns
-      → Filled cells (λ j. both (get_or p.cells (j / q.columns) false, get_or q.cells (j % q.columns) false)) k
+  pub product_law : (cells : List Bool)
+      → ByPlace cells (λ t. both (get_or p.cells t.0 false, get_or q.cells t.1 false)) p.columns q.columns
       → Gives (value 2 p.columns q.columns cells) (value_binary product (matrix_of p) (matrix_of q))
-  product_law cells k e u =
+  product_law cells u =
       let r : ℕ = p.columns in
       let c : ℕ = q.columns in
       let pair : Place → Bool × Bool = λ t. (get_or p.cells t.0 false, get_or q.cells t.1 false) in
       let same : map (λ (t : Place). both (pair t)) (places r c) ≡ map both (crossed false (matrix_of p) (matrix_of q))
       = sym (map-map both pair (places r c)) ∙ ap (map both) (sym crossed-cells) in
       subst (λ (l : List Bool). Gives (value 2 r c cells) (relation_of r c l)) same
-      (places-law r c (λ t. both (pair t)) cells k e fp.few_columns fq.few_columns u)
+      (places-law r c (λ t. both (pair t)) cells fp.few_columns fq.few_columns u)
 
 -- ---- 2.2.4 inverse
-pub inverse-law : (p : Value) → Fine p → (cells : List Bool) (k : ℕ) → k ≡ p.columns * p.rows
-    → Filled cells (λ j. get_or p.cells (j % p.rows * p.columns + j / p.rows) false) k
+pub inverse-law : (p : Value) → Fine p → (cells : List Bool)
+    → ByPlace cells (λ t. get_or p.cells (t.1 * p.columns + t.0) false) p.columns p.rows
     → Gives (value 2 p.columns p.rows cells) (value_unary inverse (matrix_of p))
-inverse-law p fp cells k e u =
+inverse-law p fp cells u =
     let r : ℕ = p.columns in
     let c : ℕ = p.rows in
     let same = ap (λ (x : ℕ → Bool). map (λ (t : Place). x (t.1 * r + t.0)) (places r c)) (cells_of p fp) in
     subst (λ (l : List Bool). Gives (value 2 r c cells) (relation_of r c l)) (sym same)
-    (places-law r c (λ t. get_or p.cells (t.1 * r + t.0) false) cells k e fp.few_columns fp.few_rows u)
+    (places-law r c (λ t. get_or p.cells (t.1 * r + t.0) false) cells fp.few_columns fp.few_rows u)

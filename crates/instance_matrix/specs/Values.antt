@@ -1,12 +1,13 @@
 -- What a value of the code stands for: a matrix of flags (relational, specs/Matrices), in an array of 64.
 -- No public contract reaches this file: nothing here needs belief.
-use Rattle.std.specs.Prelude.{◌≡◌, ◌⊎◌, Bool, true, false, List, map, ℕ, suc, ◌*◌, ◌≤◌, eqb, length, get_or, take}
+use Rattle.std.specs.Prelude.{◌≡◌, ◌⊎◌, Bool, false, List, map, ℕ, ◌*◌, ◌≤◌, eqb, length, get_or, take}
 use Rattle.sheet_rules.specs.Blocks.{byte}
 use Rattle.relational.specs.Matrices.{Matrix, from}
-use Rattle.relational.specs.Evaluation.{either, both, without, implies, same}
-use Rattle.instance_matrix.specs.declared.Value.{Value}
-use Rattle.instance_matrix.specs.declared.flags.Pairing.{Pairing}
-use Rattle.instance_matrix.specs.declared.flags.Pairing.TheVariants.{Either, Both, Without, Implies, Same}
+use Rattle.nodes.specs.declared.matrix.Matrix as held
+
+-- flags, cell by cell
+abbrev pub Value : Type 0
+Value = held.Matrix Bool
 
 -- the first rows * columns cells are the matrix
 abbrev pub matrix_of : Value → Matrix Bool
@@ -35,16 +36,3 @@ pub record Fine (v : Value) : Type 0 where
 pub record Gives (v : Value) (m : Matrix Bool) : Type 0 where
   pub fine : Fine v
   pub is : matrix_of v ≡ m
-
--- what two flags make
-abbrev pub paired : Pairing → Bool × Bool → Bool
-paired Either = either
-paired Both = both
-paired Without = without
-paired Implies = implies
-paired Same = same
-
--- one more flag
-abbrev pub counted : ℕ → Bool → ℕ
-counted n true = suc n
-counted n false = n

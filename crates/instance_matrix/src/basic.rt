@@ -3,11 +3,10 @@ ghost use Rattle.std.specs.Prelude.{◌≡◌, Bool, true, false, cond, map, ℕ
 ghost use Rattle.relational.specs.Cells.{most_cells};
 ghost use Rattle.relational.specs.Matrices as matrices;
 ghost use Rattle.relational.specs.Matrices.{set_of, relation_of, upto, places, Place};
-ghost use Rattle.instance_matrix.specs.Values.{matrix_of, Fine, Gives, SetOrRelation, sized, flags_from, paired};
+ghost use Rattle.instance_matrix.specs.Values.{matrix_of, Fine, Gives, SetOrRelation, sized, flags_from};
 
-use super::flags::{Pairing, pair};
-use super::{Value, size};
-use prelude::choose;
+use super::Value;
+use nodes::matrix::{cells_by, places_by, size};
 use sheet::bytes::byte;
 
 // Kind 1, a relation, or a row of one: its cells from the first on, true where the byte is 1.
@@ -16,18 +15,15 @@ pub fn given(instance: &[u8], first: usize, arity: usize, rows: usize, columns: 
     requires set_or_relation { SetOrRelation arity rows }
     ensures { Gives result (sized arity rows columns (flags_from instance.now first (rows * columns))) }
 {
-    let n = size(rows, columns);
-    let mut cells = [false; 64];
-    let mut k: usize = 0;
-    while k < n {
-        cells[k] = byte(instance, first + k) == 1;
-        k += 1;
-    }
     Value {
         arity,
         rows,
         columns,
-        cells,
+        cells: cells_by(
+            size(rows, columns),
+            false,
+            |k| byte(instance, first + k) == 1,
+        ),
     }
 }
 
@@ -36,17 +32,11 @@ pub fn single(n: usize, atom: usize) -> Value
     requires { n ≤ 8 }
     ensures { Gives result (set_of n (map (λ (i : ℕ). eqb i atom) (upto n))) }
 {
-    let mut cells = [false; 64];
-    let mut k: usize = 0;
-    while k < n {
-        cells[k] = k == atom;
-        k += 1;
-    }
     Value {
         arity: 1,
         rows: 1,
         columns: n,
-        cells,
+        cells: cells_by(n, false, |k| k == atom),
     }
 }
 
@@ -55,17 +45,11 @@ pub fn full(n: usize) -> Value
     requires { n ≤ 8 }
     ensures { Gives result (set_of n (map (λ (i : ℕ). true) (upto n))) }
 {
-    let mut cells = [false; 64];
-    let mut k: usize = 0;
-    while k < n {
-        cells[k] = true;
-        k += 1;
-    }
     Value {
         arity: 1,
         rows: 1,
         columns: n,
-        cells,
+        cells: cells_by(n, false, |_| true),
     }
 }
 
@@ -76,38 +60,30 @@ pub fn identity(p: Value) -> Value
         → Gives result (relation_of n n (map (λ (t : Place). cond (eqb t.0 t.1) (f t.0) false) (places n n))) }
 {
     let n = p.columns;
-    let count = size(n, n);
-    let mut cells = [false; 64];
-    let mut k: usize = 0;
-    while k < count {
-        cells[k] = choose(k / n == k % n, p.cells[k / n], false);
-        k += 1;
-    }
     Value {
         arity: 2,
         rows: n,
         columns: n,
-        cells,
+        cells: places_by(n, n, false, |i, j| i == j && p.cells[i]),
     }
 }
 
 // Kinds 5 to 7, union, intersection, difference: the cells at the same place, pair by pair.
-pub(crate) fn matched(pairing: Pairing, p: Value, q: Value) -> Value
+pub(crate) fn matched<F: Fn(bool, bool) -> bool>(pair: F, p: Value, q: Value) -> Value
+    requires pairs { (a b : Bool) → F.pre pair a b }
     requires fine { Fine p }
     requires fine_2 { Fine q }
-    ensures { Gives result (matrices.same_size (matrix_of p) (map (paired pairing) (matrices.matched false (matrix_of p) (matrix_of q)))) }
+    ensures { (paired : Bool × Bool → Bool) → ((a b r : Bool) → F.post pair a b r → r ≡ paired (a, b))
+        → Gives result (matrices.same_size (matrix_of p) (map paired (matrices.matched false (matrix_of p) (matrix_of q)))) }
 {
-    let n = size(p.rows, p.columns);
-    let mut cells = [false; 64];
-    let mut k: usize = 0;
-    while k < n {
-        cells[k] = pair(pairing, p.cells[k], q.cells[k]);
-        k += 1;
-    }
     Value {
         arity: p.arity,
         rows: p.rows,
         columns: p.columns,
-        cells,
+        cells: cells_by(
+            size(p.rows, p.columns),
+            false,
+            |k| pair(p.cells[k], q.cells[k]),
+        ),
     }
 }

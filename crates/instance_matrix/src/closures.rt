@@ -1,11 +1,10 @@
 // 2.2.5 Transitive closure.
-ghost use Rattle.relational.specs.Trees as trees;
+ghost use Rattle.relational.specs.declared.Unary.TheVariants as unary_operator;
 ghost use Rattle.relational.specs.Evaluation as spec;
 ghost use Rattle.instance_matrix.specs.Values.{matrix_of, Fine, Gives};
 
 use super::Value;
 use super::basic::matched;
-use super::flags::Pairing;
 use super::joins::join;
 use nodes::sizes::rounds;
 
@@ -14,20 +13,17 @@ fn round(p: Value) -> Value
     requires { Fine p }
     ensures { Gives result (spec.round_of (matrix_of p)) }
 {
-    matched(Pairing::Either, p, join(p, p))
+    matched(|a, b| a || b, p, join(p, p))
 }
 
 // Kind 11: "as many rounds as the least k with 2^k at least n".
 pub(crate) fn closure(p: Value) -> Value
     requires { Fine p }
-    ensures { Gives result (spec.value_unary trees.closure (matrix_of p)) }
+    ensures { Gives result (spec.value_unary unary_operator.Closure (matrix_of p)) }
 {
-    let n = rounds(p.rows);
     let mut closed = p;
-    let mut k: usize = 0;
-    while k < n {
+    for _ in 0..rounds(p.rows) {
         closed = round(closed);
-        k += 1;
     }
     closed
 }

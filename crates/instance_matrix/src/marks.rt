@@ -5,9 +5,7 @@ ghost use Rattle.relational.specs.Evaluation as spec;
 ghost use Rattle.instance_matrix.specs.Values.{matrix_of, Fine};
 
 use super::Value;
-use super::flags::{Pairing, pair};
 use super::truths::count;
-use prelude::both;
 
 // "Mark 0 is free, 1 at most one value, 2 exactly one.", and of a row that is not bound at most one (document 02,
 // Change 8).
@@ -20,6 +18,6 @@ pub fn row_holds(mark: usize, bound: bool, p: Value) -> bool
     match mark {
         0 => true,
         1 => n <= 1,
-        _ => both(n <= 1, pair(Pairing::Implies, bound, 1 <= n)),
+        _ => n <= 1 && (!bound || 1 <= n),
     }
 }

@@ -1,44 +1,43 @@
-// 2.2.1 to 2.2.5: the operators on expressions, by the numbers of their kinds.
+// 2.2.1 to 2.2.5: the operators on expressions.
 ghost use Rattle.std.specs.Prelude.{◌≡◌};
-ghost use Rattle.relational.specs.Trees.{Binary, Unary, binary-symbol, unary-symbol, symbol_of};
 ghost use Rattle.relational.specs.Evaluation as spec;
 ghost use Rattle.instance_matrix.specs.Values.{matrix_of, Fine, Gives};
 
 use super::Value;
 use super::basic::matched;
 use super::closures::closure;
-use super::flags::Pairing;
 use super::inverses::inverse;
 use super::joins::join;
 use super::products::product;
+use relational::{Binary, Unary};
 
 // Kinds 5 to 9: union, intersection, difference, join, product.
-pub fn binary(kind: usize, p: Value, q: Value) -> Value
+pub fn binary(operator: Binary, p: Value, q: Value) -> Value
     requires fine { Fine p }
     requires fine_2 { Fine q }
-    ensures { (o : Binary) → symbol_of kind ≡ binary-symbol o → Gives result (spec.value_binary o (matrix_of p) (matrix_of q)) }
+    ensures { Gives result (spec.value_binary operator (matrix_of p) (matrix_of q)) }
 {
-    match kind {
+    match operator {
         // 2.2.1
-        5 => matched(Pairing::Either, p, q),
-        6 => matched(Pairing::Both, p, q),
-        7 => matched(Pairing::Without, p, q),
+        Binary::Union => matched(|a, b| a || b, p, q),
+        Binary::Intersection => matched(|a, b| a && b, p, q),
+        Binary::Difference => matched(|a, b| a && !b, p, q),
         // 2.2.2
-        8 => join(p, q),
+        Binary::Join => join(p, q),
         // 2.2.3
-        _ => product(p, q),
+        Binary::Product => product(p, q),
     }
 }
 
 // Kinds 10 and 11: inverse, closure.
-pub fn unary(kind: usize, p: Value) -> Value
+pub fn unary(operator: Unary, p: Value) -> Value
     requires { Fine p }
-    ensures { (o : Unary) → symbol_of kind ≡ unary-symbol o → Gives result (spec.value_unary o (matrix_of p)) }
+    ensures { Gives result (spec.value_unary operator (matrix_of p)) }
 {
-    match kind {
+    match operator {
         // 2.2.4
-        10 => inverse(p),
+        Unary::Inverse => inverse(p),
         // 2.2.5
-        _ => closure(p),
+        Unary::Closure => closure(p),
     }
 }

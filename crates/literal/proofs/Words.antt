@@ -3,14 +3,13 @@ use mathlib.Core.Path.{◌≡◌, refl, ap}
 use mathlib.Core.Bool.{true}
 use Prim.Native.Nat.{ℕ, zero, suc, min, ◌≤◌}
 use native.Mathlib.Nat.{min-eq_left}
-use native.Mathlib.Omega.{arith}
 use lib.IntN.{ℤ, pos, negsuc, neg_ℤ, nat_abs}
 use borrow.Author.Tests.{lt-ltb, le-leb}
 use Rattle.prelude.proofs.Laws.{between-low, between-high, is-between}
 use Rattle.literal.specs.Literals.{Literal, positive, negative, word_of}
 use Rattle.literal.specs.Words.{variable, literal_of}
 use Rattle.literal.specs.Literals.{is_literal}
-use Rattle.literal.specs.Words.{last_variable, opposite_word, positive_word, count_of}
+use Rattle.literal.specs.Words.{last_variable, opposite_word, positive_word}
 
 -- literals and their words
 pub word-variable : (l : Literal) → nat_abs (word_of l) ≡ variable l
@@ -51,8 +50,3 @@ word-is-literal v l a b = is-literal v (word_of l) (rw (word-variable l) a) (rw 
 -- what `is_literal` tests, where every variable up to v has two literals
 pub within-words : (v : ℕ) (w : ℤ) → v ≤ last_variable → is_literal (min v last_variable) w ≡ is_literal v w
 within-words v w h = ap (λ (n : ℕ). is_literal n w) (min-eq_left h)
-
--- the count that a word gives
-pub count-abs : (w : ℤ) → 1 ≤ count_of w → nat_abs w ≡ count_of w
-count-abs (pos n) h = refl
-count-abs (negsuc n) h = absurd (omega arith)

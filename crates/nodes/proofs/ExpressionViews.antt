@@ -4,78 +4,73 @@ use Prim.Native.Nat.{ℕ, ◌<◌}
 use borrow.Author.Tests.{ltb-true}
 use Rattle.sheet_rules.specs.Blocks.{Sheet, relation_count, kind, field_a, field_b}
 use Rattle.sheet_rules.specs.Facts.{Facts}
-use Rattle.relational.specs.Trees.{Leaf, relation, variable, atoms, identity, Binary, union, intersection, difference, join, product}
-use Rattle.relational.specs.Trees.{Unary, inverse, closure, Expression, leaf, binary, unary, comprehension, expression, formula}
-use Rattle.relational.specs.Trees.{Symbol, leaf-symbol, binary-symbol, unary-symbol, comparison-symbol, test-symbol, connective-symbol}
-use Rattle.relational.specs.Trees.{quantifier-symbol, comprehension-symbol, negation-symbol, unknown-symbol, symbol_of}
-use Rattle.nodes.specs.declared.forms.ExpressionForm.{ExpressionForm}
-use Rattle.nodes.specs.declared.forms.ExpressionForm.TheVariants as form
+use Rattle.relational.specs.Trees.{Expression, leaf, binary, unary, comprehension, expression, formula, symbol_of}
+use Rattle.relational.specs.declared.Leaf.{Leaf}
+use Rattle.relational.specs.declared.Binary.{Binary}
+use Rattle.relational.specs.declared.Unary.{Unary}
+use Rattle.relational.specs.declared.Symbol.{Symbol}
+use Rattle.relational.specs.declared.Leaf.TheVariants.{Relation as relation, Variable as variable, Atoms as atoms}
+use Rattle.relational.specs.declared.Leaf.TheVariants.{Identity as identity}
+use Rattle.relational.specs.declared.Binary.TheVariants.{Union as union, Intersection as intersection}
+use Rattle.relational.specs.declared.Binary.TheVariants.{Difference as difference, Join as join, Product as product}
+use Rattle.relational.specs.declared.Unary.TheVariants.{Inverse as inverse, Closure as closure}
+use Rattle.relational.specs.declared.Symbol.TheVariants.{Leaf as leaf-symbol, Binary as binary-symbol}
+use Rattle.relational.specs.declared.Symbol.TheVariants.{Unary as unary-symbol, Comparison as comparison-symbol}
+use Rattle.relational.specs.declared.Symbol.TheVariants.{Test as test-symbol, Connective as connective-symbol}
+use Rattle.relational.specs.declared.Symbol.TheVariants.{Quantifier as quantifier-symbol}
+use Rattle.relational.specs.declared.Symbol.TheVariants.{Comprehension as comprehension-symbol}
+use Rattle.relational.specs.declared.Symbol.TheVariants.{Negation as negation-symbol, Unknown as unknown-symbol}
 use Rattle.nodes.specs.declared.forms.Node.{Node}
-use Rattle.nodes.specs.Nodes.{expression_form, node_at, IsExpression}
-use Rattle.relational.proofs.Rows.{rule_of_binary, rule_of_unary, row_of_symbol, row-of-symbol}
-use Rattle.nodes.proofs.Numbers.{relation-symbol}
+use Rattle.nodes.specs.Nodes.{node_at, IsExpression}
+use Rattle.relational.proofs.Rows.{row_of_symbol}
+use Rattle.kinds.specs.declared.Field.TheVariants.{Relation}
 use Rattle.nodes.proofs.Views.{Reached, TwoAt, OneAt, BodyAt, expressions, formulas, no_both}
 use Rattle.nodes.proofs.Views.{field-a, field-b, grown, grows_from, two_at, one_at, body_at}
 
 module _ (sheet : Sheet) (v : ℕ) (node : Node) where
-  pub record LeafAt (e : Expression) : Type 0 where
-    pub it : Leaf
-    pub symbol : symbol_of node.kind ≡ leaf-symbol it
-    pub names : node.kind ≡ 1 → node.a < relation_count sheet
-    pub is : e ≡ leaf it node.a
+  pub record LeafAt (l : Leaf) (e : Expression) : Type 0 where
+    pub names : l ≡ relation → node.a < relation_count sheet
+    pub is : e ≡ leaf l node.a
 
-  abbrev pub BinaryAt : Expression → Type 0
-  BinaryAt = TwoAt sheet v node binary-symbol expression binary
+  abbrev pub BinaryAt : Binary → Expression → Type 0
+  BinaryAt = TwoAt sheet v node expression binary
 
-  abbrev pub UnaryAt : Expression → Type 0
-  UnaryAt = OneAt sheet v node unary-symbol expression unary
+  abbrev pub UnaryAt : Unary → Expression → Type 0
+  UnaryAt = OneAt sheet v node expression unary
 
   -- the one operator that binds a variable
   abbrev pub ComprehensionAt : Expression → Type 0
-  ComprehensionAt = BodyAt sheet v node {O = Unit {0}} (λ o. comprehension-symbol) formula (λ o. comprehension)
+  ComprehensionAt = BodyAt sheet v node {O = Unit {0}} formula (λ o. comprehension) tt
 
-  -- what a form says of the node
-  abbrev ExpressionView : Expression → ExpressionForm → Type 0
-  ExpressionView e form.Leaf = LeafAt e
-  ExpressionView e form.Binary = BinaryAt e
-  ExpressionView e form.Unary = UnaryAt e
-  ExpressionView e form.Comprehension = ComprehensionAt e
+  -- what a symbol says of the node
+  abbrev ExpressionView : Expression → Symbol → Type 0
+  ExpressionView e (leaf-symbol l) = LeafAt l e
+  ExpressionView e (binary-symbol o) = BinaryAt o e
+  ExpressionView e (unary-symbol o) = UnaryAt o e
+  ExpressionView e comprehension-symbol = ComprehensionAt e
+  ExpressionView e (comparison-symbol o) = ⊥
+  ExpressionView e (test-symbol o) = ⊥
+  ExpressionView e (connective-symbol o) = ⊥
+  ExpressionView e (quantifier-symbol o) = ⊥
+  ExpressionView e negation-symbol = ⊥
+  ExpressionView e unknown-symbol = ⊥
 
-leaf-form : (l : Leaf) → expression_form (row_of_symbol (leaf-symbol l)).rule ≡ form.Leaf
-leaf-form relation = refl
-leaf-form variable = refl
-leaf-form atoms = refl
-leaf-form identity = refl
-
-binary-form : (o : Binary) → expression_form (rule_of_binary o) ≡ form.Binary
-binary-form union = refl
-binary-form intersection = refl
-binary-form difference = refl
-binary-form join = refl
-binary-form product = refl
-
-unary-form : (o : Unary) → expression_form (rule_of_unary o) ≡ form.Unary
-unary-form inverse = refl
-unary-form closure = refl
+relation-field : (l : Leaf) → l ≡ relation → (row_of_symbol (leaf-symbol l)).a ≡ Relation
+relation-field l e = rw e refl
 
 module _ {sheet : Sheet} {v : ℕ} (fine : Facts sheet) (tree : IsExpression sheet v) where
-  expression-by : (s : Symbol) → symbol_of (kind sheet v) ≡ s
-      → ExpressionView sheet v (node_at sheet.nodes v) tree.it (expression_form (row_of_symbol s).rule)
+  expression-by : (s : Symbol) → symbol_of (kind sheet v) ≡ s → ExpressionView sheet v (node_at sheet.nodes v) tree.it s
   expression-by (leaf-symbol l) q =
-      rw (leaf-form l)
-      (record {
-        it = l;
-        symbol = q;
-        names = λ k. ltb-true (field_a sheet v) (relation_count sheet) (field-a expressions fine tree (relation-symbol (kind sheet v) k));
+      record {
+        names = λ e. ltb-true (field_a sheet v) (relation_count sheet)
+            (rw (relation-field l e) at (field-a expressions fine tree q));
         is = expressions.same (grown expressions fine tree q);
-      })
+      }
   expression-by (binary-symbol o) q =
-      rw (binary-form o)
-      (two_at expressions fine tree expressions binary-symbol o q binary
-      (field-a expressions fine tree q) (field-b expressions fine tree q) (grown expressions fine tree q))
+      two_at expressions fine tree expressions o binary
+      (field-a expressions fine tree q) (field-b expressions fine tree q) (grown expressions fine tree q)
   expression-by (unary-symbol o) q =
-      rw (unary-form o)
-      (one_at expressions fine tree expressions unary-symbol o q unary (field-a expressions fine tree q) (grown expressions fine tree q))
+      one_at expressions fine tree expressions o unary (field-a expressions fine tree q) (grown expressions fine tree q)
   expression-by (comparison-symbol o) q =
       let t = grows_from expressions fine tree expressions (field_a sheet v) _ (grown expressions fine tree q) in
       let u = grows_from expressions fine tree expressions (field_b sheet v) _ t.grown in
@@ -89,26 +84,43 @@ module _ {sheet : Sheet} {v : ℕ} (fine : Facts sheet) (tree : IsExpression she
   expression-by (quantifier-symbol o) q =
       no_both _ _ (grows_from expressions fine tree formulas (field_b sheet v) _ (grown expressions fine tree q)).grown
   expression-by comprehension-symbol q =
-      body_at expressions fine tree formulas (λ o. comprehension-symbol) tt q (λ o. comprehension)
+      body_at expressions fine tree formulas tt (λ o. comprehension)
       (field-a expressions fine tree q) (field-b expressions fine tree q) (grown expressions fine tree q)
   expression-by negation-symbol q =
       no_both _ _ (grows_from expressions fine tree formulas (field_a sheet v) _ (grown expressions fine tree q)).grown
   expression-by unknown-symbol q = absurd (expressions.whole tree.it (sym (grown expressions fine tree q)))
 
 module _ {sheet : Sheet} {v : ℕ} {node : Node} (h : Reached sheet v node IsExpression) where
-  view : (x : ExpressionForm) → node.expression ≡ x → ExpressionView sheet v node h.tree.it x
-  view x p =
-      let w : expression_form (row_of_symbol (symbol_of (kind sheet v))).rule ≡ x = rw (h.read, row-of-symbol (kind sheet v)) at p in
-      rw (h.read, ← w) (expression-by h.facts h.tree (symbol_of (kind sheet v)) refl)
+  view : (s : Symbol) → node.symbol ≡ s → ExpressionView sheet v node h.tree.it s
+  view s p =
+      let q : symbol_of (kind sheet v) ≡ s = rw h.read at p in
+      rw h.read (expression-by h.facts h.tree s q)
 
-  pub at_leaf : node.expression ≡ form.Leaf → LeafAt sheet v node h.tree.it
-  at_leaf p = view form.Leaf p
+  pub at_leaf : {l : Leaf} → node.symbol ≡ leaf-symbol l → LeafAt sheet v node l h.tree.it
+  at_leaf {l} p = view (leaf-symbol l) p
 
-  pub at-binary : node.expression ≡ form.Binary → BinaryAt sheet v node h.tree.it
-  at-binary p = view form.Binary p
+  pub at-binary : {o : Binary} → node.symbol ≡ binary-symbol o → BinaryAt sheet v node o h.tree.it
+  at-binary {o} p = view (binary-symbol o) p
 
-  pub at-unary : node.expression ≡ form.Unary → UnaryAt sheet v node h.tree.it
-  at-unary p = view form.Unary p
+  pub at-unary : {o : Unary} → node.symbol ≡ unary-symbol o → UnaryAt sheet v node o h.tree.it
+  at-unary {o} p = view (unary-symbol o) p
 
-  pub at-comprehension : node.expression ≡ form.Comprehension → ComprehensionAt sheet v node h.tree.it
-  at-comprehension p = view form.Comprehension p
+  pub at-comprehension : node.symbol ≡ comprehension-symbol → ComprehensionAt sheet v node h.tree.it
+  at-comprehension p = view comprehension-symbol p
+
+  -- an expression has one of these four
+  pub expression-symbol : {A : Type 0} → ((l : Leaf) → node.symbol ≡ leaf-symbol l → A) → ((o : Binary) → node.symbol ≡ binary-symbol o → A)
+      → ((o : Unary) → node.symbol ≡ unary-symbol o → A) → (node.symbol ≡ comprehension-symbol → A) → A
+  expression-symbol {A} l b u k = go node.symbol refl
+    where
+      go : (s : Symbol) → node.symbol ≡ s → A
+      go (leaf-symbol x) p = l x p
+      go (binary-symbol o) p = b o p
+      go (unary-symbol o) p = u o p
+      go comprehension-symbol p = k p
+      go (comparison-symbol o) p = absurd (view (comparison-symbol o) p)
+      go (test-symbol o) p = absurd (view (test-symbol o) p)
+      go (connective-symbol o) p = absurd (view (connective-symbol o) p)
+      go (quantifier-symbol o) p = absurd (view (quantifier-symbol o) p)
+      go negation-symbol p = absurd (view negation-symbol p)
+      go unknown-symbol p = absurd (view unknown-symbol p)

@@ -1,7 +1,7 @@
 pub mod Binding
-pub mod Numbers
 pub mod Views
 pub mod ExpressionViews
 pub mod FormulaViews
 pub mod Roots
 mod Powers
+mod Placed

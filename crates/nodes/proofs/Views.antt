@@ -12,8 +12,9 @@ use Rattle.sheet_rules.specs.Blocks.{Sheet, variable_count, node_count, kind, fi
 use Rattle.sheet_rules.specs.Tables.{table}
 use Rattle.sheet_rules.specs.Reading.{field_fine}
 use Rattle.sheet_rules.specs.Facts.{Facts}
-use Rattle.relational.specs.Trees.{Expression, Formula, Symbol, symbol_of, Tree, expression, formula, broken}
-use Rattle.relational.specs.Trees.{with_expression, with_formula, tree_by, tree_step, trees}
+use Rattle.relational.specs.Trees.{Expression, Formula, symbol_of, Tree, expression, formula, broken, with_expression}
+use Rattle.relational.specs.Trees.{with_formula, tree_by, tree_step, trees}
+use Rattle.relational.specs.declared.Symbol.{Symbol}
 use Rattle.nodes.specs.declared.forms.Node.{Node}
 use Rattle.nodes.specs.Nodes.{node_at, tree_at, IsTree, IsExpression, IsFormula}
 use Rattle.sheet_rules.proofs.TableLaws.{table-length, table_at, table_same}
@@ -26,31 +27,25 @@ pub record Reached (sheet : Sheet) (v : ℕ) (node : Node) (Is : Sheet → ℕ �
   pub tree : Is sheet v
 
 -- ---- a node whose fields name two operands, one operand, a variable and a body
--- (symbolic: the symbol of an operator; made: the operands are expressions or formulas; build: the node's tree)
-module _ (sheet : Sheet) (v : ℕ) (node : Node) {O S T : Type 0} (symbolic : O → Symbol) (made : S → Tree) where
-  pub record TwoAt (build : O → S → S → T) (t : T) : Type 0 where
-    pub it : O
-    pub symbol : symbol_of node.kind ≡ symbolic it
+-- (o: its operator; made: the operands are expressions or formulas; build: the node's tree)
+module _ (sheet : Sheet) (v : ℕ) (node : Node) {O S T : Type 0} (made : S → Tree) where
+  pub record TwoAt (build : O → S → S → T) (o : O) (t : T) : Type 0 where
     pub lower_a : node.a < v
     pub lower_b : node.b < v
     pub left : IsTree made sheet node.a
     pub right : IsTree made sheet node.b
-    pub is : t ≡ build it left.it right.it
+    pub is : t ≡ build o left.it right.it
 
-  pub record OneAt (build : O → S → T) (t : T) : Type 0 where
-    pub it : O
-    pub symbol : symbol_of node.kind ≡ symbolic it
+  pub record OneAt (build : O → S → T) (o : O) (t : T) : Type 0 where
     pub lower_a : node.a < v
     pub left : IsTree made sheet node.a
-    pub is : t ≡ build it left.it
+    pub is : t ≡ build o left.it
 
-  pub record BodyAt (build : O → ℕ → S → T) (t : T) : Type 0 where
-    pub it : O
-    pub symbol : symbol_of node.kind ≡ symbolic it
+  pub record BodyAt (build : O → ℕ → S → T) (o : O) (t : T) : Type 0 where
     pub names : node.a < 4
     pub lower_b : node.b < v
     pub body : IsTree made sheet node.b
-    pub is : t ≡ build it node.a body.it
+    pub is : t ≡ build o node.a body.it
 
 -- ---- expressions and formulas among trees
 pub record Grown {S : Type 0} (made : S → Tree) (x : Tree) (grow : S → Tree) (t : Tree) : Type 0 where
@@ -145,18 +140,16 @@ module _ {T : Type 0} {to : T → Tree} {from : Tree → (T → Tree) → Tree} 
         → Grown made (before sheet v x) grow (to tree.it)
     grows_from x grow p = operands.grows (before sheet v x) grow (to tree.it) (family.whole tree.it) p
 
-    module _ {O : Type 0} (symbolic : O → Symbol) (o : O) (q : symbol_of (kind sheet v) ≡ symbolic o) where
+    module _ {O : Type 0} (o : O) where
       pub two_at : (build : O → S → S → T) → ltb (field_a sheet v) v ≡ true → ltb (field_b sheet v) v ≡ true
           → with (before sheet v (field_a sheet v)) (λ d. with (before sheet v (field_b sheet v)) λ e. to (build o d e)) ≡ to tree.it
-          → TwoAt sheet v (node_at sheet.nodes v) symbolic made build tree.it
+          → TwoAt sheet v (node_at sheet.nodes v) made build o tree.it
       two_at build a b p =
           let lower_a = ltb-true (field_a sheet v) v a in
           let lower_b = ltb-true (field_b sheet v) v b in
           let t = grows_from (field_a sheet v) _ p in
           let u = grows_from (field_b sheet v) _ t.grown in
           record {
-            it = o;
-            symbol = q;
             lower_a = lower_a;
             lower_b = lower_b;
             left = record { it = t.it; is = is-before lower_a t.is };
@@ -166,23 +159,21 @@ module _ {T : Type 0} {to : T → Tree} {from : Tree → (T → Tree) → Tree} 
 
       pub one_at : (build : O → S → T) → ltb (field_a sheet v) v ≡ true
           → with (before sheet v (field_a sheet v)) (λ d. to (build o d)) ≡ to tree.it
-          → OneAt sheet v (node_at sheet.nodes v) symbolic made build tree.it
+          → OneAt sheet v (node_at sheet.nodes v) made build o tree.it
       one_at build a p =
           let lower_a = ltb-true (field_a sheet v) v a in
           let t = grows_from (field_a sheet v) _ p in
           let left : IsTree made sheet (field_a sheet v) = record { it = t.it; is = is-before lower_a t.is } in
-          record { it = o; symbol = q; lower_a = lower_a; left = left; is = family.same t.grown }
+          record { lower_a = lower_a; left = left; is = family.same t.grown }
 
       pub body_at : (build : O → ℕ → S → T) → ltb (field_a sheet v) (variable_count sheet) ≡ true → ltb (field_b sheet v) v ≡ true
           → with (before sheet v (field_b sheet v)) (λ d. to (build o (field_a sheet v) d)) ≡ to tree.it
-          → BodyAt sheet v (node_at sheet.nodes v) symbolic made build tree.it
+          → BodyAt sheet v (node_at sheet.nodes v) made build o tree.it
       body_at build a b p =
           let named = ltb-true (field_a sheet v) (variable_count sheet) a in
           let lower_b = ltb-true (field_b sheet v) v b in
           let t = grows_from (field_b sheet v) _ p in
           record {
-            it = o;
-            symbol = q;
             names = omega (arith, fine.counts.few_variables);
             lower_b = lower_b;
             body = record { it = t.it; is = is-before lower_b t.is };

@@ -1,62 +1,51 @@
-// A node of the sheet, and what the walk does there.
+// A node of the sheet: what its kind stands for, and its two fields.
 ghost use Rattle.std.specs.Prelude.{◌≡◌, ◌≤◌, ◌<◌};
 ghost use Rattle.sheet_rules.specs.Blocks.{sheet_of};
-ghost use Rattle.nodes.specs.Nodes.{expression_form, formula_form, node_at};
+ghost use Rattle.relational.specs.Trees.{symbol_of};
+ghost use Rattle.nodes.specs.Nodes.{node_at};
 
 use cells::Sheet;
-use kinds::{Rule, rule_of};
+use relational::{Binary, Comparison, Connective, Leaf, Quantifier, Symbol, Test, Unary};
 use sheet::bytes::field;
-
-// The kinds of expressions that the walk treats alike.
-#[derive(Clone, Copy)]
-pub enum ExpressionForm {
-    Leaf,
-    Binary,
-    Unary,
-    Comprehension,
-}
-
-// And those of formulas.
-#[derive(Clone, Copy)]
-pub enum FormulaForm {
-    Comparison,
-    Test,
-    Negation,
-    Connective,
-    Quantifier,
-}
 
 #[derive(Clone, Copy)]
 pub struct Node {
-    pub expression: ExpressionForm,
-    pub formula: FormulaForm,
-    pub kind: usize,
+    pub symbol: Symbol,
     pub a: usize,
     pub b: usize,
 }
 
-// The form of an expression's node; of any other node it says nothing.
-fn expression_form(rule: Rule) -> ExpressionForm
-    ensures { result ≡ expression_form rule }
+// What a kind stands for.
+#[tactic(auto, unfolding(relational::specs::Trees::symbol_of))]
+fn symbol_of(kind: usize) -> Symbol
+    ensures { result ≡ symbol_of kind }
 {
-    match rule {
-        Rule::Same | Rule::Join | Rule::Product => ExpressionForm::Binary,
-        Rule::Inverse | Rule::Closure => ExpressionForm::Unary,
-        Rule::Comprehension => ExpressionForm::Comprehension,
-        _ => ExpressionForm::Leaf,
-    }
-}
-
-// The form of a formula's node; of any other node it says nothing.
-fn formula_form(rule: Rule) -> FormulaForm
-    ensures { result ≡ formula_form rule }
-{
-    match rule {
-        Rule::Comparison => FormulaForm::Comparison,
-        Rule::Test => FormulaForm::Test,
-        Rule::Connective => FormulaForm::Connective,
-        Rule::Quantifier => FormulaForm::Quantifier,
-        _ => FormulaForm::Negation,
+    match kind {
+        1 => Symbol::Leaf(Leaf::Relation),
+        2 => Symbol::Leaf(Leaf::Variable),
+        3 => Symbol::Leaf(Leaf::Atoms),
+        4 => Symbol::Leaf(Leaf::Identity),
+        5 => Symbol::Binary(Binary::Union),
+        6 => Symbol::Binary(Binary::Intersection),
+        7 => Symbol::Binary(Binary::Difference),
+        8 => Symbol::Binary(Binary::Join),
+        9 => Symbol::Binary(Binary::Product),
+        10 => Symbol::Unary(Unary::Inverse),
+        11 => Symbol::Unary(Unary::Closure),
+        12 => Symbol::Comprehension,
+        20 => Symbol::Comparison(Comparison::Equal),
+        21 => Symbol::Comparison(Comparison::Within),
+        22 => Symbol::Test(Test::Some),
+        23 => Symbol::Test(Test::None),
+        24 => Symbol::Test(Test::Lone),
+        30 => Symbol::Negation,
+        31 => Symbol::Connective(Connective::Conjunction),
+        32 => Symbol::Connective(Connective::Disjunction),
+        33 => Symbol::Connective(Connective::Implication),
+        34 => Symbol::Connective(Connective::Equivalence),
+        40 => Symbol::Quantifier(Quantifier::All),
+        41 => Symbol::Quantifier(Quantifier::Some),
+        _ => Symbol::Unknown,
     }
 }
 
@@ -66,15 +55,9 @@ pub fn read_node(sheet: &Sheet, v: usize) -> Node
     ensures { (result ≡ node_at (sheet_of sheet.now.bytes.now).nodes v) × (result.a < 256) }
 {
     let nodes = sheet.nodes();
-    let kind = field(nodes, 3, v, 0);
-    let a = field(nodes, 3, v, 1);
-    let b = field(nodes, 3, v, 2);
-    let rule = rule_of(kind);
     Node {
-        expression: expression_form(rule),
-        formula: formula_form(rule),
-        kind,
-        a,
-        b,
+        symbol: symbol_of(field(nodes, 3, v, 0)),
+        a: field(nodes, 3, v, 1),
+        b: field(nodes, 3, v, 2),
     }
 }

@@ -3,4 +3,5 @@
 
 pub mod environments; // environments.rt: the atoms that the variables stand for
 pub mod forms; // forms.rt: a node, and its form
+pub mod matrix; // matrix.rt: a matrix of flags or literals
 pub mod sizes; // sizes.rt: sizes of matrices

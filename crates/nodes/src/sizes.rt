@@ -15,11 +15,10 @@ pub fn rounds(n: usize) -> usize
     requires { n ≤ 8 }
     ensures { result ≡ matrices.rounds n }
 {
-    let mut power: usize = 1;
-    let mut k: usize = 0;
-    while power < n {
-        power = 2 * power;
-        k += 1;
+    for k in 0..n {
+        if n <= 1 << k {
+            return k;
+        }
     }
-    k
+    n
 }

@@ -1,4 +1,3 @@
 mod CallByCall
 mod TakenUp
 mod AtOnce
-mod Ends

@@ -8,9 +8,10 @@ ghost use Rattle.onward.specs.Limits.{most_steps};
 ghost use Rattle.onward.specs.Private.{Begun, SomeBegun};
 
 use super::calls::go_on;
-use clauses::answer::{Count, Size};
+use clauses::answer::Size;
 use clauses::count;
-use search::answer::Search;
+use refusal::Refusal;
+use search::answer::{End, Ended};
 use solve::read_back;
 use std::io::Stderr;
 
@@ -23,7 +24,7 @@ fn run_on(
     trail: &mut [i32],
     instance: &mut [u8],
     errors: Stderr,
-) -> Search
+) -> Result<Ended, Refusal>
     requires sheet_value { count_answer sheet.now ≡ fits size.variables size.clauses size.words }
     requires some_begun { SomeBegun sheet.now (slices list.now values.old trail.old instance.old) }
     ensures { (lent : Slices)
@@ -34,13 +35,13 @@ fn run_on(
 {
     let v = size.variables;
     let w = size.words;
-    let ended = go_on(&list[..w], v as u32, values, trail, errors);
-    let answer = ended.answer;
-    if let Search::Found(_) = answer {
-        read_back(sheet, &values[..v], instance);
-        return answer;
+    let run = go_on(&list[..w], v as u32, values, trail, errors);
+    let ended = run.answer?;
+    if let End::Found = ended.end {
+        let _ = read_back(sheet, &values[..v], instance);
+        return Ok(ended);
     }
-    answer
+    Ok(ended)
 }
 
 // Counting, and the search of a sheet of which a call with no steps was spent.
@@ -51,7 +52,7 @@ pub(crate) fn take_up(
     trail: &mut [i32],
     instance: &mut [u8],
     errors: Stderr,
-) -> Search
+) -> Result<Ended, Refusal>
     requires { SomeBegun sheet.now (slices list.now values.old trail.old instance.old) }
     ensures { (lent : Slices)
         → Begun sheet.now lent
@@ -59,9 +60,6 @@ pub(crate) fn take_up(
         → Left sheet.now lent most_steps (answer_of result)
         (slices list.now values.new trail.new instance.new) }
 {
-    let counted = count(sheet);
-    match counted {
-        Count::Refused(r) => Search::Refused(r),
-        Count::Fits(size) => run_on(sheet, size, list, values, trail, instance, errors),
-    }
+    let size = count(sheet)?;
+    run_on(sheet, size, list, values, trail, instance, errors)
 }

@@ -7,7 +7,7 @@ ghost use Rattle.onward.specs.Limits.{most_steps};
 
 use super::shown::{end_line, show};
 use report::finder::step_figure;
-use search::answer::{Position, Resumed, Search};
+use search::answer::{End, Ended, Position, Resumed};
 use search::resumed;
 use std::io::Stderr;
 
@@ -39,7 +39,7 @@ pub(crate) fn go_on(
     while left > 0 {
         let call = resumed(list, v, values, trail, position, STEPS);
         let answer = call.answer;
-        if let Search::Spent(steps) = answer {
+        if let Ok(Ended { end: End::Spent, steps }) = answer {
             position = call.position;
             show(step_figure(steps), errors);
         } else {

@@ -12,8 +12,9 @@ ghost use Rattle.onward.specs.Limits.{most_steps};
 
 use begun::take_up;
 use cells::MOST_CELLS;
+use refusal::Refusal;
 use report::finder::put_report;
-use search::answer::Search;
+use search::answer::{End, Ended};
 use solve::find;
 use std::io::Stderr;
 use text::put_end;
@@ -31,7 +32,7 @@ pub fn find_on(
     trail: &mut [i32],
     instance: &mut [u8],
     errors: Stderr,
-) -> Search
+) -> Result<Ended, Refusal>
     ensures result_value { answer_of result
         ≡ (finding sheet.now
         (slices list.old values.old trail.old instance.old) most_steps).answer }
@@ -42,11 +43,11 @@ pub fn find_on(
         (slices list.old values.old trail.old instance.old) most_steps
         (answer_of result) (slices list.new values.new trail.new instance.new) }
 {
-    let begun = find(sheet, list, values, trail, instance, 0);
-    if let Search::Spent(_) = begun {
+    let begun = find(sheet, list, values, trail, instance, 0)?;
+    if let End::Spent = begun.end {
         return take_up(sheet, list, values, trail, instance, errors);
     }
-    begun
+    Ok(begun)
 }
 
 // Reads the input as a sheet, and writes to the front of the text what the finder prints, of a search that is taken up until it ends. What

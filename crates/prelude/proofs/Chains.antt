@@ -5,7 +5,9 @@ use mathlib.Core.List.{List, [], ◌∷◌}
 use Prim.Native.Nat.{ℕ, zero, suc, ◌+◌}
 use native.Mathlib.Omega.{arith}
 use Rattle.std.specs.List.{list_all, list_any, range_with_len}
+use lib.ListN.{length, get_or}
 use Rattle.prelude.specs.Tests.{all, any, each}
+use Rattle.prelude.proofs.Laws.{each_at, each_of, all-at, all_of}
 
 pub all-is : {A : Type 0} (p : A → Bool) (xs : List A) → list_all p xs ≡ all p xs
 unfolding all
@@ -33,3 +35,16 @@ module _ (p : ℕ → Bool) where
   unfolding each
   each-is zero = refl
   each-is (suc n) = last_one 0 n ∙ ap (λ k. list_all p (range_with_len 0 n) && p k) (omega arith) ∙ ap (λ b. b && p n) (each-is n)
+
+-- a test of each element, by its place
+pub all-each : {A : Type 0} (p : A → Bool) (d : A) (xs : List A) → list_all p xs ≡ each (length xs) (λ k. p (get_or xs k d))
+all-each p d xs =
+    all-is p xs
+    ∙ same_test (all p xs) (each (length xs) (λ k. p (get_or xs k d)))
+    (λ e. each_of (λ k. p (get_or xs k d)) (length xs) (λ k h. all-at p xs e k d h))
+    (λ e. all_of p xs d (each_at (λ k. p (get_or xs k d)) (length xs) e))
+  where
+    same_test : (a b : Bool) → (a ≡ true → b ≡ true) → (b ≡ true → a ≡ true) → a ≡ b
+    same_test true b f g = sym (f refl)
+    same_test false true f g = g refl
+    same_test false false f g = refl

@@ -8,7 +8,10 @@ use native.Mathlib.Omega.{arith}
 use lib.Dec.{eqb}
 use lib.ListN.{get_or}
 use Rattle.sheet_rules.specs.Blocks.{Sheet, byte, scope, is_bounded, sort_of, columns, first_sort, second_sort}
-use Rattle.relational.specs.Trees.{relation, variable, atoms, identity, union, intersection, difference}
+use Rattle.relational.specs.declared.Leaf.TheVariants.{Relation as relation, Variable as variable, Atoms as atoms}
+use Rattle.relational.specs.declared.Leaf.TheVariants.{Identity as identity}
+use Rattle.relational.specs.declared.Binary.TheVariants.{Union as union, Intersection as intersection}
+use Rattle.relational.specs.declared.Binary.TheVariants.{Difference as difference}
 use Rattle.relational.specs.Cells.{row_length, member_cell, first_cell, cell}
 use Rattle.relational.specs.Meaning.{Tuple, one, two, Tuples, Environment, Combined, CanBe, IsAtom, Given}
 use Rattle.relational.specs.Meaning.{Denoted}

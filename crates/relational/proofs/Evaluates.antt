@@ -8,7 +8,9 @@ use native.Mathlib.Decide.{ℕ_discrete}
 use borrow.Author.Tests.{eq-eqb, ne_eqb}
 use Rattle.shapes.specs.declared.Shape.{Shape}
 use Rattle.sheet_rules.specs.Blocks.{Sheet, scope, variable_count, sort_of}
-use Rattle.relational.specs.Trees.{atoms, intersection, Expression, comprehension, Formula}
+use Rattle.relational.specs.Trees.{Expression, comprehension, Formula}
+use Rattle.relational.specs.declared.Leaf.TheVariants.{Atoms as atoms}
+use Rattle.relational.specs.declared.Binary.TheVariants.{Intersection as intersection}
 use Rattle.relational.specs.Meaning.{Tuple, one, two, Environment, bind, Combined, CanBe, Denoted, Member, Holds}
 use Rattle.relational.specs.Evaluation.{value_of, truth_of}
 use Rattle.relational.proofs.Flags.{Is, is-not}

@@ -5,13 +5,26 @@ use mathlib.Core.Logic.{inl, inr, ⊎_elim, ◌↔◌}
 use mathlib.Core.List.{List}
 use Prim.Native.Nat.{ℕ}
 use Rattle.sheet_rules.specs.Blocks.{Sheet, four_blocks, sort_of, multiplicity, first_sort}
-use Rattle.relational.specs.Trees.{Leaf, relation, variable, atoms, identity, Binary, union, intersection}
-use Rattle.relational.specs.Trees.{difference, join, product, Unary, inverse, closure, Comparison, equal}
-use Rattle.relational.specs.Trees.{within, Test, some, none, lone, Connective, conjunction, disjunction}
-use Rattle.relational.specs.Trees.{implication, equivalence, Quantifier, for-all, for_some, Expression, leaf}
-use Rattle.relational.specs.Trees.{binary, unary, comprehension, Formula, comparison, test, negation}
-use Rattle.relational.specs.Trees.{connective, quantified, Tree, expression, formula, broken, tree_step}
+use Rattle.relational.specs.Trees.{Expression, leaf, binary, unary, comprehension, Formula, comparison, test}
+use Rattle.relational.specs.Trees.{negation, connective, quantified, Tree, expression, formula, broken, tree_step}
 use Rattle.relational.specs.Trees.{root_tree}
+use Rattle.relational.specs.declared.Leaf.{Leaf}
+use Rattle.relational.specs.declared.Binary.{Binary}
+use Rattle.relational.specs.declared.Unary.{Unary}
+use Rattle.relational.specs.declared.Comparison.{Comparison}
+use Rattle.relational.specs.declared.Test.{Test}
+use Rattle.relational.specs.declared.Connective.{Connective}
+use Rattle.relational.specs.declared.Quantifier.{Quantifier}
+use Rattle.relational.specs.declared.Leaf.TheVariants.{Relation as relation, Variable as variable, Atoms as atoms}
+use Rattle.relational.specs.declared.Leaf.TheVariants.{Identity as identity}
+use Rattle.relational.specs.declared.Binary.TheVariants.{Union as union, Intersection as intersection}
+use Rattle.relational.specs.declared.Binary.TheVariants.{Difference as difference, Join as join, Product as product}
+use Rattle.relational.specs.declared.Unary.TheVariants.{Inverse as inverse, Closure as closure}
+use Rattle.relational.specs.declared.Comparison.TheVariants.{Equal as equal, Within as within}
+use Rattle.relational.specs.declared.Test.TheVariants.{Some as some, None as none, Lone as lone}
+use Rattle.relational.specs.declared.Connective.TheVariants.{Conjunction as conjunction, Disjunction as disjunction}
+use Rattle.relational.specs.declared.Connective.TheVariants.{Implication as implication, Equivalence as equivalence}
+use Rattle.relational.specs.declared.Quantifier.TheVariants.{All as for-all, Some as for_some}
 use Rattle.relational.specs.Meaning.{Atom, Tuple, one, two, Tuples, Environment, bind, Combined, Converted}
 use Rattle.relational.specs.Meaning.{Compared, Tested, Connected, Quantified, IsAtom, Given, Denoted, Member}
 use Rattle.relational.specs.Meaning.{Holds, Marks, OfAtoms, IsTrue, Satisfies}

@@ -7,8 +7,16 @@ use Prim.Native.Nat.{ℕ, zero, suc, ◌<◌}
 use native.Mathlib.Omega.{arith}
 use lib.ListN.{get_or, length}
 use Rattle.prelude.specs.Tests.{all}
-use Rattle.relational.specs.Trees.{intersection, Comparison, equal, within, Test, some, none, lone, Connective}
-use Rattle.relational.specs.Trees.{conjunction, disjunction, implication, equivalence, Quantifier, for-all, for_some}
+use Rattle.relational.specs.declared.Comparison.{Comparison}
+use Rattle.relational.specs.declared.Test.{Test}
+use Rattle.relational.specs.declared.Connective.{Connective}
+use Rattle.relational.specs.declared.Quantifier.{Quantifier}
+use Rattle.relational.specs.declared.Binary.TheVariants.{Intersection as intersection}
+use Rattle.relational.specs.declared.Comparison.TheVariants.{Equal as equal, Within as within}
+use Rattle.relational.specs.declared.Test.TheVariants.{Some as some, None as none, Lone as lone}
+use Rattle.relational.specs.declared.Connective.TheVariants.{Conjunction as conjunction, Disjunction as disjunction}
+use Rattle.relational.specs.declared.Connective.TheVariants.{Implication as implication, Equivalence as equivalence}
+use Rattle.relational.specs.declared.Quantifier.TheVariants.{All as for-all, Some as for_some}
 use Rattle.relational.specs.Meaning.{Atom, Tuple, one, two, Tuples, Combined, Compared, Tested, Connected}
 use Rattle.relational.specs.Meaning.{Quantified}
 use Rattle.relational.specs.Matrices.{upto, Matrix, set_of, matched}

@@ -3,12 +3,24 @@
 use Rattle.std.specs.Prelude.{Bool, true, false, not, ◌&&◌, ◌||◌, cond, List, [], ◌∷◌, map, ℕ, zero, suc, eqb, leb}
 use Rattle.prelude.specs.Tests.{each, all, any}
 use Rattle.sheet_rules.specs.Blocks.{Sheet, byte, scope, sort_of, relation_count, multiplicity, first_sort, second_sort}
-use Rattle.relational.specs.Trees.{Leaf, atoms, Binary, union, intersection, difference, join, product, Unary}
-use Rattle.relational.specs.Trees.{inverse, closure, Comparison, equal, within, Test, some, none, lone}
-use Rattle.relational.specs.Trees.{Connective, conjunction, disjunction, implication, equivalence, Quantifier}
-use Rattle.relational.specs.Trees.{for-all, for_some, Expression, leaf, binary, unary, comprehension, Formula}
-use Rattle.relational.specs.Trees.{comparison, test, negation, connective, quantified, Tree, expression, formula}
-use Rattle.relational.specs.Trees.{broken, root_tree}
+use Rattle.relational.specs.Trees.{Expression, leaf, binary, unary, comprehension, Formula, comparison, test}
+use Rattle.relational.specs.Trees.{negation, connective, quantified, Tree, expression, formula, broken, root_tree}
+use Rattle.relational.specs.declared.Leaf.{Leaf}
+use Rattle.relational.specs.declared.Binary.{Binary}
+use Rattle.relational.specs.declared.Unary.{Unary}
+use Rattle.relational.specs.declared.Comparison.{Comparison}
+use Rattle.relational.specs.declared.Test.{Test}
+use Rattle.relational.specs.declared.Connective.{Connective}
+use Rattle.relational.specs.declared.Quantifier.{Quantifier}
+use Rattle.relational.specs.declared.Leaf.TheVariants.{Atoms as atoms}
+use Rattle.relational.specs.declared.Binary.TheVariants.{Union as union, Intersection as intersection}
+use Rattle.relational.specs.declared.Binary.TheVariants.{Difference as difference, Join as join, Product as product}
+use Rattle.relational.specs.declared.Unary.TheVariants.{Inverse as inverse, Closure as closure}
+use Rattle.relational.specs.declared.Comparison.TheVariants.{Equal as equal, Within as within}
+use Rattle.relational.specs.declared.Test.TheVariants.{Some as some, None as none, Lone as lone}
+use Rattle.relational.specs.declared.Connective.TheVariants.{Conjunction as conjunction, Disjunction as disjunction}
+use Rattle.relational.specs.declared.Connective.TheVariants.{Implication as implication, Equivalence as equivalence}
+use Rattle.relational.specs.declared.Quantifier.TheVariants.{All as for-all, Some as for_some}
 use Rattle.relational.specs.Cells.{is_set, row_count, row_length, cell}
 use Rattle.relational.specs.Meaning.{Environment, bind}
 use Rattle.relational.specs.Matrices.{from, upto, rounds, Matrix, set_of, member, leaf_matrix, same_size, join_places}

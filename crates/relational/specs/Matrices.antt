@@ -3,7 +3,9 @@
 -- Document 01: "An expression is a set of sort S or a relation from S to T; matrices have rows and columns by atom."
 use Rattle.std.specs.Prelude.{Bool, true, false, cond, List, [], ◌∷◌, ◌++◌, map, ℕ, zero, suc, ◌+◌, ◌*◌, ◌^◌, eqb, leb, get_or}
 use Rattle.sheet_rules.specs.Blocks.{Sheet, scope, is_bounded, sort_of, columns}
-use Rattle.relational.specs.Trees.{Leaf, relation, variable, atoms, identity}
+use Rattle.relational.specs.declared.Leaf.{Leaf}
+use Rattle.relational.specs.declared.Leaf.TheVariants.{Relation as relation, Variable as variable, Atoms as atoms}
+use Rattle.relational.specs.declared.Leaf.TheVariants.{Identity as identity}
 use Rattle.relational.specs.Cells.{row_count, row_length, cells_of, member_cell, first_cell}
 use Rattle.relational.specs.Meaning.{Environment}
 

@@ -3,12 +3,25 @@
 use Rattle.std.specs.Prelude.{◌≡◌, ◌⊎◌, ◌↔◌, true, cond, List, ℕ, zero, suc, ◌<◌, eqb}
 use Rattle.sheet_rules.specs.Blocks.{Sheet, byte, scope, is_bounded, sort_of, relation_count, columns, multiplicity}
 use Rattle.sheet_rules.specs.Blocks.{first_sort, second_sort}
-use Rattle.relational.specs.Trees.{Leaf, relation, variable, atoms, identity, Binary, union, intersection}
-use Rattle.relational.specs.Trees.{difference, join, product, Unary, inverse, closure, Comparison, equal, within}
-use Rattle.relational.specs.Trees.{Test, some, none, lone, Connective, conjunction, disjunction, implication}
-use Rattle.relational.specs.Trees.{equivalence, Quantifier, for-all, for_some, Expression, leaf, binary, unary}
-use Rattle.relational.specs.Trees.{comprehension, Formula, comparison, test, negation, connective, quantified}
-use Rattle.relational.specs.Trees.{Tree, expression, formula, broken, root_tree}
+use Rattle.relational.specs.Trees.{Expression, leaf, binary, unary, comprehension, Formula, comparison, test}
+use Rattle.relational.specs.Trees.{negation, connective, quantified, Tree, expression, formula, broken, root_tree}
+use Rattle.relational.specs.declared.Leaf.{Leaf}
+use Rattle.relational.specs.declared.Binary.{Binary}
+use Rattle.relational.specs.declared.Unary.{Unary}
+use Rattle.relational.specs.declared.Comparison.{Comparison}
+use Rattle.relational.specs.declared.Test.{Test}
+use Rattle.relational.specs.declared.Connective.{Connective}
+use Rattle.relational.specs.declared.Quantifier.{Quantifier}
+use Rattle.relational.specs.declared.Leaf.TheVariants.{Relation as relation, Variable as variable, Atoms as atoms}
+use Rattle.relational.specs.declared.Leaf.TheVariants.{Identity as identity}
+use Rattle.relational.specs.declared.Binary.TheVariants.{Union as union, Intersection as intersection}
+use Rattle.relational.specs.declared.Binary.TheVariants.{Difference as difference, Join as join, Product as product}
+use Rattle.relational.specs.declared.Unary.TheVariants.{Inverse as inverse, Closure as closure}
+use Rattle.relational.specs.declared.Comparison.TheVariants.{Equal as equal, Within as within}
+use Rattle.relational.specs.declared.Test.TheVariants.{Some as some, None as none, Lone as lone}
+use Rattle.relational.specs.declared.Connective.TheVariants.{Conjunction as conjunction, Disjunction as disjunction}
+use Rattle.relational.specs.declared.Connective.TheVariants.{Implication as implication, Equivalence as equivalence}
+use Rattle.relational.specs.declared.Quantifier.TheVariants.{All as for-all, Some as for_some}
 use Rattle.relational.specs.Cells.{member_cell, cell, has_cells}
 
 -- "Every expression in Alloy denotes a relation, i.e. a set of tuples of atoms." Here a tuple has one atom (in a set)

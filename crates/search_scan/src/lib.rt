@@ -1,13 +1,14 @@
 // What the values say of a literal and of the clause list.
 #![tactic(auto)]
 
-ghost use Rattle.std.specs.Prelude.{◌≡◌, ◌≤◌, length};
+ghost use Rattle.std.specs.Prelude.{◌≡◌, [], ◌∷◌, ◌≤◌, length};
+ghost use Rattle.prelude.specs.Tests.{all};
 ghost use Rattle.clause_list.specs.ClauseList.{clauses_of};
 ghost use Rattle.literal.specs.Words.{last_variable};
-ghost use Rattle.search_rules.specs.Rules.{literal};
+ghost use Rattle.search_rules.specs.Rules.{is_falsified, literal};
 ghost use Rattle.search_rules.specs.Held.{InRange};
-ghost use Rattle.search_rules.specs.Inner.{Fine};
-ghost use Rattle.search_scan.specs.Seen.{truth_code, seen_as, seen};
+ghost use Rattle.search_rules.specs.Inner.{AllIn, Fine};
+ghost use Rattle.search_scan.specs.Seen.{test_of, joined, seen_as, seen};
 
 // What a look over the clauses shows.
 #[derive(Clone, Copy)]
@@ -17,64 +18,90 @@ pub enum Seen {
     Neither,
 }
 
-// What the values say of a literal: 0 false, 1 true, 2 open.
-fn truth(values: &[u8], l: i32) -> u8
+// What the values say of a literal; none where its variable is open.
+fn truth(values: &[u8], l: i32) -> Option<bool>
     requires in_range { InRange (length values.now) l }
     requires values_len_bound { length values.now ≤ last_variable }
-    ensures { result ≡ truth_code (literal values.now l) }
+    ensures { result ≡ test_of (literal values.now l) }
 {
     let at = literal::place(l);
     let x = values[at];
     if x == 2 {
-        return 2;
+        return None;
     }
-    if literal::is_positive(l) {
-        if x == 1 { 1 } else { 0 }
-    } else {
-        if x == 1 { 0 } else { 1 }
+    Some((x == 1) == literal::is_positive(l))
+}
+
+// What one clause shows. It is left at a true literal, and at a second open one that is another.
+fn scan_clause(clause: &[i32], values: &[u8]) -> Seen
+    requires in_range { AllIn (length values.now) clause.now }
+    requires values_len_bound { length values.now ≤ last_variable }
+    ensures { seen_as result ≡ seen values.now (clause.now ∷ []) }
+{
+    let mut open = None;
+    for l in clause {
+        match truth(values, *l) {
+            Some(true) => return Seen::Neither,
+            Some(false) => {}
+            None => {
+                if open.unwrap_or(*l) != *l {
+                    return Seen::Neither;
+                }
+                open = Some(*l);
+            }
+        }
+    }
+    match open {
+        Some(l) => Seen::UnitClause(l),
+        None => Seen::Conflict,
     }
 }
 
+// Whether each literal of a clause is false.
+fn are_false(clause: &[i32], values: &[u8]) -> bool
+    requires in_range { AllIn (length values.now) clause.now }
+    requires values_len_bound { length values.now ≤ last_variable }
+    ensures { result ≡ all (λ l. is_falsified (literal values.now l)) clause.now }
+{
+    for l in clause {
+        if truth(values, *l).unwrap_or(true) {
+            return false;
+        }
+    }
+    true
+}
+
+// What is seen so far, with one clause more: behind a unit clause only a conflict counts.
+fn with_clause(so_far: Seen, clause: &[i32], values: &[u8]) -> Seen
+    requires in_range { AllIn (length values.now) clause.now }
+    requires values_len_bound { length values.now ≤ last_variable }
+    ensures { seen_as result ≡ joined (seen_as so_far) (seen values.now (clause.now ∷ [])) }
+{
+    if let Seen::Neither = so_far {
+        return scan_clause(clause, values);
+    }
+    if are_false(clause, values) {
+        return Seen::Conflict;
+    }
+    so_far
+}
+
 // One pass: a clause with only false literals anywhere, else the first clause with no true literal whose open literals are all
-// the same. A clause is left at a true literal, and as soon as it can be neither.
+// the same.
 pub fn scan(list: &[i32], values: &[u8]) -> Seen
     requires fine { Fine (length values.now) list.now }
     requires values_len_bound { length values.now ≤ last_variable }
     ensures { seen_as result ≡ seen values.now (clauses_of list.now) }
 {
-    let mut at: usize = 0;
-    let mut unit: i32 = 0;
-    'clauses: while at < list.len() {
-        let head = list[at];
-        let count = literal::known_count(head);
-        let mut i = at + 1;
-        at = i + count;
-        let mut open: i32 = 0;
-        while i < at {
-            let l = list[i];
-            let t = truth(values, l);
-            if t == 1 {
-                continue 'clauses;
-            }
-            if t == 2 {
-                if unit != 0 {
-                    continue 'clauses;
-                }
-                if open == 0 {
-                    open = l;
-                } else if open != l {
-                    continue 'clauses;
-                }
-            }
-            i += 1;
+    let mut so_far = Seen::Neither;
+    let mut rest = list;
+    while let Some((head, tail)) = rest.split_first() {
+        let (clause, after) = tail.split_at(literal::known_count(*head));
+        so_far = with_clause(so_far, clause, values);
+        if let Seen::Conflict = so_far {
+            return so_far;
         }
-        if open == 0 {
-            return Seen::Conflict;
-        }
-        unit = open;
+        rest = after;
     }
-    if unit == 0 {
-        return Seen::Neither;
-    }
-    Seen::UnitClause(unit)
+    so_far
 }

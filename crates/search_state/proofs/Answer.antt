@@ -2,12 +2,10 @@
 use mathlib.Core.Path.{◌≡◌, refl, sym, ap}
 use mathlib.Core.Bool.{Bool, true, false, not, ◌||◌}
 use mathlib.Core.List.{List}
-use Prim.Native.Nat.{ℕ, ◌-◌, ◌≤◌, ◌<◌}
-use native.Mathlib.Omega.{arith}
+use Prim.Native.Nat.{ℕ, ◌≤◌, ◌<◌}
 use lib.IntN.{ℤ, pos}
 use lib.Dec.{eqb, ltb}
-use lib.ListN.{length, get_or, take, drop, length-drop}
-use lib.Seq.{take_all}
+use lib.ListN.{length, get_or, take, drop}
 use borrow.Author.Tests.{lt-ltb, le-ltb}
 use Rattle.prelude.specs.Tests.{each, any}
 use Rattle.prelude.proofs.Laws.{or_left, or_right, each-cong}
@@ -59,5 +57,5 @@ module _ (values : List ℕ) (trail : List ℤ) (n : ℕ) where
     set-outside e = rw (left, e)
 
     pub by-words : each (length values) (settled values seen) ≡ true
-        → not (any (λ w. not (same_literal w (pos 0))) (take (length trail - n) (drop n trail))) ≡ not (no_state (length values) values trail n)
-    by-words e = rw (left, e, take_all (length trail - n) (drop n trail) (simp length-drop (omega arith)))
+        → not (any (λ w. not (same_literal w (pos 0))) (drop n trail)) ≡ not (no_state (length values) values trail n)
+    by-words e = rw (left, e) refl

@@ -1,6 +1,6 @@
 -- Literals against each other and against the byte of their variable.
-use mathlib.Core.Path.{◌≡◌, refl, ap, ◌∙◌}
-use mathlib.Core.Bool.{true, false, ◌||◌}
+use mathlib.Core.Path.{◌≡◌, refl, sym, ap, ◌∙◌}
+use mathlib.Core.Bool.{Bool, true, false, ◌||◌}
 use Prim.Native.Nat.{ℕ, zero, suc, min, ◌-◌, ◌≤◌}
 use native.Mathlib.Numerals.{sub-one}
 use native.Mathlib.Omega.{arith}
@@ -8,7 +8,7 @@ use lib.Dec.{eqb}
 use lib.IntN.{ℤ, pos, negsuc, nat_abs}
 use mir.Syntax.{w32}
 use mir.Val.{SFits, of_z}
-use borrow.Author.Tests.{eq-eqb, eqb-true, ltb-false}
+use borrow.Author.Tests.{eq-eqb, eqb-true, eqb-false, ltb-false}
 use Rattle.prelude.proofs.Laws.{clash}
 use Rattle.literal.specs.Literals.{is_literal}
 use Rattle.literal.specs.Words.{is_positive, last_variable}
@@ -66,9 +66,11 @@ module _ (z l : ℤ) (b : ℕ) (e : z ≡ l) where
 pub is_within : (v : ℕ) (z l : ℤ) → v ≤ 16000 → z ≡ l → is_literal (min v last_variable) z ≡ is_literal v l
 is_within v z l h e = ap (is_literal (min v last_variable)) e ∙ within-words v l (omega arith)
 
--- `w != 0` compares the bits
-pub zero_word : (w : ℤ) → SFits w32 w → of_z w32 w ≡ 0 → same_literal w (pos 0) ≡ true
-zero_word w f e = same_refl w (pos 0) (same_word w (pos 0) f (record { sfits = omega arith }) e)
-
-pub other_word : (w : ℤ) → (of_z w32 w ≡ 0 → ⊥) → same_literal w (pos 0) ≡ false
-other_word w h = bool_false (same_literal w (pos 0)) (λ e. h (ap (of_z w32) (same_true w (pos 0) e)))
+-- `w == 0` compares the bits
+pub zero-word : (w : ℤ) → SFits w32 w → eqb (of_z w32 w) 0 ≡ same_literal w (pos 0)
+zero-word w f = by (eqb (of_z w32 w) 0) refl
+  where
+    by : (b : Bool) → eqb (of_z w32 w) 0 ≡ b → b ≡ same_literal w (pos 0)
+    by true e = sym (same_refl w (pos 0) (same_word w (pos 0) f (record { sfits = omega arith }) (eqb-true (of_z w32 w) 0 e)))
+    by false e =
+        sym (bool_false (same_literal w (pos 0)) (λ h. eqb-false (of_z w32 w) 0 e (ap (of_z w32) (same_true w (pos 0) h))))

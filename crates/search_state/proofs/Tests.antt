@@ -1,15 +1,19 @@
 -- Tests over a list and over its first elements.
-use mathlib.Core.Path.{◌≡◌, refl, ◌∙◌}
-use mathlib.Core.Bool.{Bool, true, false}
+use mathlib.Core.Path.{◌≡◌, refl, sym, ◌∙◌}
+use mathlib.Core.Bool.{Bool, true, false, not, ◌&&◌, ◌||◌, false≢true}
 use mathlib.Core.List.{List, [], ◌∷◌, ◌++◌}
-use Prim.Native.Nat.{ℕ, zero, suc, ◌+◌, ◌<◌}
+use Prim.Native.Nat.{ℕ, zero, suc, ◌+◌, ◌<◌, ◌≤◌}
 use native.Mathlib.Nat.{not-suc-le-zero, le_of_suc-le-suc}
 use native.Mathlib.Numerals.{add-one}
+use native.Mathlib.Omega.{arith}
+use lib.Dec.{eqb}
 use lib.ListN.{length, get_or, take}
 use lib.Seq.{take-suc}
-use borrow.Author.Tests.{eq-eqb, ne_eqb}
-use Rattle.prelude.specs.Tests.{each, any}
-use Rattle.prelude.proofs.Laws.{clash, and_both, or_left, or_right, or-rest, any_append, each_at}
+use Rattle.std.specs.List.{list_all, zip}
+use Rattle.std.proofs.lemmas.Slice.Zip.{length-zip, get_or-zip}
+use Rattle.prelude.specs.Tests.{each, all, any}
+use Rattle.prelude.proofs.Chains.{all-is}
+use Rattle.prelude.proofs.Laws.{clash, any_append, all-at, all_of, each_at, each_of}
 use Rattle.search_rules.proofs.Booleans.{or-false, bool_false}
 use Rattle.search_state.specs.Inner.{settled}
 
@@ -31,14 +35,15 @@ module _ {A : Type 0} (p : A → Bool) where
       let b = or-false (q x) (any q xs) e in
       rw (bool_false (p x) (λ d. clash (q x) (h x d) b.0)) (any-weaker q xs h b.1)
 
-module _ (p : ℕ → Bool) where
-  -- one number more, and a number that fails
-  pub each_more : (n : ℕ) → each n p ≡ true → p n ≡ true → each (n + 1) p ≡ true
-  unfolding each
-  each_more n e f = rw (add-one n) (and_both (each n p) (p n) e f)
+-- each element passes where none fails
+passes : (a b c : Bool) → b ≡ not c → a && b ≡ not (not a || c)
+passes true b c e = e
+passes false b c e = refl
 
-  pub each-not : (n i : ℕ) → i < n → p i ≡ false → each n p ≡ false
-  each-not n i h f = bool_false (each n p) (λ e. clash (p i) (each_at p n e i h) f)
+pub all-pass : {A : Type 0} (p : A → Bool) (xs : List A) → list_all p xs ≡ not (any (λ x. not (p x)) xs)
+unfolding any
+all-pass p [] = refl
+all-pass p (x ∷ xs) = passes (p x) (list_all p xs) (any (λ x. not (p x)) xs) (all-pass p xs)
 
 -- an element that is there, by any default
 pub get_d_any : {A : Type 0} (xs : List A) (i : ℕ) (d e : A) → i < length xs → get_or xs i d ≡ get_or xs i e
@@ -46,13 +51,27 @@ get_d_any [] i d e h = absurd (not-suc-le-zero h)
 get_d_any (x ∷ xs) zero d e h = refl
 get_d_any (x ∷ xs) (suc i) d e h = get_d_any xs i d e (le_of_suc-le-suc h)
 
--- the test of `open_outside` at one place: a mark, an open value, or neither
-module _ (values : List ℕ) (seen : List Bool) (i : ℕ) (h : i < length values) where
-  pub marked-settled : get_or seen i false ≡ true → settled values seen i ≡ true
-  marked-settled e = or_left (get_or seen i false) _ e
+-- two tests that pass together
+same-test : (a b : Bool) → (a ≡ true → b ≡ true) → (b ≡ true → a ≡ true) → a ≡ b
+same-test true b f g = sym (f refl)
+same-test false b f g = sym (bool_false b (λ e. false≢true (g e)))
 
-  pub open-settled : get_or values i 0 ≡ 2 → settled values seen i ≡ true
-  open-settled e = or_right (get_or seen i false) _ (eq-eqb (get_or values i 2) 2 (get_d_any values i 2 0 h ∙ e))
+-- the test of `open_outside`: a mark or an open value
+pub all-settled : (values : List ℕ) (seen : List Bool) → length values ≤ length seen
+    → list_all (λ p. p.1 || eqb p.0 2) (zip values seen) ≡ each (length values) (settled values seen)
+all-settled values seen h =
+    all-is test pairs ∙ same-test (all test pairs) (each (length values) (settled values seen))
+    (λ e. each_of (settled values seen) (length values)
+    (λ i l. rw (at i l) at (all-at test pairs e i (2, false) (omega (arith, length-zip values seen)))))
+    (λ e. all_of test pairs (2, false)
+    (λ i l. let m : i < length values = omega (arith, length-zip values seen) in
+    rw (at i m) (each_at (settled values seen) (length values) e i m)))
+  where
+    test : ℕ × Bool → Bool
+    test p = p.1 || eqb p.0 2
 
-  pub not-settled : get_or seen i false ≡ false → (get_or values i 0 ≡ 2 → ⊥) → settled values seen i ≡ false
-  not-settled e n = or-rest (get_or seen i false) _ e ∙ ne_eqb (get_or values i 2) 2 (λ d. n (get_d_any values i 0 2 h ∙ d))
+    pairs : List (ℕ × Bool)
+    pairs = zip values seen
+
+    at : (i : ℕ) → i < length values → get_or (zip values seen) i (2, false) ≡ (get_or values i 2, get_or seen i false)
+    at i l = get_or-zip values seen i (2, false) l (omega arith)

@@ -1,12 +1,17 @@
 -- An array that is filled with a table, entry by entry.
-use mathlib.Core.Path.{◌≡◌, ap, ◌∙◌}
+use mathlib.Core.Path.{◌≡◌, sym, ap, ◌∙◌}
+use mathlib.Core.Bool.{Bool}
 use mathlib.Core.List.{List}
 use Prim.Native.Nat.{ℕ, suc, ◌+◌, ◌<◌, ◌≤◌}
 use native.Mathlib.Omega.{arith}
 use native.Mathlib.Numerals.{add-one}
 use native.Mathlib.Decide.{ℕ_discrete, dec_lt}
-use lib.ListN.{length, get_or, set, replicate, length-replicate, get_or-replicate, get_or-eq_default}
-use lib.Seq.{get_or-set_same, get_or-set_other}
+use lib.ListN.{length, get_or, set, take, replicate, length-replicate, get_or-replicate, get_or-eq_default}
+use lib.Seq.{get_or-set_same, get_or-set_other, length-take-le}
+use Rattle.std.proofs.lemmas.List.{get_or-take}
+use Rattle.prelude.specs.Tests.{all, each}
+use Rattle.prelude.proofs.Laws.{each-cong}
+use Rattle.prelude.proofs.Chains.{all-is, all-each}
 use Rattle.sheet_rules.specs.Tables.{table}
 use Rattle.sheet.specs.Filling.{Fills}
 use Rattle.sheet_rules.proofs.TableLaws.{table-length, table-old, table-new}
@@ -36,3 +41,12 @@ module _ {A B : Type 0} (f : A → B) (d : A) (step : ℕ → List A → A) wher
       go i (no p) (no l) =
           rw (get_or-set_other array v i z (f d) p, get-past (table step (suc v)) d i (omega (arith, table-length step (suc v))))
           (e.at i ∙ ap f (get-past (table step v) d i (omega (arith, table-length step v))))
+
+-- what is asked of the front of the array is asked of the table
+pub filled_all : {A : Type 0} (p : A → Bool) (d : A) (n : ℕ) (entries array : List A) → Fills (λ x. x) d entries array → n ≤ length array
+    → all p (take n array) ≡ each n (λ i. p (get_or entries i d))
+filled_all p d n entries array f h =
+    sym (all-is p (take n array))
+    ∙ all-each p d (take n array)
+    ∙ ap (λ (k : ℕ). each k (λ i. p (get_or (take n array) i d))) (length-take-le n array h)
+    ∙ each-cong _ _ n (λ i l. ap p (get_or-take n array i d l ∙ f.at i))

@@ -42,7 +42,3 @@ pub capped-visits : (row : Row) (atoms p q : ℕ) → capped (visits_by row atom
 capped-visits row atoms p q =
     rw (cond-capped (is_node row.a) p, cond-capped (is_node row.b) q)
     (capped-sum (cond (is_node row.a) p 0) (cond (is_node row.b) q 0) (cond (is_variable row.a) atoms 1))
-
--- no sum of visits leaves 64 bits
-pub product-fits : (times right : ℕ) → times ≤ 255 → right ≤ 1000001 → times * right ≤ 255000255
-product-fits times right t r = omega (arith, mul-le-mul_right right t)

@@ -3,17 +3,11 @@ ghost use Rattle.std.specs.Prelude.{◌≡◌, ◌+◌, ◌*◌, ◌<◌, ◌≤
 ghost use Rattle.sheet_rules.specs.Blocks as blocks;
 ghost use Rattle.sheet.specs.Filling.{scope_in};
 
-fn wide(x: u8) -> usize
-    ensures { result ≡ x }
-{
-    x as usize
-}
-
 // The byte at i; past the end it counts as 0.
 pub fn byte(s: &[u8], i: usize) -> usize
     ensures { (result ≡ blocks.byte s.now i) × (result < 256) }
 {
-    if i < s.len() { wide(s[i]) } else { 0 }
+    s.get(i).map_or(0, |b| usize::from(*b))
 }
 
 // Byte k of record i of a block whose records have so many bytes.

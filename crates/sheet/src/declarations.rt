@@ -5,33 +5,23 @@ ghost use Rattle.sheet_rules.specs.Blocks as blocks;
 ghost use Rattle.sheet_rules.specs.Reading.{relation_declared};
 ghost use Rattle.sheet.specs.Filling.{scope_in};
 
-use super::bytes::{byte, field, scope_at};
-use prelude::{both, choose, within};
+use super::bytes::{field, scope_at};
 
 // Number 4: each scope, or upper limit, is one of 1 to 8.
 pub(crate) fn scopes_fine(sorts: &[u8]) -> bool
     ensures { result ≡ each (length sorts.now) (λ k. between 1 8 (scope_in sorts.now k)) }
 {
-    let mut fine = true;
-    let mut k: usize = 0;
-    while k < sorts.len() {
-        fine = both(fine, within(1, 8, scope_at(sorts, k)));
-        k += 1;
-    }
-    fine
+    (0..sorts.len()).all(|k| {
+        let scope = scope_at(sorts, k);
+        1 <= scope && scope <= 8
+    })
 }
 
 // Number 5, of variables: each one's sort is there.
 pub(crate) fn variables_fine(variables: &[u8], sorts: usize) -> bool
     ensures { result ≡ each (length variables.now) (λ x. ltb (blocks.byte variables.now x) sorts) }
 {
-    let mut fine = true;
-    let mut x: usize = 0;
-    while x < variables.len() {
-        fine = both(fine, byte(variables, x) < sorts);
-        x += 1;
-    }
-    fine
+    variables.iter().all(|sort| usize::from(*sort) < sorts)
 }
 
 // A set's last byte is 0, a relation's second sort is there; columns, mark and first sort.
@@ -44,11 +34,12 @@ fn relation_fine(relations: &[u8], sorts: usize, r: usize) -> bool
     let mark = field(relations, 4, r, 1);
     let first = field(relations, 4, r, 2);
     let second = field(relations, 4, r, 3);
-    let last = choose(columns == 1, second == 0, second < sorts);
-    both(
-        within(1, 2, columns),
-        both(mark <= 2, both(first < sorts, last)),
-    )
+    let last = if columns == 1 {
+        second == 0
+    } else {
+        second < sorts
+    };
+    1 <= columns && columns <= 2 && mark <= 2 && first < sorts && last
 }
 
 // Number 5, of relations.
@@ -57,12 +48,5 @@ pub(crate) fn relations_fine(relations: &[u8], sorts: usize) -> bool
     ensures { (sheet : blocks.Sheet) → sheet.relations ≡ relations.now → length sheet.sorts ≡ sorts
         → result ≡ each (blocks.relation_count sheet) (relation_declared sheet) }
 {
-    let count = relations.len() / 4;
-    let mut fine = true;
-    let mut r: usize = 0;
-    while r < count {
-        fine = both(fine, relation_fine(relations, sorts, r));
-        r += 1;
-    }
-    fine
+    (0..relations.len() / 4).all(|r| relation_fine(relations, sorts, r))
 }

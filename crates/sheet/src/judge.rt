@@ -5,11 +5,9 @@ ghost use Rattle.sheet_rules.specs.Blocks as blocks;
 ghost use Rattle.sheet_rules.specs.Reading as spec;
 ghost use Rattle.sheet.specs.Answers.{answer_of};
 
-use super::answer::Reading;
 use super::declarations::{relations_fine, scopes_fine, variables_fine};
 use super::nodes::nodes_fine;
-use super::tables::{all_shaped, closed, count_at, shape_at, shapes_of, visits_of};
-use prelude::{both, within};
+use super::tables::{all_shaped, closed, shapes_of, visits_of};
 use refusal::Refusal;
 use shapes::is_formula;
 use sheet_rules::{Block, Layout};
@@ -17,19 +15,19 @@ use sheet_rules::{Block, Layout};
 fn is_whole(relations: usize, nodes: usize) -> bool
     ensures { result ≡ (eqb (relations % 4) 0 && eqb (nodes % 3) 0) }
 {
-    both(relations % 4 == 0, nodes % 3 == 0)
+    relations % 4 == 0 && nodes % 3 == 0
 }
 
 fn is_counted(sorts: usize, variables: usize, relations: usize, nodes: usize) -> bool
     ensures { result ≡ (between 1 8 sorts && (leb variables 4 && (between 1 16 relations && between 1 200 nodes))) }
 {
-    both(
-        within(1, 8, sorts),
-        both(
-            variables <= 4,
-            both(within(1, 16, relations), within(1, 200, nodes)),
-        ),
-    )
+    1 <= sorts
+        && sorts <= 8
+        && variables <= 4
+        && 1 <= relations
+        && relations <= 16
+        && 1 <= nodes
+        && nodes <= 200
 }
 
 // Where each block stands, from the lengths of those before it.
@@ -62,29 +60,31 @@ fn layout(sorts: usize, variables: usize, relations: usize, nodes: usize) -> Lay
 }
 
 // Numbers 7 to 9, over blocks whose declarations and nodes are right.
-fn judge_walk(sorts: &[u8], variables: &[u8], relations: &[u8], nodes: &[u8]) -> Reading
-    requires { (length sorts.now ≤ 8) × (length variables.now ≤ 4) × (length relations.now ≤ 100) × (1 ≤ length nodes.now / 3)
-        × (length nodes.now / 3 ≤ 200) }
+fn judge_walk(
+    sorts: &[u8],
+    variables: &[u8],
+    relations: &[u8],
+    nodes: &[u8],
+) -> Result<Layout, Refusal>
+    requires { (length sorts.now ≤ 8) × (length variables.now ≤ 4) × (length relations.now ≤ 100)
+        × (1 ≤ length nodes.now / 3) × (length nodes.now / 3 ≤ 200) }
     ensures { answer_of result ≡ spec.walk_judged
         (blocks.four_blocks sorts.now variables.now relations.now nodes.now) }
 {
     let count = nodes.len() / 3;
     let root = count - 1;
     let shapes = shapes_of(variables, relations, nodes);
-    if !all_shaped(shapes, count) {
-        return Reading::Refused(Refusal::Shape);
+    if !all_shaped(&shapes[..count]) {
+        return Err(Refusal::Shape);
     }
-    if !both(
-        is_formula(shape_at(shapes, root)),
-        closed(nodes, variables.len()),
-    ) {
-        return Reading::Refused(Refusal::Root);
+    if !is_formula(shapes[root]) || !closed(nodes, variables.len()) {
+        return Err(Refusal::Root);
     }
     let visits = visits_of(sorts, variables, nodes);
-    if count_at(visits, root) > 1000000 {
-        return Reading::Refused(Refusal::Walk);
+    if visits[root] > 1000000 {
+        return Err(Refusal::Walk);
     }
-    Reading::Accepted(layout(sorts.len(), variables.len(), relations.len(), nodes.len()))
+    Ok(layout(sorts.len(), variables.len(), relations.len(), nodes.len()))
 }
 
 // Numbers 2 (whole records) to 9.
@@ -93,7 +93,7 @@ pub(crate) fn judge_blocks(
     variables: &[u8],
     relations: &[u8],
     nodes: &[u8],
-) -> Reading
+) -> Result<Layout, Refusal>
     ensures { answer_of result ≡ spec.whole_judged
         (blocks.four_blocks sorts.now variables.now relations.now nodes.now) }
 {
@@ -102,22 +102,19 @@ pub(crate) fn judge_blocks(
     let relation_count = relations.len() / 4;
     let node_count = nodes.len() / 3;
     if !is_whole(relations.len(), nodes.len()) {
-        return Reading::Refused(Refusal::Length);
+        return Err(Refusal::Length);
     }
     if !is_counted(sort_count, variable_count, relation_count, node_count) {
-        return Reading::Refused(Refusal::Count);
+        return Err(Refusal::Count);
     }
     if !scopes_fine(sorts) {
-        return Reading::Refused(Refusal::Scope);
+        return Err(Refusal::Scope);
     }
-    if !both(
-        variables_fine(variables, sort_count),
-        relations_fine(relations, sort_count),
-    ) {
-        return Reading::Refused(Refusal::Declaration);
+    if !variables_fine(variables, sort_count) || !relations_fine(relations, sort_count) {
+        return Err(Refusal::Declaration);
     }
     if !nodes_fine(nodes, sort_count, variable_count, relation_count) {
-        return Reading::Refused(Refusal::Node);
+        return Err(Refusal::Node);
     }
     judge_walk(sorts, variables, relations, nodes)
 }

@@ -4,33 +4,41 @@ ghost use Rattle.prelude.specs.Tests.{each};
 ghost use Rattle.sheet_rules.specs.Blocks as blocks;
 ghost use Rattle.sheet_rules.specs.Tables as tables;
 ghost use Rattle.sheet_rules.specs.Reading.{field_fine, node_fine};
+ghost use Rattle.sheet.specs.Nodes.{node_of};
 
 use super::bytes::field;
-use kinds::{Field, is_known, row_of};
-use prelude::both;
+use kinds::{Field, Row, is_known, row_of};
+
+// A node: its kind's row, and its two fields.
+#[derive(Clone, Copy)]
+pub(crate) struct Node {
+    pub row: Row,
+    pub a: usize,
+    pub b: usize,
+}
+
+pub(crate) fn node_at(nodes: &[u8], v: usize) -> Node
+    requires { v ≤ 200 }
+    ensures reads { (sheet : blocks.Sheet) → sheet.nodes ≡ nodes.now → result ≡ node_of sheet v }
+    ensures a_bound { result.a < 256 }
+{
+    Node {
+        row: row_of(field(nodes, 3, v, 0)),
+        a: field(nodes, 3, v, 1),
+        b: field(nodes, 3, v, 2),
+    }
+}
 
 pub(crate) fn is_node(f: Field) -> bool
     ensures { result ≡ tables.is_node f }
 {
-    match f {
-        Field::Unused => false,
-        Field::Node => true,
-        Field::Relation => false,
-        Field::Variable => false,
-        Field::Sort => false,
-    }
+    matches!(f, Field::Node)
 }
 
 pub(crate) fn is_variable(f: Field) -> bool
     ensures { result ≡ tables.is_variable f }
 {
-    match f {
-        Field::Unused => false,
-        Field::Node => false,
-        Field::Relation => false,
-        Field::Variable => true,
-        Field::Sort => false,
-    }
+    matches!(f, Field::Variable)
 }
 
 // Field x of node v: what it names is there, a node is lower, an unused field is 0.
@@ -57,15 +65,13 @@ fn field_fine(
 fn node_fine(nodes: &[u8], sorts: usize, variables: usize, relations: usize, v: usize) -> bool
     requires { v ≤ 200 }
     ensures { (sheet : blocks.Sheet) → sheet.nodes ≡ nodes.now → blocks.sort_count sheet ≡ sorts
-        → blocks.variable_count sheet ≡ variables → blocks.relation_count sheet ≡ relations → result ≡ node_fine sheet v }
+        → blocks.variable_count sheet ≡ variables → blocks.relation_count sheet ≡ relations
+        → result ≡ node_fine sheet v }
 {
-    let row = row_of(field(nodes, 3, v, 0));
-    let a = row.a;
-    let b = row.b;
-    let rule = row.rule;
-    let fine_a = field_fine(a, sorts, variables, relations, v, field(nodes, 3, v, 1));
-    let fine_b = field_fine(b, sorts, variables, relations, v, field(nodes, 3, v, 2));
-    both(is_known(rule), both(fine_a, fine_b))
+    let node = node_at(nodes, v);
+    is_known(node.row.rule)
+        && field_fine(node.row.a, sorts, variables, relations, v, node.a)
+        && field_fine(node.row.b, sorts, variables, relations, v, node.b)
 }
 
 // Number 6.
@@ -75,12 +81,5 @@ pub(crate) fn nodes_fine(nodes: &[u8], sorts: usize, variables: usize, relations
         → blocks.variable_count sheet ≡ variables → blocks.relation_count sheet ≡ relations
         → result ≡ each (blocks.node_count sheet) (node_fine sheet) }
 {
-    let count = nodes.len() / 3;
-    let mut fine = true;
-    let mut v: usize = 0;
-    while v < count {
-        fine = both(fine, node_fine(nodes, sorts, variables, relations, v));
-        v += 1;
-    }
-    fine
+    (0..nodes.len() / 3).all(|v| node_fine(nodes, sorts, variables, relations, v))
 }

@@ -1,34 +1,24 @@
 // What every node has, each entry made from those of the nodes before it: shapes, free variables, visits.
-ghost use Rattle.std.specs.Prelude.{◌≡◌, not, false, cond, ℕ, ◌+◌, ◌*◌, ◌<◌, ◌≤◌, ◌/◌, length, get_or};
-ghost use Rattle.prelude.specs.Tests.{each};
+ghost use Rattle.std.specs.Prelude.{◌≡◌, not, false, ℕ, ◌+◌, ◌*◌, ◌<◌, ◌≤◌, ◌/◌, length, get_or};
+ghost use Rattle.prelude.specs.Tests.{each, all};
 ghost use Rattle.sheet_rules.specs.Blocks as blocks;
 ghost use Rattle.sheet_rules.specs.Tables as spec;
 ghost use Rattle.shapes.specs.Shapes.{is_shaped};
 ghost use Rattle.sheet.specs.Filling.{Fills, capped as cap};
 
 use super::bytes::{byte, field, scope_at};
-use super::nodes::{is_node, is_variable};
-use kinds::{Row, row_of};
-use prelude::{both, choose, either};
+use super::nodes::{is_node, is_variable, node_at};
+use kinds::Row;
 use shapes::{Shape, is_shaped, shape_by, shape_of};
 
-// The entry of node i, of a table that is not filled there yet: the neutral one.
-pub(crate) fn shape_at(shapes: [Shape; 200], i: usize) -> Shape
-    ensures { result ≡ get_or shapes i Shape.Ill }
-{
-    if i < 200 { shapes[i] } else { Shape::Ill }
-}
+// Stands for every larger number of visits.
+const MANY_VISITS: u64 = 1_000_001;
 
-pub(crate) fn flag_at(flags: [bool; 200], i: usize) -> bool
-    ensures { result ≡ get_or flags i false }
+// The entry of node i, or that of a table that is not filled there yet.
+fn entry_at<T: Copy>(table: &[T], i: usize, none: T) -> T
+    ensures { result ≡ get_or table.now i none }
 {
-    if i < 200 { flags[i] } else { false }
-}
-
-pub(crate) fn count_at(counts: [u64; 200], i: usize) -> u64
-    ensures { result ≡ get_or counts i 0 }
-{
-    if i < 200 { counts[i] } else { 0 }
+    table.get(i).copied().unwrap_or(none)
 }
 
 fn declared_shape(relations: &[u8], r: usize) -> Shape
@@ -42,30 +32,19 @@ fn declared_shape(relations: &[u8], r: usize) -> Shape
     )
 }
 
-fn node_shape(
-    variables: &[u8],
-    relations: &[u8],
-    nodes: &[u8],
-    shapes: [Shape; 200],
-    v: usize,
-) -> Shape
+fn node_shape(variables: &[u8], relations: &[u8], nodes: &[u8], shapes: &[Shape], v: usize) -> Shape
     requires { v ≤ 200 }
     ensures { (sheet : blocks.Sheet) → sheet.variables ≡ variables.now → sheet.relations ≡ relations.now
-        → sheet.nodes ≡ nodes.now → result ≡ spec.shape_step sheet v shapes }
+        → sheet.nodes ≡ nodes.now → result ≡ spec.shape_step sheet v shapes.now }
 {
-    let row = row_of(field(nodes, 3, v, 0));
-    let rule = row.rule;
-    let a = field(nodes, 3, v, 1);
-    let b = field(nodes, 3, v, 2);
-    let x = shape_at(shapes, a);
-    let y = shape_at(shapes, b);
+    let node = node_at(nodes, v);
     shape_by(
-        rule,
-        a,
-        declared_shape(relations, a),
-        byte(variables, a),
-        x,
-        y,
+        node.row.rule,
+        node.a,
+        declared_shape(relations, node.a),
+        byte(variables, node.a),
+        entry_at(shapes, node.a, Shape::Ill),
+        entry_at(shapes, node.b, Shape::Ill),
     )
 }
 
@@ -75,37 +54,36 @@ pub(crate) fn shapes_of(variables: &[u8], relations: &[u8], nodes: &[u8]) -> [Sh
     ensures { (sheet : blocks.Sheet) → sheet.variables ≡ variables.now → sheet.relations ≡ relations.now
         → sheet.nodes ≡ nodes.now → Fills (λ x. x) Shape.Ill (spec.shapes sheet) result }
 {
-    let count = nodes.len() / 3;
     let mut shapes = [Shape::Ill; 200];
-    let mut v: usize = 0;
-    while v < count {
-        shapes[v] = node_shape(variables, relations, nodes, shapes, v);
-        v += 1;
+    for v in 0..nodes.len() / 3 {
+        shapes[v] = node_shape(variables, relations, nodes, &shapes, v);
     }
     shapes
 }
 
-// Number 7: each of the first n nodes has a shape.
-pub(crate) fn all_shaped(shapes: [Shape; 200], n: usize) -> bool
-    ensures { result ≡ each n (λ v. is_shaped (get_or shapes v Shape.Ill)) }
+// Number 7: each node has a shape.
+pub(crate) fn all_shaped(shapes: &[Shape]) -> bool
+    ensures { result ≡ all is_shaped shapes.now }
 {
-    let mut fine = true;
-    let mut v: usize = 0;
-    while v < n {
-        fine = both(fine, is_shaped(shape_at(shapes, v)));
-        v += 1;
-    }
-    fine
+    shapes.iter().all(|shape| is_shaped(*shape))
 }
 
 fn free_by(x: usize, row: Row, a: usize, p: bool, q: bool) -> bool
     ensures { result ≡ spec.free_by x row a p q }
 {
-    let field_a = row.a;
-    let field_b = row.b;
-    let names = both(is_variable(field_a), a == x);
-    let below = choose(is_node(field_b), both(!names, q), names);
-    either(both(is_node(field_a), p), below)
+    let names = is_variable(row.a) && a == x;
+    let below = if is_node(row.b) { !names && q } else { names };
+    is_node(row.a) && p || below
+}
+
+fn node_free(nodes: &[u8], x: usize, free: &[bool], v: usize) -> bool
+    requires { v ≤ 200 }
+    ensures { (sheet : blocks.Sheet) → sheet.nodes ≡ nodes.now → result ≡ spec.free_step sheet x v free.now }
+{
+    let node = node_at(nodes, v);
+    let p = entry_at(free, node.a, false);
+    let q = entry_at(free, node.b, false);
+    free_by(x, node.row, node.a, p, q)
 }
 
 // The nodes in which variable x is free.
@@ -113,19 +91,20 @@ fn free_in(nodes: &[u8], x: usize) -> [bool; 200]
     requires { length nodes.now / 3 ≤ 200 }
     ensures { (sheet : blocks.Sheet) → sheet.nodes ≡ nodes.now → Fills (λ f. f) false (spec.free sheet x) result }
 {
-    let count = nodes.len() / 3;
     let mut free = [false; 200];
-    let mut v: usize = 0;
-    while v < count {
-        let row = row_of(field(nodes, 3, v, 0));
-        let a = field(nodes, 3, v, 1);
-        let b = field(nodes, 3, v, 2);
-        let p = flag_at(free, a);
-        let q = flag_at(free, b);
-        free[v] = free_by(x, row, a, p, q);
-        v += 1;
+    for v in 0..nodes.len() / 3 {
+        free[v] = node_free(nodes, x, &free, v);
     }
     free
+}
+
+fn is_free_in_root(nodes: &[u8], x: usize) -> bool
+    requires { (1 ≤ length nodes.now / 3) × (length nodes.now / 3 ≤ 200) }
+    ensures { (sheet : blocks.Sheet) → sheet.nodes ≡ nodes.now
+        → result ≡ get_or (spec.free sheet x) (blocks.root sheet) false }
+{
+    let root = nodes.len() / 3 - 1;
+    free_in(nodes, x)[root]
 }
 
 // Number 8: no variable is free in the root.
@@ -134,40 +113,29 @@ pub(crate) fn closed(nodes: &[u8], variables: usize) -> bool
     ensures { (sheet : blocks.Sheet) → sheet.nodes ≡ nodes.now
         → result ≡ each variables (λ x. not (get_or (spec.free sheet x) (blocks.root sheet) false)) }
 {
-    let root = nodes.len() / 3 - 1;
-    let mut fine = true;
-    let mut x: usize = 0;
-    while x < variables {
-        let free = free_in(nodes, x);
-        fine = both(fine, !flag_at(free, root));
-        x += 1;
-    }
-    fine
-}
-
-// 1,000,001 stands for every larger number of visits.
-fn capped(n: u64) -> u64
-    ensures { result ≡ cap n }
-{
-    if n <= 1000001 { n } else { 1000001 }
-}
-
-fn pick(test: bool, a: u64, b: u64) -> u64
-    ensures { (result ≡ cond test a b) × ((m : ℕ) → a ≤ m → b ≤ m → result ≤ m) }
-{
-    if test { a } else { b }
+    (0..variables).all(|x| !is_free_in_root(nodes, x))
 }
 
 fn visits_by(row: Row, atoms: u64, p: u64, q: u64) -> u64
     requires { (atoms < 256) × (p ≤ 1000001) × (q ≤ 1000001) }
     ensures { result ≡ cap (spec.visits_by row atoms p q) }
 {
-    let field_a = row.a;
-    let field_b = row.b;
-    let left = pick(is_node(field_a), p, 0);
-    let times = pick(is_variable(field_a), atoms, 1);
-    let right = pick(is_node(field_b), q, 0);
-    capped(1 + left + times * right)
+    let left = if is_node(row.a) { p } else { 0 };
+    let times = if is_variable(row.a) { atoms } else { 1 };
+    let right = if is_node(row.b) { q } else { 0 };
+    (1 + left + times * right).min(MANY_VISITS)
+}
+
+fn node_visits(sorts: &[u8], variables: &[u8], nodes: &[u8], visits: &[u64], v: usize) -> u64
+    requires { (v ≤ 200) × ((i : ℕ) → get_or visits.now i 0 ≤ 1000001) }
+    ensures { (sheet : blocks.Sheet) → sheet.sorts ≡ sorts.now → sheet.variables ≡ variables.now
+        → sheet.nodes ≡ nodes.now → result ≡ cap (spec.visits_step sheet v visits.now) }
+{
+    let node = node_at(nodes, v);
+    let atoms = scope_at(sorts, byte(variables, node.a)) as u64;
+    let p = entry_at(visits, node.a, 0);
+    let q = entry_at(visits, node.b, 0);
+    visits_by(node.row, atoms, p, q)
 }
 
 // The visits of each node's walk, capped.
@@ -176,18 +144,9 @@ pub(crate) fn visits_of(sorts: &[u8], variables: &[u8], nodes: &[u8]) -> [u64; 2
     ensures { (sheet : blocks.Sheet) → sheet.sorts ≡ sorts.now → sheet.variables ≡ variables.now
         → sheet.nodes ≡ nodes.now → Fills cap 0 (spec.visits sheet) result }
 {
-    let count = nodes.len() / 3;
-    let mut visits = [0u64; 200];
-    let mut v: usize = 0;
-    while v < count {
-        let row = row_of(field(nodes, 3, v, 0));
-        let a = field(nodes, 3, v, 1);
-        let b = field(nodes, 3, v, 2);
-        let atoms = scope_at(sorts, byte(variables, a)) as u64;
-        let p = count_at(visits, a);
-        let q = count_at(visits, b);
-        visits[v] = visits_by(row, atoms, p, q);
-        v += 1;
+    let mut visits = [0; 200];
+    for v in 0..nodes.len() / 3 {
+        visits[v] = node_visits(sorts, variables, nodes, &visits, v);
     }
     visits
 }

@@ -1,12 +1,11 @@
 -- Pieces of text put one after the other.
 use mathlib.Core.Path.{◌≡◌, refl, sym, ap, ◌∙◌}
 use mathlib.Core.List.{List, [], ◌∷◌, ◌++◌}
-use Prim.Native.Nat.{ℕ, ◌+◌, ◌≤◌, ◌<◌}
+use Prim.Native.Nat.{ℕ, ◌+◌, ◌≤◌}
 use native.Mathlib.Nat.{add-zero}
-use native.Mathlib.Numerals.{add-one}
 use native.Mathlib.Omega.{arith}
-use lib.ListN.{length, get_or, set, take, drop, length-append}
-use lib.Seq.{drop-cons, length-take-le}
+use lib.ListN.{length, set, take, length-append}
+use lib.Seq.{length-take-le}
 use Rattle.prelude.specs.Stores.{put_all}
 use Rattle.prelude.proofs.Stores.{put-none, put_one, put_then, put_front, length-put}
 use Rattle.text.specs.Texts.{Prints}
@@ -75,13 +74,6 @@ module _ {old whole new : List ℕ} {at end : ℕ} where
 
   pub left-last : {us next : List ℕ} {e : ℕ} → Left old at whole new end us → Put new end us next e → Put old at whole next e
   left-last {us} {next} {e} l p = record { ends = omega (arith, l.ends, p.ends); holds = p.holds ∙ l.holds }
-
--- the next byte of a piece
-pub left-byte : (piece : List ℕ) (i : ℕ) {old whole new : List ℕ} {at end : ℕ} → i < length piece → Left old at whole new end (drop i piece)
-    → Left old at whole (set new end (get_or piece i 0)) (end + 1) (drop (i + 1) piece)
-left-byte piece i {old} {whole} {new} {at} {end} h l =
-    left_as (ap (λ (k : ℕ). drop k piece) (sym (add-one i)))
-    (left-put (left_as (drop-cons piece i 0 h) l) (put_byte new end (get_or piece i 0)))
 
 -- a text that was put to the front of a slice is printed there
 module _ {old new piece : List ℕ} {end : ℕ} (p : Put old 0 piece new end) (h : end ≤ length old) where

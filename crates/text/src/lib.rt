@@ -1,4 +1,5 @@
-// Text in a lent slice: pieces, numbers in decimal, lines. Each function that puts a piece does so where there is room, and answers where it ends.
+// Text in a lent slice: pieces, numbers in decimal, lines. Each function that puts a piece does so where there is room,
+// and answers where it ends.
 #![tactic(auto)]
 
 ghost use Rattle.std.specs.Prelude.{◌≡◌, ◌≤◌, length};
@@ -10,13 +11,8 @@ pub fn put_bytes(text: &mut [u8], at: usize, piece: &[u8]) -> usize
     requires { Room text.old at piece.now }
     ensures { Put text.old at piece.now text.new result }
 {
-    let mut end = at;
-    let mut i = 0;
-    while i < piece.len() {
-        text[end] = piece[i];
-        end += 1;
-        i += 1;
-    }
+    let end = at + piece.len();
+    text[at..end].copy_from_slice(piece);
     end
 }
 
@@ -25,12 +21,12 @@ pub fn put_decimal(text: &mut [u8], at: usize, n: usize) -> usize
     requires { Room text.old at (decimal n) }
     ensures { Put text.old at (decimal n) text.new result }
 {
-    if n <= 9 {
-        text[at] = 48 + n as u8;
-        return at + 1;
-    }
-    let last = put_decimal(text, at, n / 10);
-    text[last] = 48 + (n % 10) as u8;
+    let last = if 9 < n {
+        put_decimal(text, at, n / 10)
+    } else {
+        at
+    };
+    text[last] = b'0' + (n % 10) as u8;
     last + 1
 }
 
@@ -38,13 +34,11 @@ pub fn put_decimal(text: &mut [u8], at: usize, n: usize) -> usize
 pub fn decimal_length(n: usize) -> usize
     ensures { result ≡ length (decimal n) }
 {
-    let mut digits = 1;
-    let mut rest = n;
-    while 9 < rest {
-        rest = rest / 10;
-        digits += 1;
+    if n <= 9 {
+        1
+    } else {
+        decimal_length(n / 10) + 1
     }
-    digits
 }
 
 // Puts a word, a number and the end of the line at the start of the text.

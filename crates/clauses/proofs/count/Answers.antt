@@ -1,9 +1,8 @@
 -- Refused as reading refuses, else by the numbers of the clauses.
-use mathlib.Core.Path.{sym, ap, ◌∙◌}
-use Rattle.sheet.specs.Answers.{answer_of}
-use Rattle.clauses.proofs.Answering.{count-refused}
+use Rattle.std.proofs.Common.{rules}
+use Rattle.clauses.specs.Answers.{count_answer}
 use Rattle.clauses.proofs.count.Goals as goal
 
-pub returns-in-Refused : goal.returns-in-Refused
-returns-in-Refused c =
-    count-refused c.args.sheet.now _ (sym c.read-answer.ensures ∙ ap answer_of c.in-Refused.is)
+pub returns-in_err-layout : goal.returns-in_err-layout
+unfolding count_answer
+returns-in_err-layout c = search rules

@@ -1,13 +1,8 @@
 -- Refused as reading refuses, else written once the count is known.
-use mathlib.Core.Path.{sym, ap, ◌∙◌}
-use Rattle.clauses.proofs.Answering.{count-refused, write-refused}
-use Rattle.sheet.specs.Answers.{answer_of}
+use Rattle.std.proofs.Common.{rules}
+use Rattle.clauses.specs.Answers.{count_answer, write_answer, list_after}
 use Rattle.clauses.proofs.write.Goals as goal
 
-pub returns-in-Refused : goal.returns-in-Refused
-returns-in-Refused c =
-    let e =
-    write-refused c.args.sheet.now c.args.list.now
-    (count-refused c.args.sheet.now _ (sym c.read-answer.ensures ∙ ap answer_of c.in-Refused.is))
-    in
-    record { result_value = e.0; list_after = e.1 }
+pub returns-in_err-layout : goal.returns-in_err-layout
+unfolding count_answer write_answer list_after
+returns-in_err-layout c = record { result_value = search rules; list_after = search rules }

@@ -28,7 +28,7 @@ pub put_clauses-requires : goal.put_clauses-requires
 put_clauses-requires c =
     let input = c.args.input.now in
     let list = c.args.list.now in
-    let e = sym c.write-written.ensures.result_value ∙ ap answer_of c.in-Fits.is in record {
+    let e = sym c.write-written.ensures.result_value ∙ ap answer_of c.in-Ok.is in record {
       words_in_bounds = rw c.write-written.ensures.list_after (written-inside input list _ _ _ e);
       list_value = rw c.write-written.ensures.list_after
           (written_listed input list _ _ _ e (omega (arith, c.told-list)));
@@ -36,33 +36,33 @@ put_clauses-requires c =
           (omega (arith, written-fits input list _ _ _ e (omega (arith, c.told-list)), c.told-text));
     }
 
-pub returns-in-Refused : goal.returns-in-Refused
-returns-in-Refused c =
+pub returns-in-Err : goal.returns-in-Err
+returns-in-Err c =
     let input = c.args.input.now in
     let list = c.args.list.now in
     let h = c.if-input-gt4096.false in
-    let a = ap answer_of (sym c.in-Refused.is) ∙ c.write-written.ensures.result_value in
+    let a = ap answer_of (sym c.in-Err.is) ∙ c.write-written.ensures.result_value in
     let e =
     ap (end_line (bytes_of "refused ")) c.number.ensures
     ∙ ap (λ x. text_as x (sheet_of input)) a
     ∙ sym (short-clauses input list h)
     in
-    let p = put_as e c.put_end-in-Refused.ensures.put in
-    let l : c.put_end-in-Refused.result ≤ length c.args.text.now =
-    omega (arith, c.put_end-in-Refused.ensures.upper_bound)
+    let p = put_as e c.put_end-in-Err.ensures.put in
+    let l : c.put_end-in-Err.result ≤ length c.args.text.now =
+    omega (arith, c.put_end-in-Err.ensures.upper_bound)
     in record {
       upper_bound = counts p l;
       prints = prints p l;
       list_after = c.write-written.ensures.list_after ∙ sym (short-list input list h);
     }
 
-pub returns-in-Fits : goal.returns-in-Fits
-returns-in-Fits c =
+pub returns-in-Ok : goal.returns-in-Ok
+returns-in-Ok c =
     let input = c.args.input.now in
     let list = c.args.list.now in
     let h = c.if-input-gt4096.false in
-    let z = c.in-Fits.size in
-    let a = sym c.write-written.ensures.result_value ∙ ap answer_of c.in-Fits.is in
+    let z = c.in-Ok.size in
+    let a = sym c.write-written.ensures.result_value ∙ ap answer_of c.in-Ok.is in
     let e =
     ap (λ x. text_of z.variables (take z.words x)) c.write-written.ensures.list_after
     ∙ written-text input list _ _ _ a h

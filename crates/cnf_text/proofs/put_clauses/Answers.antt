@@ -21,17 +21,17 @@ returns-in_default c =
 pub slice_bounds-write-end : goal.slice_bounds-write-end
 slice_bounds-write-end c =
     part-inside c.args.size.variables (take c.args.size.words c.args.list.now) c.args.text.now
-    c.requires.list_in_bounds _ (sym c.size-sized.ensures ∙ ap answer_of c.in-Bytes.is)
+    c.requires.list_in_bounds _ (sym c.size-sized.ensures ∙ ap answer_of c.in-Ok.is)
 
 pub slice_bounds-write-end-2 : goal.slice_bounds-write-end-2
 slice_bounds-write-end-2 c =
     sym
     (length-take-le _ _
     (part-inside c.args.size.variables (take c.args.size.words c.args.list.now) c.args.text.now
-    c.requires.list_in_bounds _ (sym c.size-sized.ensures ∙ ap answer_of c.in-Bytes.is)))
+    c.requires.list_in_bounds _ (sym c.size-sized.ensures ∙ ap answer_of c.in-Ok.is)))
 
 pub returns : goal.returns
 returns c =
     rw c.write.ensures.text_after
     (part-printed c.args.size.variables (take c.args.size.words c.args.list.now) c.args.text.now
-    c.requires.list_in_bounds _ (sym c.size-sized.ensures ∙ ap answer_of c.in-Bytes.is))
+    c.requires.list_in_bounds _ (sym c.size-sized.ensures ∙ ap answer_of c.in-Ok.is))

@@ -1,13 +1,7 @@
--- `search_state::mark` meets its contract. Assumes nothing.
-use mathlib.Core.Path.{◌≡◌}
-use Prim.Native.Nat.{◌-◌, ◌≤◌}
-use lib.ListN.{length, take}
+-- The table marks the variables of the literals so far, which have no fault.
+use Rattle.std.proofs.Common.{take}
 use Rattle.search_state.specs.Inner.{Marked}
 use Rattle.search_state.proofs.mark.Given as goal
 
-abbrev pub invariant-loop-k : goal.invariant-loop-k
-invariant-loop-k l =
-    (l.k ≤ length l.literals) × (Marked l.values (take l.k l.literals) l.seen × (length l.seen ≡ length l.initial.seen))
-
-abbrev pub decreases-loop-k : goal.decreases-loop-k
-decreases-loop-k l = length l.literals - l.k
+abbrev pub invariant-loop-l : goal.invariant-loop-l
+invariant-loop-l l = Marked l.values (take l.l-index l.literals) l.seen

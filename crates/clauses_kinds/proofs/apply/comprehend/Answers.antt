@@ -1,7 +1,7 @@
 -- `comprehend` meets its contract: AND with the atoms.
 use mathlib.Core.Path.{ap, refl}
 use Rattle.literal.specs.Literals.{Literal}
-use Rattle.relational.specs.Trees.{intersection}
+use Rattle.relational.specs.declared.Binary.TheVariants.{Intersection as intersection}
 use Rattle.relational.specs.Matrices.{Matrix}
 use Rattle.clauses_rules.specs.Translation.{translate_binary}
 use Rattle.clauses_emission.proofs.Steps.{emits-as}
@@ -10,9 +10,9 @@ use Rattle.clauses_kinds.proofs.apply.comprehend.Goals as goal
 
 pub matched-requires : goal.matched-requires
 matched-requires c =
-    let b = c.requires.bodies in record {
+    let b = c.requires in record {
       bounded = b.bounded;
-      operand = (c.range-atoms.ensures (λ x. 0)).fine _ b.inside;
+      operand = (c.range.ensures (λ x. 0)).fine _ b.inside;
       operand_2 = b.fine;
     }
 
@@ -21,5 +21,5 @@ returns c env =
     let p = c.args.p in
     emits-as
     (ap (λ (m : Matrix Literal). translate_binary intersection m (matrix_of p.matrix) p.tape.next)
-    (c.range-atoms.ensures env).matrix)
+    (c.range.ensures env).matrix)
     refl c.matched.ensures

@@ -9,16 +9,16 @@ use Rattle.clauses_kinds.proofs.apply.quantify_over.Goals as goal
 
 pub quantify-requires : goal.quantify-requires
 quantify-requires c =
-    let b = c.requires.bodies in record {
+    let b = c.requires in record {
       bounded = b.bounded;
-      operand = (c.range-atoms.ensures (λ x. 0)).fine _ b.inside;
+      operand = (c.range.ensures (λ x. 0)).fine _ b.inside;
       operand_2 = b.fine;
     }
 
 pub returns : goal.returns
-returns c env o e =
+returns c env =
     let p = c.args.p in
     emits-as
-    (ap (λ (m : Matrix Literal). translate_quantifier o m (matrix_of p.matrix) p.tape.next)
-    (c.range-atoms.ensures env).matrix)
-    refl (c.quantify.ensures o e)
+    (ap (λ (m : Matrix Literal). translate_quantifier c.args.operator m (matrix_of p.matrix) p.tape.next)
+    (c.range.ensures env).matrix)
+    refl c.quantify.ensures

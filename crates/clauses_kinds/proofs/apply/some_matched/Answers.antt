@@ -1,5 +1,6 @@
 -- `some_matched` meets its contract: the intersection, then some.
-use Rattle.relational.specs.Trees.{intersection, some}
+use Rattle.relational.specs.declared.Binary.TheVariants.{Intersection as intersection}
+use Rattle.relational.specs.declared.Test.TheVariants.{Some as some}
 use Rattle.clauses_rules.specs.Translation.{translate_binary, translate_test}
 use Rattle.clauses_emission.proofs.Steps.{emits-bind}
 use Rattle.clauses_matrix.specs.Matrices.{matrix_of}
@@ -8,9 +9,8 @@ use Rattle.clauses_kinds.proofs.apply.some_matched.Goals as goal
 
 pub returns : goal.returns
 returns c =
-    let s = c.before.before.before.before.before.before.before.before in
-    let p = matrix_of s.args.p in
-    let q = matrix_of s.args.q in
+    let p = matrix_of c.args.p in
+    let q = matrix_of c.args.q in
     emits-bind (translate_binary intersection p q) (λ m. translate_test some m.cells) (regular-binary intersection p q)
-    (λ m. regular-test some m.cells) c.matched-made.ensures
+    (λ m. regular-test some m.cells) c.matched-both.ensures
     c.some.ensures

@@ -1,9 +1,4 @@
--- `unary` meets its contract, kind by kind.
-use Rattle.nodes.proofs.Numbers.{at-inverse, at-closure}
 use Rattle.clauses_kinds.proofs.apply.unary.Goals as goal
 
-pub returns-in-10 : goal.returns-in-10
-returns-in-10 c o s = rw (at-inverse _ c.in-10.is o s) (c.inverse.ensures _)
-
-pub returns-in_default : goal.returns-in_default
-returns-in_default c o s = rw (at-closure _ c.in_default.in_default-own.rest.1 o s) c.closure.ensures
+pub returns-in-Inverse : goal.returns-in-Inverse
+returns-in-Inverse c = rw c.in-Inverse.is (c.inverse.ensures _)

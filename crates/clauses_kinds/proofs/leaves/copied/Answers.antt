@@ -1,7 +1,7 @@
-use Rattle.clauses_kinds.specs.Leaves.{cell_from}
-use native.Mathlib.Omega.{arith}
-use Rattle.clauses_kinds.proofs.Lists.{filled_none}
+use mathlib.Core.Path.{refl, sym}
+use Rattle.clauses_emission.proofs.Ranges.{literal-at}
+use Rattle.clauses_kinds.proofs.Lists.{filled-front}
 use Rattle.clauses_kinds.proofs.leaves.copied.Goals as goal
 
-pub loop-k-init : goal.loop-k-init
-loop-k-init c = (omega arith, filled_none (cell_from c.args.given.now c.args.first))
+pub returns : goal.returns
+returns c = rw c.copy_from_slice.ensures.after (filled-front _ c.args.words.now refl c.requires λ i h. sym (literal-at _ i h))

@@ -1,4 +1,3 @@
--- `range` meets its contract: the atoms of the variable's sort.
 use Rattle.clauses_kinds.proofs.leaves.range.Goals as goal
 
 pub returns : goal.returns

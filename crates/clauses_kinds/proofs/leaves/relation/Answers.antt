@@ -1,50 +1,31 @@
--- `relation` meets its contract.
+use mathlib.Core.Path.{refl}
 use native.Mathlib.Omega.{arith}
 use Rattle.sheet_rules.proofs.Acceptance.{accepted-facts}
-use Rattle.cells.proofs.Layouts.{first-most}
 use Rattle.relational.proofs.Places.{square}
+use Rattle.clauses_emission.specs.Emission.{literals_of}
 use Rattle.clauses_kinds.proofs.LeafMatrices.{relation-from}
+use Rattle.clauses_kinds.proofs.Lists.{part-length, filled-part}
 use Rattle.clauses_kinds.proofs.leaves.relation.Goals as goal
 
-pub bounds-starts-r : goal.bounds-starts-r
-bounds-starts-r c =
-    let p = c.requires in
-    omega (arith, p.located.cells.long, (accepted-facts _ _ p.located.taken).counts.few_relations)
+pub arity-requires : goal.arity-requires
+arity-requires c = omega (arith, (accepted-facts _ _ c.args.source.now.sheet.taken).counts.few_relations)
 
-pub arity-arity-requires : goal.arity-arity-requires
-arity-arity-requires c =
-    let p = c.requires in record {
-      sheet_value = p.located.taken;
-      r_bound = omega (arith, (accepted-facts _ _ p.located.taken).counts.few_relations);
-    }
+pub row_count-requires : goal.row_count-requires
+row_count-requires c = omega (arith, (accepted-facts _ _ c.args.source.now.sheet.taken).counts.few_relations)
 
-pub row_count-rows-requires : goal.row_count-rows-requires
-row_count-rows-requires c =
-    let p = c.requires in record {
-      sheet_value = p.located.taken;
-      r_bound = omega (arith, (accepted-facts _ _ p.located.taken).counts.few_relations);
-    }
+pub row_length-requires : goal.row_length-requires
+row_length-requires c = omega (arith, (accepted-facts _ _ c.args.source.now.sheet.taken).counts.few_relations)
 
-pub row_length-columns-requires : goal.row_length-columns-requires
-row_length-columns-requires c =
-    let p = c.requires in record {
-      sheet_value = p.located.taken;
-      r_bound = omega (arith, (accepted-facts _ _ p.located.taken).counts.few_relations);
-    }
-
-pub copied-cells-requires : goal.copied-cells-requires
-copied-cells-requires c =
-    let s = c.before.before.before.before.before.before.before in
-    let p = s.requires in
-    let f = accepted-facts _ _ p.located.taken in (
-      omega (arith, p.located.cells.first s.args.r p.r_bound, first-most _ f s.args.r, f.counts.few_relations),
-      square c.row_count-rows.ensures.1 c.row_length-columns.ensures.1,
-    )
+pub copied-requires : goal.copied-requires
+copied-requires c =
+    rw (part-length _ _ _ c.relation.ensures, ← c.row_count.ensures.0, ← c.row_length.ensures.0)
+    (square c.row_count.ensures.1 c.row_length.ensures.1)
 
 pub returns : goal.returns
 returns c env =
-    let s = c.before.before.before.before.before.before.before.before in
-    let p = s.requires in
-    relation-from (accepted-facts _ _ p.located.taken) s.args.given.now s.args.r env c.copied-cells.result p.r_bound
-    c.arity-arity.ensures c.row_count-rows.ensures c.row_length-columns.ensures
-    (p.located.cells.first s.args.r p.r_bound) c.copied-cells.ensures
+    let a = c.args in
+    let s = a.source.now in
+    relation-from (accepted-facts _ _ s.sheet.taken) s.given.now a.r env c.copied.result c.requires
+    c.arity.ensures c.row_count.ensures c.row_length.ensures refl
+    (rw (c.row_count.ensures.0, c.row_length.ensures.0)
+    (filled-part _ (literals_of s.given.now) _ c.relation.ensures c.copied.ensures))

@@ -1,5 +1,5 @@
 -- `operators::round` meets its contract.
-use Rattle.relational.specs.Trees.{join, union}
+use Rattle.relational.specs.declared.Binary.TheVariants.{Join as join, Union as union}
 use Rattle.clauses_rules.specs.Translation.{translate_binary}
 use Rattle.clauses_matrix.specs.Matrices.{matrix_of}
 use Rattle.clauses_emission.proofs.Steps.{emits-bind}

@@ -10,8 +10,9 @@ use Rattle.nodes.specs.declared.forms.Node.{Node}
 use Rattle.nodes.specs.Environments.{environment}
 use Rattle.nodes.specs.Nodes.{node_at, tree_at, IsExpression, IsFormula}
 use Rattle.nodes.proofs.Views.{expression-low, formula-low, Reached}
-use Rattle.nodes.proofs.ExpressionViews.{at_leaf, at-binary, at-unary, at-comprehension}
+use Rattle.nodes.proofs.ExpressionViews.{at_leaf, at-binary, at-unary, at-comprehension, expression-symbol}
 use Rattle.nodes.proofs.FormulaViews.{at-comparison, at_test, at-negation, at-connective, at-quantifier}
+use Rattle.nodes.proofs.FormulaViews.{formula-symbol}
 use Rattle.instance_matrix.proofs.Filling.{filled_none}
 use Rattle.instance_matrix.proofs.Results.{gives_as, upto-law}
 use Rattle.instance_evaluation.specs.declared.Instance.{Instance}
@@ -89,6 +90,12 @@ expression-returns-in-Comprehension t c =
     let h = reached IsExpression c.args.self.now c.requires c.read_node-node.ensures in
     comprehension-value h _ _ c.in-Comprehension.is c.bodies-row.ensures (c.comprehend.ensures (environment c.args.env))
 
+pub expression-unreachable-requires : goal.expression-unreachable-requires
+expression-unreachable-requires t c =
+    let h = reached IsExpression c.args.self.now c.requires c.read_node-node.ensures in
+    let d = c.in_default in
+    expression-symbol h d.not-Leaf d.not-Binary d.not-Unary d.not-Comprehension
+
 pub formula-read_node-node-requires : goal.formula-read_node-node-requires
 formula-read_node-node-requires t c = formula-low (facts-of c.args.self.now) c.requires
 
@@ -152,3 +159,9 @@ pub formula-returns-in-Quantifier : goal.formula-returns-in-Quantifier
 formula-returns-in-Quantifier t c =
     let h = reached IsFormula c.args.self.now c.requires c.read_node-node.ensures in
     quantifier-truth h _ _ c.in-Quantifier.is c.bodies-row.ensures (c.quantify_over.ensures (environment c.args.env))
+
+pub formula-unreachable-requires : goal.formula-unreachable-requires
+formula-unreachable-requires t c =
+    let h = reached IsFormula c.args.self.now c.requires c.read_node-node.ensures in
+    let d = c.in_default in
+    formula-symbol h d.not-Comparison d.not-Test d.not-Negation d.not-Connective d.not-Quantifier

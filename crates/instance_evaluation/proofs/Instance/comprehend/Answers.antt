@@ -1,7 +1,7 @@
 -- The intersection with the variable's atoms.
 use mathlib.Core.Path.{◌≡◌, refl, ap}
 use mathlib.Core.Bool.{Bool}
-use Rattle.relational.specs.Trees.{intersection, binary-symbol, symbol_of}
+use Rattle.relational.specs.declared.Binary.TheVariants.{Intersection as intersection}
 use Rattle.relational.specs.Matrices.{Matrix}
 use Rattle.relational.specs.Evaluation.{value_binary}
 use Rattle.instance_matrix.specs.Values.{matrix_of}
@@ -11,12 +11,8 @@ use Rattle.instance_evaluation.proofs.Instance.comprehend.Goals as goal
 pub binary-requires-clause-fine : goal.binary-requires-clause-fine
 binary-requires-clause-fine c = (c.range.ensures (λ x. 0)).fine
 
-six : symbol_of 6 ≡ binary-symbol intersection
-unfolding symbol_of
-six = refl
-
 pub returns : goal.returns
 returns c env =
     gives_as _ _ _
     (ap (λ (m : Matrix Bool). value_binary intersection m (matrix_of c.args.row)) (c.range.ensures env).is)
-    (c.binary.ensures intersection six)
+    c.binary.ensures

@@ -10,6 +10,6 @@ pub quantify-requires-clause-fine : goal.quantify-requires-clause-fine
 quantify-requires-clause-fine c = (c.range.ensures (λ x. 0)).fine
 
 pub returns : goal.returns
-returns c env o e =
-    c.quantify.ensures o e
-    ∙ ap (λ (m : Matrix Bool). truth_quantifier o m (matrix_of c.args.row)) (c.range.ensures env).is
+returns c env =
+    c.quantify.ensures
+    ∙ ap (λ (m : Matrix Bool). truth_quantifier c.args.operator m (matrix_of c.args.row)) (c.range.ensures env).is

@@ -1,45 +1,17 @@
-use mathlib.Core.Path.{◌≡◌, ap, ◌∙◌}
-use Prim.Native.Nat.{ℕ, ◌+◌, ◌*◌}
-use native.Mathlib.Omega.{arith}
-use mathlib.Core.Bool.{Bool, false}
-use lib.ListN.{get_or}
-use mathlib.Core.List.{map}
-use Rattle.prelude.specs.Tests.{any}
-use Rattle.relational.specs.Matrices.{upto}
+use Rattle.std.proofs.Common.{◌≡◌, ℕ, ◌+◌, ◌*◌, Bool, false, get_or, ◌∙◌, refl, rules, tests, arith}
+use Rattle.std.specs.List.{list_any, range_with_len}
+use Rattle.std.proofs.lemmas.Iterator.{YieldsList-from_range}
+use Rattle.std.proofs.lemmas.Iterator.Search.{any_from_yields_List}
 use Rattle.relational.specs.Evaluation.{both}
-use Rattle.instance_matrix.proofs.Counting.{any_none, any-more}
+use Rattle.instance_matrix.proofs.Counting.{any-from}
 use Rattle.instance_matrix.proofs.Results.{middle-cells}
 use Rattle.instance_matrix.proofs.joins.join_cell.Goals as goal
 
-pub loop-k-init : goal.loop-k-init
-loop-k-init c = (omega arith, any_none both)
-
-pub index-a-requires : goal.index-a-requires
-index-a-requires c = omega (arith, c.requires.fine.few_columns, c.requires.columns_value)
-
-pub index-b-requires : goal.index-b-requires
-index-b-requires c = omega (arith, c.requires.fine.few_columns, c.requires.columns_value)
-
-pub loop-k-preserved : goal.loop-k-preserved
-loop-k-preserved c =
-    let l = c.loop-k in (
-      omega arith,
-      any-more both _ l.k l.found c.either-found.result l.invariant.1
-          (rw (
-            ← c.index-a.ensures.0,
-            ← c.index-b.ensures.0,
-            ← c.both.ensures,
-          )
-          c.either-found.ensures),
-    )
-
 pub returns : goal.returns
 returns c =
-    let a = c.before.before in
-    let l = c.loop-k in
-    let pair : ℕ → ℕ → Bool × Bool
-    = λ w m.
-    (get_or a.args.p.cells (a.args.i * a.args.p.columns + m) false, get_or a.args.q.cells (m * w + a.args.j) false) in
-    let k : l.k ≡ a.args.p.columns = omega arith in
-    rw (middle-cells a.args.p a.args.q a.requires.fine a.requires.fine_2 a.args.i a.args.j, ← a.requires.columns_value.0)
-    (l.invariant.1 ∙ ap (λ (n : ℕ). any both (map {B = Bool × Bool} (pair a.args.columns) (upto n))) k)
+    let a = c.args in
+    let pair : ℕ → Bool × Bool
+    = λ k. (get_or a.p.cells (a.i * a.p.columns + k) false, get_or a.q.cells (k * a.columns + a.j) false) in
+    let e : c.any.result ≡ list_any (λ k. both (pair k)) (range_with_len 0 a.p.columns)
+    = any_from_yields_List (λ k. both (pair k)) _ _ _ c.any.ensures.ran (YieldsList-from_range 0 a.p.columns a.p.columns refl (omega arith)) (λ x b q k. search (rules, tests)) in
+    rw (middle-cells a.p a.q c.requires.fine c.requires.fine_2 a.i a.j, ← c.requires.columns_value.0) (e ∙ any-from both pair 0 _)

@@ -1,20 +1,13 @@
--- Kind by kind as the definition.
-use Rattle.nodes.proofs.Numbers.{at-union, at-intersection, at-difference, at_join, at-product}
+-- Operator by operator as the definition.
+use Rattle.std.proofs.Common.{rules}
+use Rattle.relational.specs.Evaluation.{either, both, without}
 use Rattle.instance_matrix.proofs.operators.binary.Goals as goal
 
-pub returns-in-5 : goal.returns-in-5
-returns-in-5 c o s = rw (at-union _ c.in-5.is o s) c.matched.ensures
+pub returns-in-Union : goal.returns-in-Union
+returns-in-Union c = rw c.in-Union.is (c.matched.ensures either (λ a b r h. search rules))
 
-pub returns-in-6 : goal.returns-in-6
-returns-in-6 c o s = rw (at-intersection _ c.in-6.is o s) c.matched-in-6.ensures
+pub returns-in-Intersection : goal.returns-in-Intersection
+returns-in-Intersection c = rw c.in-Intersection.is (c.matched-in-Intersection.ensures both (λ a b r h. search rules))
 
-pub returns-in-7 : goal.returns-in-7
-returns-in-7 c o s = rw (at-difference _ c.in-7.is o s) c.matched-in-7.ensures
-
-pub returns-in-8 : goal.returns-in-8
-returns-in-8 c o s = rw (at_join _ c.in-8.is o s) c.join.ensures
-
-pub returns-in_default : goal.returns-in_default
-returns-in_default c o s =
-    let m = c.in_default.in_default-own.rest in
-    rw (at-product _ m.0.0.0.1 m.0.0.1 m.0.1 m.1 o s) c.product.ensures
+pub returns-in-Difference : goal.returns-in-Difference
+returns-in-Difference c = rw c.in-Difference.is (c.matched-in-Difference.ensures without (λ a b r h. search rules))

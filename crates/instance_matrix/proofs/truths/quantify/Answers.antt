@@ -1,20 +1,17 @@
 -- For all: the atoms are within the bodies; for some: at least one of both.
-use mathlib.Core.Path.{ap, ◌∙◌}
-use mathlib.Core.Bool.{Bool}
+use Rattle.std.proofs.Common.{Bool, ap, ◌∙◌, rules}
 use lib.Dec.{leb}
 use Rattle.relational.specs.Matrices.{Matrix}
-use Rattle.relational.specs.Evaluation.{count}
-use Rattle.nodes.proofs.Numbers.{at_all, at-exists}
+use Rattle.relational.specs.Evaluation.{both, implies, count}
 use Rattle.instance_matrix.proofs.truths.quantify.Goals as goal
 
 pub count-requires : goal.count-requires
-count-requires c = c.matched.ensures.fine
+count-requires c = (c.matched.ensures both (λ a b r h. search rules)).fine
 
-pub returns-in-40 : goal.returns-in-40
-returns-in-40 c o s = rw (at_all _ c.in-40.is o s) c.all_matched.ensures
+pub returns-in-All : goal.returns-in-All
+returns-in-All c = rw c.in-All.is (c.all_matched.ensures implies (λ a b r h. search rules))
 
-pub returns-in_default : goal.returns-in_default
-returns-in_default c o s =
-    let x = c.matched in
-    rw (at-exists _ c.in_default.in_default-own.rest.1 o s)
-    (ap (leb 1) (c.count.ensures ∙ ap (λ (m : Matrix Bool). count m.cells) x.ensures.is))
+pub returns-in-Some : goal.returns-in-Some
+returns-in-Some c =
+    let x = c.matched.ensures both (λ a b r h. search rules) in
+    rw c.in-Some.is (ap (leb 1) (c.count.ensures ∙ ap (λ (m : Matrix Bool). count m.cells) x.is))

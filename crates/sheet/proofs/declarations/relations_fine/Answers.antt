@@ -1,24 +1,16 @@
-use mathlib.Core.Path.{◌≡◌}
-use Prim.Native.Nat.{◌/◌}
-use native.Mathlib.Omega.{arith}
-use lib.ListN.{length}
+use Rattle.std.proofs.Common.{◌∙◌, ◌/◌, ap, sym, length, refl, arith, rules, tests, List, ℕ}
+use Rattle.std.proofs.lemmas.Iterator.{YieldsList-from_range}
+use Rattle.std.proofs.lemmas.Iterator.Search.{all_from_yields_List}
+use Rattle.prelude.specs.Tests.{each}
+use Rattle.prelude.proofs.Chains.{each-is}
 use Rattle.sheet_rules.specs.Reading.{relation_declared}
-use Rattle.sheet.proofs.Loops.{each_none, each_more}
 use Rattle.sheet.proofs.declarations.relations_fine.Goals as goal
 
-pub loop-r-init : goal.loop-r-init
-loop-r-init c = (omega arith, λ sheet e s. each_none _)
-
-pub loop-r-preserved : goal.loop-r-preserved
-loop-r-preserved c =
-    let l = c.loop-r in (
-      omega arith,
-      λ sheet e s. each_more (relation_declared sheet) l.r l.fine c.both-fine.result (l.invariant.1 sheet e s)
-          (rw (← c.relation_fine.ensures sheet e s) c.both-fine.ensures),
-    )
-
 pub returns : goal.returns
-returns c sheet e s =
-    let l = c.loop-r in
-    let q : l.r ≡ length sheet.relations / 4 = rw e (omega arith) in
-    rw (← q) (l.invariant.1 sheet e s)
+returns c sheet s t =
+    let n = length c.args.relations.now / 4 in
+    let fine = relation_declared sheet in
+    all_from_yields_List fine _ _ _ c.all.ensures.ran (YieldsList-from_range 0 n n refl (omega arith))
+    (λ x b q k. search (rules, tests))
+    ∙ each-is fine n
+    ∙ ap (λ (xs : List ℕ). each (length xs / 4) fine) (sym s)

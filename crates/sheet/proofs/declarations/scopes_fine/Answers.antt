@@ -1,22 +1,16 @@
-use mathlib.Core.Path.{◌≡◌}
-use native.Mathlib.Omega.{arith}
-use lib.ListN.{length}
-use Rattle.sheet.proofs.Loops.{each_none, each_more}
+use Rattle.std.proofs.Common.{◌∙◌, ℕ, length, refl, arith, rules, tests}
+use Rattle.std.proofs.lemmas.Iterator.{YieldsList-from_range}
+use Rattle.std.proofs.lemmas.Iterator.Search.{all_from_yields_List}
+use Rattle.prelude.specs.Tests.{between}
+use Rattle.prelude.proofs.Chains.{each-is}
+use Rattle.sheet.specs.Filling.{scope_in}
 use Rattle.sheet.proofs.declarations.scopes_fine.Goals as goal
-
-pub loop-k-init : goal.loop-k-init
-loop-k-init c = (omega arith, each_none _)
-
-pub loop-k-preserved : goal.loop-k-preserved
-loop-k-preserved c =
-    let l = c.loop-k in (
-      omega arith,
-      each_more _ l.k l.fine c.both-fine.result l.invariant.1
-          (rw (← c.scope_at.ensures.0, ← c.within.ensures) c.both-fine.ensures),
-    )
 
 pub returns : goal.returns
 returns c =
-    let l = c.loop-k in
-    let e : l.k ≡ length c.args.sorts.now = omega arith in
-    rw (← e) l.invariant.1
+    let sorts = c.args.sorts.now in
+    let n = length sorts in
+    let fine = λ (k : ℕ). between 1 8 (scope_in sorts k) in
+    all_from_yields_List fine _ _ _ c.all.ensures.ran (YieldsList-from_range 0 n n refl (omega arith))
+    (λ x b q k. search (rules, tests))
+    ∙ each-is fine n

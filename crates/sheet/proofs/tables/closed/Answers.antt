@@ -1,22 +1,15 @@
-use mathlib.Core.Path.{◌≡◌}
-use native.Mathlib.Omega.{arith}
+use Rattle.std.proofs.Common.{◌∙◌, ℕ, false, not, get_or, refl, arith, rules, tests}
+use Rattle.std.proofs.lemmas.Iterator.{YieldsList-from_range}
+use Rattle.std.proofs.lemmas.Iterator.Search.{all_from_yields_List}
+use Rattle.prelude.proofs.Chains.{each-is}
 use Rattle.sheet_rules.specs.Blocks.{root as root_of}
-use Rattle.sheet.proofs.Loops.{each_none, each_more}
+use Rattle.sheet_rules.specs.Tables.{free}
 use Rattle.sheet.proofs.tables.closed.Goals as goal
 
-pub loop-x-init : goal.loop-x-init
-loop-x-init c = (omega arith, λ sheet n. each_none _)
-
-pub loop-x-preserved : goal.loop-x-preserved
-loop-x-preserved c =
-    let l = c.loop-x in (
-      omega arith,
-      λ sheet n. each_more _ l.x l.fine c.both-fine.result (l.invariant.1 sheet n)
-          (rw (← (c.free_in-free.ensures sheet n).at (root_of sheet), n, ← c.flag_at.ensures) c.both-fine.ensures),
-    )
-
 pub returns : goal.returns
-returns c sheet n =
-    let l = c.loop-x in
-    let e : l.x ≡ c.args.variables = omega arith in
-    rw (← e) (l.invariant.1 sheet n)
+returns c sheet nodes =
+    let n = c.args.variables in
+    let fine = λ (x : ℕ). not (get_or (free sheet x) (root_of sheet) false) in
+    all_from_yields_List fine _ _ _ c.all.ensures.ran (YieldsList-from_range 0 n n refl (omega arith))
+    (λ x b q k. search (rules, tests))
+    ∙ each-is fine n

@@ -1,7 +1,5 @@
--- The invariant: the array holds the shapes of the nodes passed.
-use mathlib.Core.Path.{◌≡◌}
-use Prim.Native.Nat.{◌≤◌, ◌-◌}
-use lib.ListN.{length}
+-- The array holds the shapes of the nodes passed.
+use Rattle.std.proofs.Common.{◌≡◌}
 use Rattle.sheet_rules.specs.Blocks.{Sheet}
 use Rattle.sheet_rules.specs.Tables.{table, shape_step}
 use Rattle.sheet.specs.Filling.{Fills}
@@ -10,10 +8,5 @@ use Rattle.sheet.proofs.tables.shapes_of.Given as goal
 
 abbrev pub invariant-loop-v : goal.invariant-loop-v
 invariant-loop-v l =
-    (l.v ≤ l.count)
-    × (length l.shapes ≡ 200)
-    × ((sheet : Sheet) → sheet.variables ≡ l.variables → sheet.relations ≡ l.relations → sheet.nodes ≡ l.nodes
-    → Fills (λ x. x) Ill (table (shape_step sheet) l.v) l.shapes)
-
-abbrev pub decreases-loop-v : goal.decreases-loop-v
-decreases-loop-v l = l.count - l.v
+    (sheet : Sheet) → sheet.variables ≡ l.variables → sheet.relations ≡ l.relations → sheet.nodes ≡ l.nodes
+    → Fills (λ x. x) Ill (table (shape_step sheet) l.v) l.shapes
