@@ -61,6 +61,12 @@ line-length clause i h =
       ap (λ (k : ℕ). length (clause_line (drop k clause))) (add-one i),
     )
 
+-- a line has its closing 0 and its line feed at least
+pub line-some : (clause : List ℤ) → 2 ≤ length (clause_line clause)
+unfolding clause_line
+line-some [] = omega arith
+line-some (l ∷ ls) = omega (arith, length-append (literal_text l) (32 ∷ clause_line ls), line-some ls)
+
 pub lines_none : clause_lines [] ≡ []
 unfolding clause_lines
 lines_none = refl

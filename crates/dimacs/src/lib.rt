@@ -11,7 +11,7 @@ ghost use Rattle.dimacs.specs.Private.{Proper, Listed};
 use measure::measure;
 use refusal::Refusal;
 use text::{put_bytes, put_decimal};
-use walk::clause_end;
+use walk::split_clause;
 
 mod measure;
 mod walk;
@@ -24,10 +24,11 @@ fn put_literal(text: &mut [u8], at: usize, l: i32) -> usize
 {
     let n = literal::variable(l) as usize;
     if literal::is_positive(l) {
-        return put_decimal(text, at, n);
+        put_decimal(text, at, n)
+    } else {
+        text[at] = b'-';
+        put_decimal(text, at + 1, n)
     }
-    text[at] = b'-';
-    put_decimal(text, at + 1, n)
 }
 
 // Puts the line of a clause.
@@ -37,17 +38,12 @@ fn put_clause(text: &mut [u8], at: usize, clause: &[i32]) -> usize
     ensures { Put text.old at (clause_line clause.now) text.new result }
 {
     let mut end = at;
-    let mut i = 0;
-    while i < clause.len() {
-        let l = clause[i];
-        end = put_literal(text, end, l);
+    for l in clause {
+        end = put_literal(text, end, *l);
         text[end] = b' ';
         end += 1;
-        i += 1;
     }
-    text[end] = b'0';
-    text[end + 1] = b'\n';
-    end + 2
+    put_bytes(text, end, b"0\n")
 }
 
 // Puts the line of every clause of a list.
@@ -57,12 +53,10 @@ fn put_clauses(text: &mut [u8], at: usize, list: &[i32]) -> usize
     ensures { Put text.old at (clause_lines (clauses_of list.now)) text.new result }
 {
     let mut end = at;
-    let mut i = 0;
-    while i < list.len() {
-        let first = i + 1;
-        let next = clause_end(list, i);
-        end = put_clause(text, end, &list[first..next]);
-        i = next;
+    let mut left = list;
+    while let Some((clause, rest)) = split_clause(left) {
+        end = put_clause(text, end, clause);
+        left = rest;
     }
     end
 }

@@ -4,7 +4,7 @@ ghost use Rattle.clause_list.specs.ClauseList.{clauses_of, is_list};
 ghost use Rattle.dimacs.specs.Text.{literal_text, clause_line, header, text_of};
 ghost use Rattle.dimacs.specs.Private.{Proper};
 
-use crate::walk::clause_end;
+use crate::walk::split_clause;
 use text::decimal_length;
 
 // The number of a list's clauses, and the bytes of its text.
@@ -21,9 +21,10 @@ fn literal_length(l: i32) -> usize
 {
     let digits = decimal_length(literal::variable(l) as usize);
     if literal::is_positive(l) {
-        return digits;
+        digits
+    } else {
+        digits + 1
     }
-    digits + 1
 }
 
 // The bytes of a clause's line: its literals, each with a space, then the closing 0 and the line feed.
@@ -32,14 +33,11 @@ fn line_length(clause: &[i32]) -> usize
     requires clause_len_bound { length (clause_line clause.now) < 2 ^ 64 }
     ensures { result ≡ length (clause_line clause.now) }
 {
-    let mut bytes = 0;
-    let mut i = 0;
-    while i < clause.len() {
-        let l = clause[i];
-        bytes += literal_length(l) + 1;
-        i += 1;
+    let mut bytes = 2;
+    for l in clause {
+        bytes += literal_length(*l) + 1;
     }
-    bytes + 2
+    bytes
 }
 
 // The bytes of the header: two numbers, and 8 around them.
@@ -57,13 +55,11 @@ pub fn measure(list: &[i32], v: u32) -> Measured
 {
     let mut clauses = 0;
     let mut lines = 0;
-    let mut i = 0;
-    while i < list.len() {
-        let first = i + 1;
-        let end = clause_end(list, i);
-        lines += line_length(&list[first..end]);
+    let mut left = list;
+    while let Some((clause, rest)) = split_clause(left) {
+        lines += line_length(clause);
         clauses += 1;
-        i = end;
+        left = rest;
     }
     let bytes = header_length(v as usize, clauses) + lines;
     Measured { clauses, bytes }

@@ -1,12 +1,12 @@
 // The walk over a list, from clause to clause.
-ghost use Rattle.std.specs.Prelude.{◌≡◌, suc, ◌+◌, ◌≤◌, pos, length, get_or};
-ghost use Rattle.literal.specs.Words.{count_of};
+ghost use Rattle.std.specs.Prelude.{◌≡◌, [], MatchOption};
+ghost use Rattle.dimacs.specs.Private.{Cut, Front};
 
-// The place behind the clause whose count stands at place i.
-pub fn clause_end(list: &[i32], i: usize) -> usize
-    requires { suc (i + count_of (get_or list.now i (pos 0))) ≤ length list.now }
-    ensures { result ≡ suc (i + count_of (get_or list.now i (pos 0))) }
+// The clause in front of a list, and the list after it.
+pub fn split_clause(list: &[i32]) -> Option<(&[i32], &[i32])>
+    requires { Cut list.now }
+    ensures { MatchOption result (list.now ≡ []) (λ p. Front list.now p.0.now p.1.now) }
 {
-    let head = list[i];
-    i + 1 + literal::count(head) as usize
+    let (head, words) = list.split_first()?;
+    Some(words.split_at(literal::count(*head) as usize))
 }

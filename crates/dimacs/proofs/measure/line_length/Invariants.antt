@@ -1,13 +1,7 @@
--- `line_length` meets its contract. The loop's invariant: the bytes counted and those of the line from the next literal on are all.
-use mathlib.Core.Path.{◌≡◌}
-use Prim.Native.Nat.{◌+◌, ◌-◌, ◌≤◌}
-use lib.ListN.{length, drop}
+-- The bytes counted and those of the line from the next literal on are all, and the last two.
+use Rattle.std.proofs.Common.{◌≡◌, ◌+◌, length, drop}
 use Rattle.dimacs.specs.Text.{clause_line}
 use Rattle.dimacs.proofs.measure.line_length.Given as goal
 
-abbrev pub invariant-loop-i : goal.invariant-loop-i
-invariant-loop-i l =
-    (l.i ≤ length l.clause) × (l.bytes + length (clause_line (drop l.i l.clause)) ≡ length (clause_line l.clause))
-
-abbrev pub decreases-loop-i : goal.decreases-loop-i
-decreases-loop-i l = length l.clause - l.i
+abbrev pub invariant-loop-l : goal.invariant-loop-l
+invariant-loop-l l = l.bytes + length (clause_line (drop l.l-index l.clause)) ≡ length (clause_line l.clause) + 2

@@ -1,11 +1,10 @@
--- `measure` meets its contract. The loop's invariant: the clauses passed and the bytes of their lines were counted.
-use Prim.Native.Nat.{◌-◌}
-use lib.ListN.{length}
+-- The clauses passed and the bytes of their lines were counted.
+use Rattle.std.proofs.Common.{length}
 use Rattle.dimacs.proofs.Walks.{Counted}
 use Rattle.dimacs.proofs.measure.measure.Given as goal
 
-abbrev pub invariant-loop-i : goal.invariant-loop-i
-invariant-loop-i l = Counted l.list l.i l.clauses l.lines
+abbrev pub invariant-loop-clause : goal.invariant-loop-clause
+invariant-loop-clause l = Counted l.list l.left l.clauses l.lines
 
-abbrev pub decreases-loop-i : goal.decreases-loop-i
-decreases-loop-i l = length l.list - l.i
+abbrev pub decreases-loop-clause : goal.decreases-loop-clause
+decreases-loop-clause l = length l.left
