@@ -5,20 +5,20 @@ ghost use Rattle.dimacs.specs.Answers as texts;
 ghost use Rattle.boundary.specs.Numbers.{count_numbers, text_numbers};
 
 use super::answer::{CountAnswer, TextAnswer};
-use clauses::answer::Count;
-use dimacs::answer::TextSize;
+use clauses::answer::Size;
+use refusal::Refusal;
 
-fn count_numbers(answer: Count) -> CountAnswer
+fn count_numbers(answer: Result<Size, Refusal>) -> CountAnswer
     ensures { result ≡ count_numbers (counted.answer_of answer) }
 {
     match answer {
-        Count::Fits(size) => CountAnswer {
+        Ok(size) => CountAnswer {
             refusal: 0,
             variables: size.variables,
             clauses: size.clauses,
             words: size.words,
         },
-        Count::Refused(r) => CountAnswer {
+        Err(r) => CountAnswer {
             refusal: refusal::number(r),
             variables: 0,
             clauses: 0,
@@ -40,15 +40,15 @@ pub fn fawnloom_write(sheet: &[u8], list: &mut [i32]) -> CountAnswer
     count_numbers(clauses::write(sheet, list))
 }
 
-fn text_numbers(answer: TextSize) -> TextAnswer
+fn text_numbers(answer: Result<usize, Refusal>) -> TextAnswer
     ensures { result ≡ text_numbers (texts.answer_of answer) }
 {
     match answer {
-        TextSize::Bytes(n) => TextAnswer {
+        Ok(n) => TextAnswer {
             refusal: 0,
             bytes: n,
         },
-        TextSize::Refused(r) => TextAnswer {
+        Err(r) => TextAnswer {
             refusal: refusal::number(r),
             bytes: 0,
         },

@@ -10,8 +10,8 @@ ghost use Rattle.solve_rules.specs.Finding.{slices, finding};
 ghost use Rattle.boundary.specs.Numbers.{end_numbers, search_numbers, FindsNumbers, copy_numbers};
 
 use super::answer::{ReadBackAnswer, ResumedAnswer, SearchAnswer};
-use search::answer::{Position, Resumed, Search, Steps};
-use solve::answer::ReadBack;
+use refusal::Refusal;
+use search::answer::{End, Ended, Position, Resumed, Steps};
 
 fn end_numbers(end: u32, steps: Steps) -> SearchAnswer
     ensures { result ≡ end_numbers end steps }
@@ -25,14 +25,29 @@ fn end_numbers(end: u32, steps: Steps) -> SearchAnswer
     }
 }
 
-fn search_numbers(answer: Search) -> SearchAnswer
+fn search_numbers(answer: Result<Ended, Refusal>) -> SearchAnswer
     ensures { result ≡ search_numbers (searched.answer_of answer) }
 {
     match answer {
-        Search::Found(steps) => end_numbers(1, steps),
-        Search::None(steps) => end_numbers(2, steps),
-        Search::Spent(steps) => end_numbers(3, steps),
-        Search::Refused(r) => SearchAnswer {
+        Ok(
+            Ended {
+                end: End::Found,
+                steps,
+            },
+        ) => end_numbers(1, steps),
+        Ok(
+            Ended {
+                end: End::None,
+                steps,
+            },
+        ) => end_numbers(2, steps),
+        Ok(
+            Ended {
+                end: End::Spent,
+                steps,
+            },
+        ) => end_numbers(3, steps),
+        Err(r) => SearchAnswer {
             refusal: refusal::number(r),
             end: 0,
             propagations: 0,
@@ -156,12 +171,12 @@ pub fn fawnloom_next(
     ended.answer
 }
 
-fn copy_numbers(answer: ReadBack) -> ReadBackAnswer
+fn copy_numbers(answer: Result<usize, Refusal>) -> ReadBackAnswer
     ensures { result ≡ copy_numbers (answer_of answer) }
 {
     match answer {
-        ReadBack::Copied(cells) => ReadBackAnswer { refusal: 0, cells },
-        ReadBack::Refused(r) => ReadBackAnswer {
+        Ok(cells) => ReadBackAnswer { refusal: 0, cells },
+        Err(r) => ReadBackAnswer {
             refusal: refusal::number(r),
             cells: 0,
         },

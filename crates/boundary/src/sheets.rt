@@ -7,15 +7,15 @@ ghost use Rattle.instance.specs.Held.{check_answer};
 ghost use Rattle.boundary.specs.Numbers.{read_number, check_numbers, Checked};
 
 use super::answer::CheckAnswer;
-use instance::answer::Check;
-use sheet::answer::Reading;
+use refusal::Refusal;
+use sheet_rules::Layout;
 
-fn read_number(answer: Reading) -> u32
+fn read_number(answer: Result<Layout, Refusal>) -> u32
     ensures { result ≡ read_number (answer_of answer) }
 {
     match answer {
-        Reading::Accepted(_) => 0,
-        Reading::Refused(r) => refusal::number(r),
+        Ok(_) => 0,
+        Err(r) => refusal::number(r),
     }
 }
 
@@ -26,19 +26,15 @@ pub fn fawnloom_read(sheet: &[u8]) -> u32
     read_number(sheet::read(sheet))
 }
 
-fn check_numbers(answer: Check) -> CheckAnswer
+fn check_numbers(answer: Result<bool, Refusal>) -> CheckAnswer
     ensures { result ≡ check_numbers (checked.answer_of answer) }
 {
     match answer {
-        Check::Yes => CheckAnswer {
+        Ok(satisfies) => CheckAnswer {
             refusal: 0,
-            satisfies: 1,
+            satisfies: u32::from(satisfies),
         },
-        Check::No => CheckAnswer {
-            refusal: 0,
-            satisfies: 0,
-        },
-        Check::Refused(r) => CheckAnswer {
+        Err(r) => CheckAnswer {
             refusal: refusal::number(r),
             satisfies: 0,
         },

@@ -51,7 +51,12 @@ pub fn count(sheet: &[u8]) -> Result<Size, Refusal>
 }
 
 // Writing, once the count is known: 13 if the list is too short, else the same translation over the list.
-fn write_counted(sheet: &[u8], layout: Layout, size: Size, list: &mut [i32]) -> Result<Size, Refusal>
+fn write_counted(
+    sheet: &[u8],
+    layout: Layout,
+    size: Size,
+    list: &mut [i32],
+) -> Result<Size, Refusal>
     requires sheet_value { reading sheet.now ≡ accepted layout }
     requires sheet_value_2 { count_answer sheet.now ≡ fits size.variables size.clauses size.words }
     ensures result_value { answer_of result ≡ write_answer sheet.now list.old }

@@ -2,19 +2,11 @@
 // the input or for a text that was printed.
 #![tactic(auto)]
 
-ghost use Rattle.std.specs.Prelude.{◌≡◌, ◌≤◌, length, take};
+ghost use Rattle.std.specs.Prelude.{◌≡◌, ◌≤◌, length, take, IfSome};
 
 use arrayvec::ArrayString;
-use clauses::answer::Count;
 use std::fmt::Write;
 use std::io::{Error, Read, Stderr, Stdout};
-
-// What reading came to: the bytes that were read, and whether a read failed after them.
-#[derive(Clone, Copy)]
-pub struct Input {
-    pub bytes: usize,
-    pub failed: bool,
-}
 
 // Says on standard error what failed, and the system's reason.
 fn say_failure(what: &[u8], failure: Error, errors: Stderr) {
@@ -30,45 +22,38 @@ fn say_failure(what: &[u8], failure: Error, errors: Stderr) {
     let _ = errors.println(format_args!(": {reason}"));
 }
 
-// One read: the bytes that came, 0 at the end of the input.
-fn read_some<I: Read>(from: &mut I, part: &mut [u8], what: &[u8], errors: Stderr) -> Input
-    ensures { (result.bytes ≤ length part.new) × (result.bytes ≡ length (take result.bytes part.new)) }
+// One read: the bytes that came, 0 at the end of the input, or None where it failed. A failure is said as that of `what`, with the
+// system's reason.
+fn read_some<I: Read>(from: &mut I, part: &mut [u8], what: &[u8], errors: Stderr) -> Option<usize>
+    ensures { IfSome result (λ n. (n ≤ length part.new) × (n ≡ length (take n part.new))) }
 {
     match from.read(part) {
-        Ok(bytes) => Input {
-            bytes,
-            failed: false,
-        },
+        Ok(n) => Some(n),
         Err(failure) => {
             say_failure(what, failure, errors);
-            Input {
-                bytes: 0,
-                failed: true,
-            }
+            None
         }
     }
 }
 
-// Reads from a reader until buf is full, the input ends or a read fails. A failure is said as that of `what`, with the system's reason.
-pub fn read_input<I: Read>(from: &mut I, buf: &mut [u8], what: &[u8], errors: Stderr) -> Input
-    ensures { (result.bytes ≤ length buf.new) × (result.bytes ≡ length (take result.bytes buf.new)) }
+// Reads from a reader until buf is full or the input ends, and answers how many bytes it read: None where a read failed, which is said.
+pub fn read_input<I: Read>(
+    from: &mut I,
+    buf: &mut [u8],
+    what: &[u8],
+    errors: Stderr,
+) -> Option<usize>
+    ensures { IfSome result (λ n. (n ≤ length buf.new) × (n ≡ length (take n buf.new))) }
 {
     let mut done: usize = 0;
     while done < buf.len() {
-        let some = read_some(from, &mut buf[done..], what, errors);
-        let n = some.bytes;
+        let n = read_some(from, &mut buf[done..], what, errors)?;
         if n == 0 {
-            return Input {
-                bytes: done,
-                failed: some.failed,
-            };
+            return Some(done);
         }
         done += n;
     }
-    Input {
-        bytes: done,
-        failed: false,
-    }
+    Some(done)
 }
 
 // Prints a text on standard output, and answers whether all of it was written.
@@ -95,8 +80,7 @@ pub fn say_short(name: &[u8], input: &[u8], room: usize, errors: Stderr) {
     if input.len() > 4096 {
         return;
     }
-    let counted = clauses::count(input);
-    if let Count::Fits(size) = counted {
+    if let Ok(size) = clauses::count(input) {
         if size.words > room {
             say_words(name, size.words, room, errors);
         }

@@ -48,10 +48,9 @@ pub fn print_clauses<I: Read>(
     errors: Stderr,
 ) -> bool {
     let mut input = [0u8; 4097];
-    let read = console::read_input(from, &mut input, b"cnf: reading standard input", errors);
-    if read.failed {
+    let Some(n) = console::read_input(from, &mut input, b"cnf: reading standard input", errors)
+    else {
         return false;
-    }
-    let n = read.bytes;
+    };
     answer(&input[..n], list, text, output, errors)
 }

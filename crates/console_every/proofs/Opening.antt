@@ -12,8 +12,7 @@ use Rattle.clauses.specs.declared.answer.Size.{Size}
 use Rattle.clauses.specs.Answers.{Answer, fits, refused}
 use Rattle.search_rules.specs.Rules.{values_of, trail_of}
 use Rattle.search.specs.Every.{Fresh}
-use Rattle.listing.specs.declared.answer.Begun.{Begun}
-use Rattle.listing.specs.declared.answer.Begun.TheVariants.{Refused}
+use Rattle.std.specs.Prelude.{Result, Err}
 use Rattle.listing.specs.Printed.{beginning, begun_text, begun_of, bytes_in}
 use Rattle.listing.proofs.Beginning.{cases_fit}
 use Rattle.console_every.specs.Listed.{lent_words, opened, BeginGives, ListedOrRefused, refusal}
@@ -41,12 +40,12 @@ module _ {input : List ℕ} {list : List ℤ} {v : ℕ} (b : BeginGives input li
   }
 
 -- a refusal has its number
-pub refused-with : (a : Answer) (bytes : ℕ) → Refused bytes ≡ begun_of a → (n : ℕ) × (a ≡ refused n)
+pub refused-with : (a : Answer) (bytes : ℕ) → Err bytes ≡ begun_of a → (n : ℕ) × (a ≡ refused n)
 refused-with (refused n) bytes e = (n, refl)
 refused-with (fits v c w) bytes e = absurd (let z : ◌≡◌ {A = ℕ} 0 1 = cc in omega arith)
 
 -- and was put
-pub refusal-put : {input before after : List ℕ} (begun : Begun) (bytes : ℕ) {r : Bool} → begun ≡ Refused bytes
+pub refusal-put : {input before after : List ℕ} (begun : Result Size ℕ) (bytes : ℕ) {r : Bool} → begun ≡ Err bytes
     → begun ≡ begun_of (beginning input lent_words)
     → Prints (begun_text (beginning input lent_words)) before after (bytes_in begun) → ListedOrRefused input r after
 refusal-put {input} {before} {after} begun bytes e d p =

@@ -9,7 +9,6 @@ ghost use Rattle.console_every.specs.Listed.{opened, BeginGives, Listed, ListedO
 
 use cells::MOST_CELLS;
 use console_finder::{print_answer, print_text, read_sheet};
-use listing::answer::Begun;
 use listing::{begin, next_text};
 use search::answer::Position;
 use std::io::{Read, Stderr, Stdout};
@@ -109,8 +108,8 @@ fn answer(input: &[u8], text: &mut [u8; 2048], output: Stdout, errors: Stderr) -
     let mut list = [0i32; 16384];
     let begun = begin(input, &mut list, text);
     match begun {
-        Begun::Refused(k) => print_refusal(input, text, k, output, errors),
-        Begun::Cases(size) => {
+        Err(k) => print_refusal(input, text, k, output, errors),
+        Ok(size) => {
             let w = size.words;
             list_cases(
                 input,
@@ -127,11 +126,9 @@ fn answer(input: &[u8], text: &mut [u8; 2048], output: Stdout, errors: Stderr) -
 // Reads an input, prints its cases, and answers whether both went well.
 pub fn every<I: Read>(from: &mut I, output: Stdout, errors: Stderr) -> bool {
     let mut input = [0u8; 4097];
-    let read = read_sheet(from, &mut input, errors);
-    if read.failed {
+    let Some(n) = read_sheet(from, &mut input, errors) else {
         return false;
-    }
-    let n = read.bytes;
+    };
     let mut text = [0u8; 2048];
     answer(&input[..n], &mut text, output, errors)
 }

@@ -2,10 +2,9 @@
 // `console_every` read and print with the same functions.
 #![tactic(auto)]
 
-ghost use Rattle.std.specs.Prelude.{◌≡◌, ◌≤◌, length, take};
+ghost use Rattle.std.specs.Prelude.{◌≡◌, ◌≤◌, length, take, IfSome};
 
 use cells::MOST_CELLS;
-use console::Input;
 use report::finder::find_text;
 use std::io::{Read, Stderr, Stdout};
 
@@ -13,8 +12,8 @@ use std::io::{Read, Stderr, Stdout};
 const WORDS: usize = 16384;
 
 // Reads an input. One byte more than the longest input is read, so that a longer one is seen.
-pub fn read_sheet<I: Read>(from: &mut I, input: &mut [u8; 4097], errors: Stderr) -> Input
-    ensures { (result.bytes ≤ length input.new) × (result.bytes ≡ length (take result.bytes input.new)) }
+pub fn read_sheet<I: Read>(from: &mut I, input: &mut [u8; 4097], errors: Stderr) -> Option<usize>
+    ensures { IfSome result (λ n. (n ≤ length input.new) × (n ≡ length (take n input.new))) }
 {
     console::read_input(from, input, b"finder: reading standard input", errors)
 }
@@ -57,10 +56,8 @@ fn answer(input: &[u8], output: Stdout, errors: Stderr) -> bool {
 // Reads an input, prints the answer, and answers whether both went well.
 pub fn find<I: Read>(from: &mut I, output: Stdout, errors: Stderr) -> bool {
     let mut input = [0u8; 4097];
-    let read = read_sheet(from, &mut input, errors);
-    if read.failed {
+    let Some(n) = read_sheet(from, &mut input, errors) else {
         return false;
-    }
-    let n = read.bytes;
+    };
     answer(&input[..n], output, errors)
 }

@@ -18,12 +18,11 @@ use Rattle.clauses_rules.specs.Whole.{words, word_total}
 use Rattle.clauses.specs.declared.answer.Size.{Size}
 use Rattle.clauses.specs.Answers.{Answer, fits, refused, count_answer, write_answer, list_after}
 use Rattle.clauses.proofs.Answered.{count_fits, write-fits}
-use Rattle.listing.specs.declared.answer.Begun.{Begun}
-use Rattle.listing.specs.declared.answer.Begun.TheVariants.{Refused, Cases}
+use Rattle.std.specs.Prelude.{Result, Ok, Err}
 use Rattle.listing.specs.Printed.{as_finder, beginning, list_begun, begun_text, begun_of, bytes_in}
 
 -- the numbers of an answer
-pub sized : (a : Answer) (size : Size) → Cases size ≡ begun_of a
+pub sized : (a : Answer) (size : Size) → Ok size ≡ begun_of a
     → a ≡ fits size.variables size.clauses size.words
 sized (refused n) size e = absurd (let z : ◌≡◌ {A = ℕ} 0 1 = cc in omega arith)
 sized (fits v c w) size e =
@@ -75,27 +74,27 @@ module _ (input : List ℕ) (list : List ℤ) where
           omega (arith, d.variables, d.small),
         )
 
-  pub cases_fit : (size : Size) → Cases size ≡ begun_of (beginning input list)
+  pub cases_fit : (size : Size) → Ok size ≡ begun_of (beginning input list)
       → (size.words ≤ length (list_begun input list)) × (size.variables ≤ 16000)
   cases_fit size e = begun-fits size.variables size.clauses size.words (sized (beginning input list) size e)
 
 -- what is ensured of an answer, but for the list
-abbrev Begins : Answer → Begun → (before after : List ℕ) → Type 0
+abbrev Begins : Answer → Result Size ℕ → (before after : List ℕ) → Type 0
 Begins a r before after =
     (r ≡ begun_of a)
     × (((bytes_in r ≤ length after) × (bytes_in r ≡ length (take (bytes_in r) after))) × Prints (begun_text a) before after (bytes_in r))
 
 refused-is : (n : ℕ) {before after : List ℕ} {end : ℕ} → Put before 0 (end_line (bytes_of "refused ") n) after end → end ≤ length before
-    → Begins (refused n) (Refused end) before after
-refused-is n p l = (ap Refused (p.ends ∙ zero-add _), (counts p l, prints p l))
+    → Begins (refused n) (Err end) before after
+refused-is n p l = (ap Err (p.ends ∙ zero-add _), (counts p l, prints p l))
 
-cases-are : (size : Size) (text : List ℕ) → Begins (fits size.variables size.clauses size.words) (Cases size) text text
+cases-are : (size : Size) (text : List ℕ) → Begins (fits size.variables size.clauses size.words) (Ok size) text text
 cases-are size text = (refl, ((omega arith, refl), record { ends = refl; stands = refl }))
 
 pub begins-refused : (a : Answer) (n : ℕ) → a ≡ refused n → {before after : List ℕ} {end : ℕ}
-    → Put before 0 (end_line (bytes_of "refused ") n) after end → end ≤ length before → Begins a (Refused end) before after
-begins-refused a n e {before} {after} {end} p l = subst (λ (x : Answer). Begins x (Refused end) before after) (sym e) (refused-is n p l)
+    → Put before 0 (end_line (bytes_of "refused ") n) after end → end ≤ length before → Begins a (Err end) before after
+begins-refused a n e {before} {after} {end} p l = subst (λ (x : Answer). Begins x (Err end) before after) (sym e) (refused-is n p l)
 
 pub begins_cases : (a : Answer) (size : Size) → a ≡ fits size.variables size.clauses size.words → (text : List ℕ)
-    → Begins a (Cases size) text text
-begins_cases a size e text = subst (λ (x : Answer). Begins x (Cases size) text text) (sym e) (cases-are size text)
+    → Begins a (Ok size) text text
+begins_cases a size e text = subst (λ (x : Answer). Begins x (Ok size) text text) (sym e) (cases-are size text)

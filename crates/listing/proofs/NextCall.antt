@@ -1,6 +1,6 @@
 -- One call for the next, and what is shown of it.
 use mathlib.Core.Path.{◌≡◌, refl, sym, ap, ◌∙◌}
-use mathlib.Core.Bool.{Bool, false}
+use mathlib.Core.Bool.{Bool, true, false}
 use mathlib.Core.List.{List}
 use mathlib.Core.Option.{some}
 use Prim.Native.Nat.{ℕ, ◌≤◌}
@@ -35,13 +35,20 @@ found-not (refused n) h = refl
 refused-not-found : (steps : Steps) (n : ℕ) → refused n ≡ found steps → ⊥
 refused-not-found steps n e = let z : ◌≡◌ {A = ℕ} 0 1 = cc in omega arith
 
+found-steps : (a : Answer) → is_found a ≡ true → (steps : Steps) × (a ≡ found steps)
+found-steps (found steps) e = (steps, refl)
+found-steps (none steps) e = absurd cc
+found-steps (spent steps) e = absurd cc
+found-steps (refused n) e = absurd cc
+
 module _ (list : List ℤ) (v : ℕ) (values : List ℕ) (trail : List ℤ) (p : Position) (budget : ℕ) (a : Answer) (vs : List ℕ) (ts : List ℤ)
     (q : Position) (call : left a vs ts q ≡ following list v values trail p budget) where
   -- a call that found something had room for the values
-  pub found-wide : (steps : Steps) → a ≡ found steps → v ≤ length values
-  found-wide steps e =
-      (answered (followed_run list v) list v values trail p budget (found steps) (refused-not-found steps)
-      (sym (ap (λ (r : Resumption). r.outcome.answer) call) ∙ e)).0.wide
+  pub found-wide : is_found a ≡ true → v ≤ length values
+  found-wide e =
+      let f = found-steps a e in
+      (answered (followed_run list v) list v values trail p budget (found f.0) (refused-not-found f.0)
+      (sym (ap (λ (r : Resumption). r.outcome.answer) call) ∙ f.1)).0.wide
 
   -- its steps fit
   pub steps-fit : (steps : Steps) → steps_in a ≡ some steps → total steps ≤ step_limit

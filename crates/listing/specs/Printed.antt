@@ -1,5 +1,5 @@
 -- What the program `every` prints, call by call (document 02, Change 6): each case as it is found.
-use Rattle.std.specs.Prelude.{Bool, true, false, cond, List, [], ℕ, leb, ℤ, length, take}
+use Rattle.std.specs.Prelude.{Bool, true, false, cond, List, [], ℕ, leb, ℤ, length, take, Result, Ok, Err}
 use Rattle.text.specs.Texts.{bytes_of, end_line}
 use Rattle.sheet_rules.specs.Blocks.{sheet_of}
 use Rattle.sheet_rules.specs.Reading.{reading}
@@ -11,8 +11,7 @@ use Rattle.search.specs.Resumed.{Resumption}
 use Rattle.search.specs.Every.{Standing, left_by, next_call}
 use Rattle.solve_rules.specs.Finding.{instance_for}
 use Rattle.report.specs.Printed.{report, lines_of}
-use Rattle.listing.specs.declared.answer.Begun.{Begun}
-use Rattle.listing.specs.declared.answer.Begun.TheVariants.{Refused, Cases}
+use Rattle.clauses.specs.declared.answer.Size.{Size}
 
 -- the finder's number: 12 LIST, "more than 2^31 - 1 words", comes before 13
 abbrev pub finder_number : count.Answer → ℕ → ℕ
@@ -38,14 +37,14 @@ abbrev pub begun_text : count.Answer → List ℕ
 begun_text (count.refused n) = end_line (bytes_of "refused ") n
 begun_text (count.fits v c w) = []
 
--- the enum's case, with the bytes printed or the three numbers
-abbrev pub begun_of : count.Answer → Begun
-begun_of (count.refused n) = Refused (length (end_line (bytes_of "refused ") n))
-begun_of (count.fits v c w) = Cases (record { variables = v; clauses = c; words = w })
+-- what beginning answers: the bytes printed of a refusal, or the three numbers
+abbrev pub begun_of : count.Answer → Result Size ℕ
+begun_of (count.refused n) = Err (length (end_line (bytes_of "refused ") n))
+begun_of (count.fits v c w) = Ok (record { variables = v; clauses = c; words = w })
 
-abbrev pub bytes_in : Begun → ℕ
-bytes_in (Refused bytes) = bytes
-bytes_in (Cases size) = 0
+abbrev pub bytes_in : Result Size ℕ → ℕ
+bytes_in (Err bytes) = bytes
+bytes_in (Ok size) = 0
 
 -- where calls for the next stand
 abbrev pub standing : List ℕ → List ℤ → Position → Standing

@@ -11,12 +11,12 @@ ghost use Rattle.refusal.specs.Refusals.{number_of};
 ghost use Rattle.clauses.specs.Answers.{count_answer};
 ghost use Rattle.listing.specs.Printed.{finder_number, beginning, list_begun, begun_text, begun_of, bytes_in, standing, is_found, shown};
 
-use answer::{Begun, Piece};
+use answer::Piece;
 use cells::MOST_CELLS;
-use clauses::answer::Count;
+use clauses::answer::Size;
 use refusal::Refusal;
 use report::finder::put_answer;
-use search::answer::{Position, Resumed, Search};
+use search::answer::{End, Ended, Position, Resumed};
 use search::followed;
 use solve::read_back;
 use text::put_end;
@@ -29,46 +29,44 @@ fn finder_refusal(input: &[u8], refused: Refusal) -> Refusal
 {
     let counted = clauses::count(input);
     match counted {
-        Count::Refused(_) => refused,
-        Count::Fits(size) => {
-            if size.words > 2147483647 {
-                return Refusal::List;
-            }
-            refused
-        }
+        Ok(size) if size.words > 2147483647 => Refusal::List,
+        _ => refused,
     }
 }
 
 // Writes the clauses of an input to the list, with as many words as the finder has. A refusal is put to the front of the text, with the number
 // that the finder prints (`SameRefusals`).
-pub fn begin(input: &[u8], list: &mut [i32; 16384], text: &mut [u8; 2048]) -> Begun
+pub fn begin(input: &[u8], list: &mut [i32; 16384], text: &mut [u8; 2048]) -> Result<Size, usize>
     ensures value { result ≡ begun_of (beginning input.now list.old) }
     ensures list_after { list.new ≡ list_begun input.now list.old }
     ensures result_in_bounds { (bytes_in result ≤ length text.new) × (bytes_in result ≡ length (take (bytes_in result) text.new)) }
     ensures prints { Prints (begun_text (beginning input.now list.old)) text.old text.new (bytes_in result) }
 {
     if input.len() > 4096 {
-        return Begun::Refused(put_end(text, b"refused ", 2));
+        return Err(put_end(text, b"refused ", 2));
     }
     let written = clauses::write(input, list);
     match written {
-        Count::Refused(r) => {
+        Err(r) => {
             let told = finder_refusal(input, r);
             let bytes = put_end(text, b"refused ", refusal::number(told) as u64);
-            Begun::Refused(bytes)
+            Err(bytes)
         }
-        Count::Fits(size) => Begun::Cases(size),
+        Ok(size) => Ok(size),
     }
 }
 
 // Whether a call found a case.
-fn is_found(answer: Search) -> bool
+fn is_found(answer: Result<Ended, Refusal>) -> bool
     ensures { result ≡ is_found (answer_of answer) }
 {
-    match answer {
-        Search::Found(_) => true,
-        _ => false,
-    }
+    matches!(
+        answer,
+        Ok(Ended {
+            end: End::Found,
+            ..
+        })
+    )
 }
 
 // One call for the next, and read-back of what it found.
@@ -89,9 +87,9 @@ fn find_next(
 {
     let call = followed(list, v, values, trail, position, budget);
     let answer = call.answer;
-    if let Search::Found(_) = answer {
+    if is_found(answer) {
         let n = v as usize;
-        read_back(input, &values[..n], instance);
+        let _ = read_back(input, &values[..n], instance);
         return call;
     }
     call

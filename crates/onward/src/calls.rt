@@ -39,7 +39,13 @@ pub(crate) fn go_on(
     while left > 0 {
         let call = resumed(list, v, values, trail, position, STEPS);
         let answer = call.answer;
-        if let Ok(Ended { end: End::Spent, steps }) = answer {
+        if let Ok(
+            Ended {
+                end: End::Spent,
+                steps,
+            },
+        ) = answer
+        {
             position = call.position;
             show(step_figure(steps), errors);
         } else {

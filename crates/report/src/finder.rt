@@ -53,7 +53,12 @@ fn put_found(text: &mut [u8], input: &[u8], steps: Steps, instance: &[u8]) -> us
 
 // Puts the line of an end, and after `found` the lines of the instance, for any input. It is for a crate that prints
 // what its own search found, and asks of it room for 2,048 bytes, and that the steps fit.
-pub fn put_answer(text: &mut [u8], input: &[u8], ended: Result<Ended, Refusal>, instance: &[u8]) -> usize
+pub fn put_answer(
+    text: &mut [u8],
+    input: &[u8],
+    ended: Result<Ended, Refusal>,
+    instance: &[u8],
+) -> usize
     requires in_bounds { 2048 ≤ length text.old }
     requires steps_bound { (steps : Steps) → steps_in (answer_of ended) ≡ some steps → total steps ≤ step_limit }
     ensures put { Put text.old 0 (report (answer_of ended)
@@ -62,15 +67,35 @@ pub fn put_answer(text: &mut [u8], input: &[u8], ended: Result<Ended, Refusal>, 
     ensures upper_bound { result ≤ 2048 }
 {
     match ended {
-        Ok(Ended { end: End::Found, steps }) => put_found(text, input, steps, instance),
-        Ok(Ended { end: End::None, steps }) => put_end(text, b"none ", step_figure(steps)),
-        Ok(Ended { end: End::Spent, steps }) => put_end(text, b"spent ", step_figure(steps)),
+        Ok(
+            Ended {
+                end: End::Found,
+                steps,
+            },
+        ) => put_found(text, input, steps, instance),
+        Ok(
+            Ended {
+                end: End::None,
+                steps,
+            },
+        ) => put_end(text, b"none ", step_figure(steps)),
+        Ok(
+            Ended {
+                end: End::Spent,
+                steps,
+            },
+        ) => put_end(text, b"spent ", step_figure(steps)),
         Err(r) => put_end(text, b"refused ", refusal::number(r) as u64),
     }
 }
 
 // The same, where a sheet fits the limits if something was found: it is `report`.
-pub fn put_report(text: &mut [u8], input: &[u8], ended: Result<Ended, Refusal>, instance: &[u8]) -> usize
+pub fn put_report(
+    text: &mut [u8],
+    input: &[u8],
+    ended: Result<Ended, Refusal>,
+    instance: &[u8],
+) -> usize
     requires in_bounds { 2048 ≤ length text.old }
     requires fits_limits { (steps : Steps) → answer_of ended ≡ found steps → FitsLimits input.now }
     requires steps_bound { (steps : Steps) → steps_in (answer_of ended) ≡ some steps → total steps ≤ step_limit }

@@ -1,8 +1,7 @@
 // What a search answers, with the steps done by kind, and where it stands.
+use refusal::Refusal;
 pub use search_core::run::End;
 pub use search_rules::{Position, Steps};
-
-use refusal::Refusal;
 
 // How a search ended, and the steps done.
 #[derive(Clone, Copy)]

@@ -18,7 +18,13 @@ mod runs; // runs.rt: the run over slices that fit
 
 // The search from a fresh start within a budget. Its answer and all that it leaves are those of the definition `outcome`; what "found" leaves
 // is, with 3 taken as 0, the first satisfying assignment in variable order (`FoundFirst`).
-pub fn search(list: &[i32], v: u32, values: &mut [u8], trail: &mut [i32], budget: u64) -> Result<Ended, Refusal>
+pub fn search(
+    list: &[i32],
+    v: u32,
+    values: &mut [u8],
+    trail: &mut [i32],
+    budget: u64,
+) -> Result<Ended, Refusal>
     ensures result_value { answer_of result ≡ (outcome list.now v values.old trail.old budget).answer }
     ensures values_after { values.new ≡ (outcome list.now v values.old trail.old budget).values }
     ensures trail_after { trail.new ≡ (outcome list.now v values.old trail.old budget).trail }

@@ -78,7 +78,12 @@ pub(crate) fn go_on(
 }
 
 // The run from a fresh start.
-pub(crate) fn fresh(list: &[i32], values: &mut [u8], trail: &mut [i32], budget: u64) -> Result<Ended, Refusal>
+pub(crate) fn fresh(
+    list: &[i32],
+    values: &mut [u8],
+    trail: &mut [i32],
+    budget: u64,
+) -> Result<Ended, Refusal>
     requires fine { Fine (length values.old) list.now }
     requires values_len_bound { length values.old ≤ last_variable }
     requires trail_len { length trail.old ≡ length values.old }

@@ -42,7 +42,12 @@ pub(crate) fn copy_cells(cells: usize, values: &[u8], instance: &mut [u8])
 }
 
 // Numbers 11 and 13 over values of v variables, and the copy.
-pub(crate) fn read_cells(v: usize, cells: usize, values: &[u8], instance: &mut [u8]) -> Result<usize, Refusal>
+pub(crate) fn read_cells(
+    v: usize,
+    cells: usize,
+    values: &[u8],
+    instance: &mut [u8],
+) -> Result<usize, Refusal>
     requires { suc cells ≤ v }
     ensures result_value { answer_of result ≡ cells_answer v cells values.now (length instance.old) }
     ensures instance_after { instance.new ≡ cells_left v cells values.now instance.old }

@@ -9,44 +9,44 @@ use Rattle.console_every.proofs.answer.Goals as goal
 pub slice_bounds-list-end : goal.slice_bounds-list-end
 slice_bounds-list-end c =
     let e = c.begin-begun.ensures in
-    let f = cases_fit c.args.input.now _ c.in-Cases.size (sym c.in-Cases.is ∙ e.value) in
+    let f = cases_fit c.args.input.now _ c.in-Ok.size (sym c.in-Ok.is ∙ e.value) in
     rw e.list_after f.0
 
 pub slice_bounds-list_cases-end : goal.slice_bounds-list_cases-end
 slice_bounds-list_cases-end c =
     let e = c.begin-begun.ensures in
-    let f = cases_fit c.args.input.now _ c.in-Cases.size (sym c.in-Cases.is ∙ e.value) in
+    let f = cases_fit c.args.input.now _ c.in-Ok.size (sym c.in-Ok.is ∙ e.value) in
     sym (length-take-le _ c.begin-begun.new.list (rw e.list_after f.0))
 
 pub overflow_cast-size : goal.overflow_cast-size
 overflow_cast-size c =
-    let f = cases_fit c.args.input.now _ c.in-Cases.size (sym c.in-Cases.is ∙ c.begin-begun.ensures.value) in
+    let f = cases_fit c.args.input.now _ c.in-Ok.size (sym c.in-Ok.is ∙ c.begin-begun.ensures.value) in
     let h = f.1 in search rules
 
 pub list_cases-requires : goal.list_cases-requires
 list_cases-requires c =
-    let size = c.in-Cases.size in
+    let size = c.in-Ok.size in
     let e = c.begin-begun.ensures in
     record {
       clauses = size.clauses;
       words = size.words;
-      numbers = sized _ size (sym c.in-Cases.is ∙ e.value);
+      numbers = sized _ size (sym c.in-Ok.is ∙ e.value);
       list_is = ap (take size.words) e.list_after;
     }
 
-pub returns-in-Refused : goal.returns-in-Refused
-returns-in-Refused c =
+pub returns-in-Err : goal.returns-in-Err
+returns-in-Err c =
     let e = c.begin-begun.ensures in
-    refusal-put c.begin-begun.result _ c.in-Refused.is e.value e.prints
+    refusal-put c.begin-begun.result _ c.in-Err.is e.value e.prints
 
-pub returns-in-Cases : goal.returns-in-Cases
-returns-in-Cases c =
-    let size = c.in-Cases.size in
+pub returns-in-Ok : goal.returns-in-Ok
+returns-in-Ok c =
+    let size = c.in-Ok.size in
     let e = c.begin-begun.ensures in
     let g : BeginGives c.args.input.now (take size.words c.begin-begun.new.list) size.variables = record {
       clauses = size.clauses;
       words = size.words;
-      numbers = sized _ size (sym c.in-Cases.is ∙ e.value);
+      numbers = sized _ size (sym c.in-Ok.is ∙ e.value);
       list_is = ap (take size.words) e.list_after;
     } in
     listing g c.list_cases.ensures (told g c.list_cases.ensures)

@@ -19,10 +19,10 @@ returns-then-input-gt4096 c =
       prints = b.1.1;
     }
 
-pub returns-in-Refused : goal.returns-in-Refused
-returns-in-Refused c =
+pub returns-in-Err : goal.returns-in-Err
+returns-in-Err c =
     let h = c.if-input-gt4096.false in
-    let w = sym c.write-written.ensures.result_value ∙ ap answer_of c.in-Refused.is in
+    let w = sym c.write-written.ensures.result_value ∙ ap answer_of c.in-Err.is in
     let a = short-writes c.args.input.now c.args.list.now h ∙ ap (as_finder (count_answer c.args.input.now)) w in
     let e = c.put_end-bytes.ensures in
     let n = c.number.ensures ∙ c.finder_refusal-told.ensures in
@@ -33,12 +33,12 @@ returns-in-Refused c =
       prints = b.1.1;
     }
 
-pub returns-in-Fits : goal.returns-in-Fits
-returns-in-Fits c =
+pub returns-in-Ok : goal.returns-in-Ok
+returns-in-Ok c =
     let h = c.if-input-gt4096.false in
     let a = short-writes c.args.input.now c.args.list.now h
-    ∙ ap (as_finder (count_answer c.args.input.now)) (sym c.write-written.ensures.result_value ∙ ap answer_of c.in-Fits.is) in
-    let b = begins_cases _ c.in-Fits.size a c.args.text.now in record {
+    ∙ ap (as_finder (count_answer c.args.input.now)) (sym c.write-written.ensures.result_value ∙ ap answer_of c.in-Ok.is) in
+    let b = begins_cases _ c.in-Ok.size a c.args.text.now in record {
       value = b.0;
       list_after = c.write-written.ensures.list_after ∙ sym (short-list c.args.input.now c.args.list.now h);
       result_in_bounds = b.1.0;
