@@ -1,6 +1,6 @@
 -- How far the loops have come: over a clause, and over the clauses of a list.
-use Rattle.std.proofs.Common.{◌≡◌, refl, sym, ap, ◌∙◌, arith, Bool, true, false, not, List, [], ◌∷◌, ℕ, zero, suc, ◌+◌, ◌<◌, ◌≤◌, length, get_or, drop, take, pos, ℤ, nat_abs, Option, Some, None, unwrap_or, add-one}
-use lib.ListN.{drop_of_length-le}
+use Rattle.std.proofs.Common.{◌≡◌, refl, sym, ap, ◌∙◌, arith, Bool, true, false, not, cond, List, [], ◌∷◌, ℕ, zero, suc, ◌+◌, ◌<◌, ◌≤◌, length, get_or, drop, take, pos, ℤ, nat_abs, Option, Some, None, unwrap_or, add-one}
+use lib.ListN.{drop_of_length-le, length-drop}
 use lib.Seq.{drop-cons}
 use borrow.Author.Tests.{not-true, not-false}
 use Rattle.literal.specs.Words.{count_of}
@@ -12,10 +12,8 @@ use Rattle.search_rules.specs.Inner.{AllIn, FineIn, Fine}
 use Rattle.search_rules.specs.Rules.{Truth, falsified, satisfied, unassigned, is_falsified, literal, same_literal, conflict, first_unit}
 use Rattle.search_rules.proofs.Booleans.{bool_false}
 use Rattle.search_rules.proofs.Assignments.{same_true, same_refl}
-use Rattle.search_scan.specs.declared.Seen.{Seen}
-use Rattle.search_scan.specs.declared.Seen.TheVariants.{Conflict, UnitClause, Neither}
-use Rattle.search_scan.specs.Seen.{Sight, conflicting, unit, neither, test_of, seen_as, seen, joined}
-use Rattle.search_scan.proofs.Scans.{Clause, all_false, sole, several, is_held, meet, look, sight_of, seen-one, seen-behind, seen-more, joined-assoc}
+use Rattle.search_scan.specs.Seen.{conflicting, unit, neither, test_of, seen}
+use Rattle.search_scan.proofs.Scans.{Clause, all_false, sole, several, is_held, meet, look, sight_of, behind, seen-one, seen-more}
 
 -- a literal in range, among those of a clause
 pub all_in_at : (v : ℕ) (clause : List ℤ) → AllIn v clause → (i : ℕ) → i < length clause → InRange v (get_or clause i (pos 0))
@@ -141,29 +139,40 @@ module _ (vs : List ℕ) where
     unfolding look
     end_shows h = ap (sight_of vs) (rw (drop_of_length-le clause h) at so) ∙ seen-one vs clause
 
--- how far the pass over a list has come: the clauses that are left, and what the others show
-pub record Rest (list : List ℤ) (vs : List ℕ) (rest : List ℤ) (so_far : Sight) : Type 0 where
-  pub rounds : ℕ
-  pub fine : FineIn (length vs) rounds rest
-  pub same : joined so_far (seen vs (cut rounds rest)) ≡ seen vs (clauses_of list)
+-- as many rounds as are enough cut a list in one way
+rounds-enough : (v f : ℕ) (ws : List ℤ) → FineIn v f ws → (g : ℕ) → length ws ≤ g → FineIn v g ws × (cut f ws ≡ cut g ws)
+unfolding FineIn cut
+rounds-enough v zero [] h zero l = (refl, refl)
+rounds-enough v zero [] h (suc g) l = (tt, refl)
+rounds-enough v zero (w ∷ ws) h g l = cc
+rounds-enough v (suc f) [] h zero l = (refl, refl)
+rounds-enough v (suc f) [] h (suc g) l = (tt, refl)
+rounds-enough v (suc f) (w ∷ ws) h zero l = absurd (omega arith)
+rounds-enough v (suc f) (w ∷ ws) h (suc g) l =
+    let r = rounds-enough v f (drop (nat_abs w) ws) h.3 g (simp length-drop (omega arith)) in
+    ((h.0, h.1, h.2, r.0), ap (λ cs. take (nat_abs w) ws ∷ cs) r.1)
 
--- the clause in front of the rest, with the word of its count
-pub record Front (list : List ℤ) (vs : List ℕ) (so_far : Sight) (w : ℤ) (ws : List ℤ) : Type 0 where
-  pub counts : w ≡ pos (count_of w)
-  pub within : count_of w ≤ length ws
-  pub all : AllIn (length vs) (take (count_of w) ws)
-  pub rounds : ℕ
-  pub fine : FineIn (length vs) rounds (drop (count_of w) ws)
-  pub same : joined so_far (joined (seen vs (take (count_of w) ws ∷ [])) (seen vs (cut rounds (drop (count_of w) ws))))
-      ≡ seen vs (clauses_of list)
+-- How far a loop over the clauses of a list has come: what it is to find in the list, it is to find in the clauses that are left.
+module _ {A : Type 0} (find : List (List ℤ) → A) (list : List ℤ) (v : ℕ) where
+  pub record Rest (rest : List ℤ) : Type 0 where
+    pub rounds : ℕ
+    pub fine : FineIn v rounds rest
+    pub same : find (cut rounds rest) ≡ find (clauses_of list)
 
-pub start : (list : List ℤ) (vs : List ℕ) → Fine (length vs) list → Rest list vs list neither
-unfolding Fine joined
-start list vs h = record { rounds = length list; fine = h; same = refl }
+  -- the clause in front, with the word of its count
+  pub record Front (w : ℤ) (ws : List ℤ) : Type 0 where
+    pub counts : w ≡ pos (count_of w)
+    pub within : count_of w ≤ length ws
+    pub all : AllIn v (take (count_of w) ws)
+    pub rounds : ℕ
+    pub fine : FineIn v rounds (drop (count_of w) ws)
+    pub same : find (take (count_of w) ws ∷ cut rounds (drop (count_of w) ws)) ≡ find (clauses_of list)
 
-module _ (list : List ℤ) (vs : List ℕ) (s : Sight) where
-  by-rounds : (w : ℤ) (ws : List ℤ) (f : ℕ) → FineIn (length vs) f (w ∷ ws)
-      → joined s (seen vs (cut f (w ∷ ws))) ≡ seen vs (clauses_of list) → Front list vs s w ws
+  pub start : Fine v list → Rest list
+  unfolding Fine
+  start h = record { rounds = length list; fine = h; same = refl }
+
+  by-rounds : (w : ℤ) (ws : List ℤ) (f : ℕ) → FineIn v f (w ∷ ws) → find (cut f (w ∷ ws)) ≡ find (clauses_of list) → Front w ws
   unfolding FineIn cut
   by-rounds w ws zero h e = cc
   by-rounds w ws (suc f) h e =
@@ -173,46 +182,60 @@ module _ (list : List ℤ) (vs : List ℕ) (s : Sight) where
         all = rw (← n) h.2;
         rounds = f;
         fine = rw (← n) h.3;
-        same = rw (← n) (ap (joined s) (seen-more vs (take (nat_abs w) ws) (cut f (drop (nat_abs w) ws))) ∙ e);
+        same = rw (← n) e;
       }
 
-  pub front : (rest : List ℤ) → Rest list vs rest s → (w : ℤ) (ws : List ℤ) → rest ≡ w ∷ ws → Front list vs s w ws
+  pub front : (rest : List ℤ) → Rest rest → (w : ℤ) (ws : List ℤ) → rest ≡ w ∷ ws → Front w ws
   front rest r w ws e = by-rounds w ws r.rounds (rw e at r.fine) (rw e at r.same)
 
-  module _ (w : ℤ) (ws : List ℤ) (f : Front list vs s w ws) where
-    pub goes_on : Rest list vs (drop (count_of w) ws) (joined s (seen vs (take (count_of w) ws ∷ [])))
-    goes_on = record { rounds = f.rounds; fine = f.fine; same = joined-assoc vs s _ _ ∙ f.same }
+  -- the clauses behind it
+  pub fine-behind : (w : ℤ) (ws : List ℤ) → Front w ws → Fine v (drop (count_of w) ws)
+  unfolding Fine
+  fine-behind w ws f = (rounds-enough v f.rounds (drop (count_of w) ws) f.fine _ (omega arith)).0
 
-    pub stops : joined s (seen vs (take (count_of w) ws ∷ [])) ≡ conflicting → conflicting ≡ seen vs (clauses_of list)
-    unfolding joined
-    stops e = ap (λ x. joined x (seen vs (cut f.rounds (drop (count_of w) ws)))) (sym e) ∙ joined-assoc vs s _ _ ∙ f.same
+  pub same-behind : (w : ℤ) (ws : List ℤ) → Front w ws
+      → find (take (count_of w) ws ∷ clauses_of (drop (count_of w) ws)) ≡ find (clauses_of list)
+  same-behind w ws f =
+      ap (λ cs. find (take (count_of w) ws ∷ cs)) (sym (rounds-enough v f.rounds (drop (count_of w) ws) f.fine _ (omega arith)).1) ∙ f.same
 
-  joined-neither : (s : Sight) → s ≡ joined s neither
-  unfolding joined
-  joined-neither conflicting = refl
-  joined-neither (unit l) = refl
-  joined-neither neither = refl
+  -- the clause in front counts for nothing
+  pub goes_on : (w : ℤ) (ws : List ℤ) → Front w ws → ((cs : List (List ℤ)) → find cs ≡ find (take (count_of w) ws ∷ cs))
+      → Rest (drop (count_of w) ws)
+  goes_on w ws f h = record { rounds = f.rounds; fine = f.fine; same = h _ ∙ f.same }
 
   cut-nothing : (f : ℕ) → cut f [] ≡ []
   unfolding cut
   cut-nothing zero = refl
   cut-nothing (suc f) = refl
 
-  pub ends : (rest : List ℤ) → Rest list vs rest s → length rest ≡ 0 → s ≡ seen vs (clauses_of list)
-  unfolding seen conflict any first_unit
-  ends [] r e = joined-neither s ∙ ap (λ cs. joined s (seen vs cs)) (sym (cut-nothing r.rounds)) ∙ r.same
+  pub ends : (rest : List ℤ) → Rest rest → length rest ≡ 0 → find [] ≡ find (clauses_of list)
+  ends [] r e = ap find (sym (cut-nothing r.rounds)) ∙ r.same
   ends (w ∷ rest) r e = cc
 
--- behind a clause that is not neither, only a conflict counts
-module _ (vs : List ℕ) (clause : List ℤ) where
-  pub all-false : (s : Seen) → (s ≡ Neither → ⊥) → all (is_false vs clause) clause ≡ true → conflicting ≡ joined (seen_as s) (seen vs (clause ∷ []))
-  unfolding joined
-  all-false Conflict n e = refl
-  all-false (UnitClause l) n e = rw e at (seen-behind vs l clause)
-  all-false Neither n e = absurd (n refl)
+-- a list, by its first clause
+module _ (vs : List ℕ) (c : List ℤ) (cs : List (List ℤ)) where
+  pub conflict-more : all (is_false vs c) c ≡ false → conflict vs cs ≡ conflict vs (c ∷ cs)
+  unfolding conflict any
+  conflict-more e = rw e refl
 
-  pub not-all-false : (s : Seen) → (s ≡ Neither → ⊥) → all (is_false vs clause) clause ≡ false → seen_as s ≡ joined (seen_as s) (seen vs (clause ∷ []))
-  unfolding joined
-  not-all-false Conflict n e = refl
-  not-all-false (UnitClause l) n e = rw e at (seen-behind vs l clause)
-  not-all-false Neither n e = absurd (n refl)
+  pub conflict-here : all (is_false vs c) c ≡ true → true ≡ conflict vs (c ∷ cs)
+  unfolding conflict any
+  conflict-here e = rw e refl
+
+  pub neither-more : neither ≡ seen vs (c ∷ []) → seen vs cs ≡ seen vs (c ∷ cs)
+  neither-more e = ap (λ s. behind vs s cs) e ∙ seen-more vs c cs
+
+  pub conflict-seen : conflicting ≡ seen vs (c ∷ []) → conflicting ≡ seen vs (c ∷ cs)
+  conflict-seen e = ap (λ s. behind vs s cs) e ∙ seen-more vs c cs
+
+  pub unit-seen : (l : ℤ) (b : Bool) → b ≡ conflict vs cs → unit l ≡ seen vs (c ∷ []) → cond b conflicting (unit l) ≡ seen vs (c ∷ cs)
+  unit-seen l b d e = rw d (ap (λ s. behind vs s cs) e ∙ seen-more vs c cs)
+
+-- no clause
+pub nothing-seen : (vs : List ℕ) → neither ≡ seen vs []
+unfolding seen conflict any first_unit
+nothing-seen vs = refl
+
+pub no-conflict : (vs : List ℕ) → false ≡ conflict vs []
+unfolding conflict any
+no-conflict vs = refl

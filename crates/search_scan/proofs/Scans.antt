@@ -6,7 +6,7 @@ use mathlib.Core.Option.{Option, none, some}
 use Prim.Native.Nat.{ℕ}
 use lib.IntN.{ℤ}
 use Rattle.prelude.specs.Tests.{all, any}
-use Rattle.search_scan.specs.Seen.{Sight, conflicting, unit, neither, seen, joined}
+use Rattle.search_scan.specs.Seen.{Sight, conflicting, unit, neither, seen}
 use Rattle.search_rules.specs.Rules.{Truth, falsified, satisfied, unassigned, literal, is_falsified, is_satisfied, conflict, open_of}
 use Rattle.search_rules.specs.Rules.{same_literal, only, unit_of, first_unit}
 
@@ -145,37 +145,23 @@ module _ (vs : List ℕ) where
   unfolding seen conflict any first_unit
   seen-one c = seen-of c (look vs all_false c) (shows c)
 
-  -- one clause, behind a unit clause
-  pub seen-behind : (l : ℤ) (c : List ℤ) → cond (all_falsified c) conflicting (unit l) ≡ joined (unit l) (seen vs (c ∷ []))
-  unfolding joined
-  seen-behind l c = rw (← seen-one c, (shows c).conflicts) (by (look vs all_false c))
-    where
-      by : (x : Clause) → cond (is_all_false x) conflicting (unit l) ≡ joined (unit l) (sight_of x)
-      by all_false = refl
-      by (sole k) = refl
-      by several = refl
-      by is_held = refl
+  -- what a list shows, by what its first clause does
+  abbrev pub behind : Sight → List (List ℤ) → Sight
+  behind conflicting cs = conflicting
+  behind (unit l) cs = cond (conflict vs cs) conflicting (unit l)
+  behind neither cs = seen vs cs
 
-  -- a clause in front
-  pub seen-more : (c : List ℤ) (cs : List (List ℤ)) → joined (seen vs (c ∷ [])) (seen vs cs) ≡ seen vs (c ∷ cs)
-  unfolding seen conflict any first_unit joined
-  seen-more c cs = by (all_falsified c) (unit_of vs c) (conflict vs cs) (first_unit vs cs)
+  pub seen-more : (c : List ℤ) (cs : List (List ℤ)) → behind (seen vs (c ∷ [])) cs ≡ seen vs (c ∷ cs)
+  unfolding seen conflict any first_unit
+  seen-more c cs = by (all_falsified c) (unit_of vs c)
     where
-      by : (b : Bool) (u : Option ℤ) (d : Bool) (w : Option ℤ)
-          → joined (shown (b || false) (elim u as (λ _. Option ℤ) [ none ↦ none | some l ↦ some l ])) (shown d w)
-          ≡ shown (b || d) (elim u as (λ _. Option ℤ) [ none ↦ w | some l ↦ some l ])
-      by true u d w = refl
-      by false none d w = refl
-      by false (some l) true w = refl
-      by false (some l) false none = refl
-      by false (some l) false (some k) = refl
+      by-unit : (d : Bool) (l : ℤ) → cond d conflicting (unit l) ≡ shown d (some l)
+      by-unit true l = refl
+      by-unit false l = refl
 
-  pub joined-assoc : (a b c : Sight) → joined (joined a b) c ≡ joined a (joined b c)
-  unfolding joined
-  joined-assoc conflicting b c = refl
-  joined-assoc (unit l) conflicting c = refl
-  joined-assoc (unit l) (unit k) conflicting = refl
-  joined-assoc (unit l) (unit k) (unit j) = refl
-  joined-assoc (unit l) (unit k) neither = refl
-  joined-assoc (unit l) neither c = refl
-  joined-assoc neither b c = refl
+      by : (b : Bool) (u : Option ℤ)
+          → behind (shown (b || false) (elim u as (λ _. Option ℤ) [ none ↦ none | some l ↦ some l ])) cs
+          ≡ shown (b || conflict vs cs) (elim u as (λ _. Option ℤ) [ none ↦ first_unit vs cs | some l ↦ some l ])
+      by true u = refl
+      by false none = refl
+      by false (some l) = by-unit (conflict vs cs) l

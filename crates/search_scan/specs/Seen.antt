@@ -27,11 +27,3 @@ abbrev pub seen_as : Seen → Sight
 seen_as Conflict = conflicting
 seen_as (UnitClause l) = unit l
 seen_as Neither = neither
-
--- what a list shows, by what its first clauses show and what those behind them do
-unfoldable pub joined : Sight → Sight → Sight
-joined conflicting s = conflicting
-joined (unit l) conflicting = conflicting
-joined (unit l) (unit k) = unit l
-joined (unit l) neither = unit l
-joined neither s = s

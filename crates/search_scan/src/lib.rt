@@ -5,10 +5,10 @@ ghost use Rattle.std.specs.Prelude.{◌≡◌, [], ◌∷◌, ◌≤◌, length}
 ghost use Rattle.prelude.specs.Tests.{all};
 ghost use Rattle.clause_list.specs.ClauseList.{clauses_of};
 ghost use Rattle.literal.specs.Words.{last_variable};
-ghost use Rattle.search_rules.specs.Rules.{is_falsified, literal};
+ghost use Rattle.search_rules.specs.Rules.{conflict, is_falsified, literal};
 ghost use Rattle.search_rules.specs.Held.{InRange};
 ghost use Rattle.search_rules.specs.Inner.{AllIn, Fine};
-ghost use Rattle.search_scan.specs.Seen.{test_of, joined, seen_as, seen};
+ghost use Rattle.search_scan.specs.Seen.{test_of, seen_as, seen};
 
 // What a look over the clauses shows.
 #[derive(Clone, Copy)]
@@ -29,7 +29,11 @@ fn truth(values: &[u8], l: i32) -> Option<bool>
     if x == 2 {
         return None;
     }
-    Some((x == 1) == literal::is_positive(l))
+    if literal::is_positive(l) {
+        Some(x == 1)
+    } else {
+        Some(x != 1)
+    }
 }
 
 // What one clause shows. It is left at a true literal, and at a second open one that is another.
@@ -71,37 +75,44 @@ fn are_false(clause: &[i32], values: &[u8]) -> bool
     true
 }
 
-// What is seen so far, with one clause more: behind a unit clause only a conflict counts.
-fn with_clause(so_far: Seen, clause: &[i32], values: &[u8]) -> Seen
-    requires in_range { AllIn (length values.now) clause.now }
+// Whether some clause has only false literals.
+fn has_conflict(list: &[i32], values: &[u8]) -> bool
+    requires fine { Fine (length values.now) list.now }
     requires values_len_bound { length values.now ≤ last_variable }
-    ensures { seen_as result ≡ joined (seen_as so_far) (seen values.now (clause.now ∷ [])) }
+    ensures { result ≡ conflict values.now (clauses_of list.now) }
 {
-    if let Seen::Neither = so_far {
-        return scan_clause(clause, values);
+    let mut rest = list;
+    while let Some((head, tail)) = rest.split_first() {
+        let (clause, after) = tail.split_at(literal::known_count(*head));
+        if are_false(clause, values) {
+            return true;
+        }
+        rest = after;
     }
-    if are_false(clause, values) {
-        return Seen::Conflict;
-    }
-    so_far
+    false
 }
 
 // One pass: a clause with only false literals anywhere, else the first clause with no true literal whose open literals are all
-// the same.
+// the same. Behind that clause only a conflict counts.
 pub fn scan(list: &[i32], values: &[u8]) -> Seen
     requires fine { Fine (length values.now) list.now }
     requires values_len_bound { length values.now ≤ last_variable }
     ensures { seen_as result ≡ seen values.now (clauses_of list.now) }
 {
-    let mut so_far = Seen::Neither;
     let mut rest = list;
     while let Some((head, tail)) = rest.split_first() {
         let (clause, after) = tail.split_at(literal::known_count(*head));
-        so_far = with_clause(so_far, clause, values);
-        if let Seen::Conflict = so_far {
-            return so_far;
+        match scan_clause(clause, values) {
+            Seen::Conflict => return Seen::Conflict,
+            Seen::UnitClause(l) => {
+                if has_conflict(after, values) {
+                    return Seen::Conflict;
+                }
+                return Seen::UnitClause(l);
+            }
+            Seen::Neither => {}
         }
         rest = after;
     }
-    so_far
+    Seen::Neither
 }
