@@ -1,5 +1,5 @@
 -- The inputs of an OR, one after the other: those kept stand before place n, those not read yet behind place k.
-use mathlib.Core.Path.{◌≡◌, refl, sym, ap, ◌∙◌}
+use mathlib.Core.Path.{◌≡◌, sym, ap, ◌∙◌}
 use mathlib.Core.List.{List, [], ◌∷◌, ◌++◌, map-append}
 use Prim.Native.Nat.{ℕ, ◌+◌, ◌≤◌, ◌<◌}
 use native.Mathlib.Numerals.{add-one}
@@ -24,9 +24,6 @@ pub record Settling (ws out : List ℤ) (n k : ℕ) : Type 0 where
   pub size : length out ≡ length ws
   pub rest : drop k out ≡ drop k ws
   pub same : settled_by (literals_of (take n out)) (literals_of (drop k ws)) ≡ settled (literals_of ws)
-
-pub settling-start : (ws : List ℤ) → Settling ws ws 0 0
-settling-start ws = record { kept = omega arith; passed = omega arith; size = refl; rest = refl; same = refl }
 
 -- the next input, by what is seen of it
 module _ (ws out : List ℤ) (n k : ℕ) (h : k < length ws) (s : Settling ws out n k) where

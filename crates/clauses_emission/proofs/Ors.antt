@@ -5,7 +5,7 @@ use Prim.Native.Nat.{ℕ, suc, ◌+◌, ◌*◌, ◌≤◌, ◌<◌}
 use native.Mathlib.Omega.{arith}
 use lib.IntN.{ℤ, pos}
 use lib.ListN.{length, get_or, take, set, length-append, length-map}
-use lib.Seq.{take_all, take-suc, take-suc-set}
+use lib.Seq.{take-suc, take-suc-set}
 use Rattle.literal.specs.Literals.{Literal, positive, negative, opposite, word_of}
 use Rattle.literal.specs.Words.{literal_of}
 use Rattle.clause_list.specs.ClauseList.{words_of}
@@ -16,7 +16,7 @@ use Rattle.clauses_emission.specs.declared.Made.{Made}
 use Rattle.clauses_emission.specs.Emission.{Inside, literals_of, words_for, Appends, Room, Bounded, Within, Emits, EmitsLiteral}
 use Rattle.clauses_emission.proofs.Writes.{writes_then, writes_as, writes-length}
 use Rattle.clauses_emission.proofs.Ranges.{inside-opposite}
-use Rattle.clauses_emission.proofs.Steps.{Regular, emits-map}
+use Rattle.clauses_emission.proofs.Steps.{emits-map}
 
 -- ---- the clauses of a gate's inputs
 inputs-more : (g : ℕ) (ls : List Literal) (l : Literal)
@@ -95,9 +95,6 @@ module _ (tape : Tape) (ls : List Literal) (bounded : Bounded tape) (within : Wi
         over = λ o. omega (arith, n, o);
       }
 
-pub regular-gate : (ls : List Literal) → Regular (gate_of ls)
-regular-gate ls = record { counts = λ g. omega arith }
-
 -- ---- what remains of an OR, by its number
 pub or-none : (ws : List ℤ) (g : ℕ) → length ws ≡ 0 → return (negative 1) g ≡ or_of (literals_of ws) g
 or-none [] g e = refl
@@ -126,11 +123,6 @@ opposites-next ws out k r h l e f =
     (ap (λ (t : List ℤ). map opposite (literals_of t)) (take-suc ws k (pos 0) h)
     ∙ ap (map opposite) (map-append literal_of (take k ws) (w ∷ []))
     ∙ map-append opposite (literals_of (take k ws)) (literal_of w ∷ [])))
-
-pub opposites-all : (ws out : List ℤ) (k : ℕ) → length ws ≤ k → length out ≡ length ws
-    → literals_of (take k out) ≡ map opposite (literals_of (take k ws)) → literals_of out ≡ map opposite (literals_of ws)
-opposites-all ws out k h e i =
-    sym (ap literals_of (take_all k out (omega arith))) ∙ i ∙ ap (λ (t : List ℤ). map opposite (literals_of t)) (take_all k ws h)
 
 -- ---- the opposite of what a step gives
 pub emits-negated : (step : Builder Literal) (x y : Made) {old new : List ℤ} {a : Tape}

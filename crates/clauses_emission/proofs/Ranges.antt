@@ -33,7 +33,7 @@ opposite-plain (pos zero) h = absurd (omega arith)
 opposite-plain (pos (suc n)) h = refl
 opposite-plain (negsuc n) h = refl
 
-opposite-word : (n : ℕ) (w : ℤ) → n ≤ 16002 → Inside n (literal_of w) → literal_of (opposite_word w) ≡ opposite (literal_of w)
+pub opposite-word : (n : ℕ) (w : ℤ) → n ≤ 16002 → Inside n (literal_of w) → literal_of (opposite_word w) ≡ opposite (literal_of w)
 opposite-word n w h i =
     let low : 1 ≤ nat_abs w = omega (arith, i.low, variable-of w) in
     ap literal_of (opposite-is w (omega (arith, i.high, variable-of w))) ∙ opposite-plain w low
@@ -61,9 +61,6 @@ module _ {n : ℕ} where
   all-opposites [] h i k = all_none h k
   all-opposites (l ∷ ls) h i zero = inside-opposite l (i 0)
   all-opposites (l ∷ ls) h i (suc k) = all-opposites ls h (λ j. i (suc j)) k
-
-  pub all_two : (l m : Literal) → 2 ≤ n → Inside n l → Inside n m → AllInside n (l ∷ m ∷ [])
-  all_two l m h i j = all_more l (m ∷ []) i (all_more m [] j (all_none h))
 
 -- the literal at a place
 pub literal-at : (ws : List ℤ) (k : ℕ) → k < length ws → get_or (literals_of ws) k absent ≡ literal_of (get_or ws k (pos 0))

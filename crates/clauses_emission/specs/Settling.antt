@@ -1,6 +1,6 @@
 -- What the code does with the inputs of an OR before a gate is made: one after the other, beside those that are kept so far.
 -- No public contract reaches this file: nothing here needs belief.
-use Rattle.std.specs.Prelude.{◌≡◌, cond, List, [], ◌∷◌, ◌++◌, ℕ, ◌≤◌, ℤ, pos, length, take}
+use Rattle.std.specs.Prelude.{◌≡◌, cond, List, [], ◌∷◌, ◌++◌, ℕ, ◌≤◌, ℤ, length, take, Option, MatchOption}
 use Rattle.literal.specs.Literals.{Literal, positive, opposite, is_same}
 use Rattle.literal.specs.Words.{literal_of}
 use Rattle.clauses_rules.specs.Builder.{Builder, return}
@@ -49,7 +49,6 @@ pub record Told (step : Two → Builder Literal) (p q r : ℤ) : Type 0 where
   pub value : (g : ℕ) → return (literal_of r) g ≡ step (literal_of p, literal_of q) g
   pub inside : {n : ℕ} → 2 ≤ n → Inside n (literal_of p) → Inside n (literal_of q) → Inside n (literal_of r)
 
--- what OR of two words gives, or 0 where it is a gate
-pub record Tells (p q r : ℤ) : Type 0 where
-  pub gate : r ≡ pos 0 → Apart (literal_of p) (literal_of q)
-  pub told : (r ≡ pos 0 → ⊥) → Told either p q r
+-- what OR of two words gives, where it is no gate
+abbrev pub Tells : ℤ → ℤ → Option ℤ → Type 0
+Tells p q r = MatchOption r (Apart (literal_of p) (literal_of q)) (λ l. Told either p q l)

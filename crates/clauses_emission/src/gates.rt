@@ -1,5 +1,5 @@
 // OR, AND and IFF (document 01, "Clauses", second paragraph; document 02, Change 2). Past the limit of variables no gate is made.
-ghost use Rattle.std.specs.Prelude.{◌≡◌, pos};
+ghost use Rattle.std.specs.Prelude.{◌≡◌, pos, IfSome};
 ghost use Rattle.literal.specs.Literals.{opposite};
 ghost use Rattle.literal.specs.Words.{literal_of};
 ghost use Rattle.clauses_rules.specs.Gates as spec;
@@ -22,12 +22,8 @@ fn gate_inputs(list: &mut [i32], tape: Tape, g: i32, inputs: &[i32]) -> Tape
         list.old tape list.new result }
 {
     let mut after = tape;
-    let mut k: usize = 0;
-    while k < inputs.len() {
-        let l = inputs[k];
-        let others = [literal::opposite(l); 1];
-        after = emit_clause(list, after, g, &others);
-        k += 1;
+    for l in inputs {
+        after = emit_clause(list, after, g, &[literal::opposite(*l)]);
     }
     after
 }
@@ -60,15 +56,14 @@ pub fn or(list: &mut [i32], tape: Tape, inputs: &mut [i32]) -> Made
     requires inputs { Inputs tape.next inputs.old }
     ensures { EmitsList spec.or inputs.old list.old tape result.literal list.new result.tape }
 {
-    let n = settle(inputs);
-    if n == 0 {
-        return Made { literal: -1, tape };
+    match settle(inputs) {
+        0 => Made { literal: -1, tape },
+        1 => Made {
+            literal: inputs[0],
+            tape,
+        },
+        n => gate(list, tape, &inputs[..n]),
     }
-    if n == 1 {
-        let l = inputs[0];
-        return Made { literal: l, tape };
-    }
-    gate(list, tape, &inputs[..n])
 }
 
 // Not: the opposite literal.
@@ -77,10 +72,9 @@ pub fn negate(made: Made) -> Made
     requires inside { Inside made.tape.next (literal_of made.literal) }
     ensures { (result.tape ≡ made.tape) × (literal_of result.literal ≡ opposite (literal_of made.literal)) }
 {
-    let tape = made.tape;
     Made {
         literal: literal::opposite(made.literal),
-        tape,
+        tape: made.tape,
     }
 }
 
@@ -91,44 +85,34 @@ pub fn and(list: &mut [i32], tape: Tape, inputs: &mut [i32]) -> Made
     ensures { EmitsList spec.and inputs.old list.old tape result.literal list.new result.tape }
 {
     turn(inputs);
-    let made = or(list, tape, inputs);
-    negate(made)
+    negate(or(list, tape, inputs))
 }
 
-// OR(p, q) where constants, a repeat or opposites tell it; where it is a gate, 0, which is no literal.
-fn told(p: i32, q: i32) -> i32
+// OR(p, q) where constants, a repeat or opposites tell it, and not where it is a gate.
+fn told(p: i32, q: i32) -> Option<i32>
     requires inside { Inside 16002 (literal_of p) }
     requires inside_2 { Inside 16002 (literal_of q) }
     ensures { Tells p q result }
 {
+    let other = literal::opposite(q);
     if p == -1 {
-        return q;
+        Some(q)
+    } else if q == -1 || p == q {
+        Some(p)
+    } else if p == 1 || q == 1 || p == other {
+        Some(1)
+    } else {
+        None
     }
-    if q == -1 {
-        return p;
-    }
-    if p == q {
-        return p;
-    }
-    if p == 1 {
-        return 1;
-    }
-    if q == 1 {
-        return 1;
-    }
-    if p == literal::opposite(q) {
-        return 1;
-    }
-    0
 }
 
 // The same of AND(p, q).
-pub fn told_both(p: i32, q: i32) -> i32
+pub fn told_both(p: i32, q: i32) -> Option<i32>
     requires inside { Inside 16002 (literal_of p) }
     requires inside_2 { Inside 16002 (literal_of q) }
-    ensures { (result ≡ pos 0 → ⊥) → Told two.both p q result }
+    ensures { IfSome result (λ l. Told two.both p q l) }
 {
-    literal::opposite(told(literal::opposite(p), literal::opposite(q)))
+    told(literal::opposite(p), literal::opposite(q)).map(literal::opposite)
 }
 
 // OR(p, q): a gate is made only where nothing tells it.
@@ -138,12 +122,10 @@ pub fn either(list: &mut [i32], tape: Tape, p: i32, q: i32) -> Made
     requires inside_2 { Inside tape.next (literal_of q) }
     ensures { EmitsTwo two.either p q list.old tape result.literal list.new result.tape }
 {
-    let l = told(p, q);
-    if l != 0 {
-        return Made { literal: l, tape };
+    match told(p, q) {
+        Some(literal) => Made { literal, tape },
+        None => gate(list, tape, &[p, q]),
     }
-    let inputs = [p, q];
-    gate(list, tape, &inputs)
 }
 
 pub fn implies(list: &mut [i32], tape: Tape, p: i32, q: i32) -> Made
@@ -170,8 +152,7 @@ pub fn both(list: &mut [i32], tape: Tape, p: i32, q: i32) -> Made
     requires inside_2 { Inside tape.next (literal_of q) }
     ensures { EmitsTwo two.both p q list.old tape result.literal list.new result.tape }
 {
-    let made = apart(list, tape, p, q);
-    negate(made)
+    negate(apart(list, tape, p, q))
 }
 
 // AND(p, -q): the opposite of OR(-p, q).
@@ -181,8 +162,7 @@ pub fn without(list: &mut [i32], tape: Tape, p: i32, q: i32) -> Made
     requires inside_2 { Inside tape.next (literal_of q) }
     ensures { EmitsTwo two.without p q list.old tape result.literal list.new result.tape }
 {
-    let made = implies(list, tape, p, q);
-    negate(made)
+    negate(implies(list, tape, p, q))
 }
 
 // IFF(p, q): AND(OR(-p, q), OR(-q, p)).
@@ -193,10 +173,8 @@ pub fn same(list: &mut [i32], tape: Tape, p: i32, q: i32) -> Made
     ensures { EmitsTwo two.same p q list.old tape result.literal list.new result.tape }
 {
     let x = implies(list, tape, p, q);
-    let after_x = x.tape;
-    let y = implies(list, after_x, q, p);
-    let after_y = y.tape;
-    both(list, after_y, x.literal, y.literal)
+    let y = implies(list, x.tape, q, p);
+    both(list, y.tape, x.literal, y.literal)
 }
 
 // One of these.

@@ -20,16 +20,13 @@ fn look(kept: &[i32], l: i32) -> Seen
         return Seen::Opposite;
     }
     let other = literal::opposite(l);
-    let mut k: usize = 0;
-    while k < kept.len() {
-        let m = kept[k];
-        if m == l {
+    for m in kept {
+        if *m == l {
             return Seen::Itself;
         }
-        if m == other {
+        if *m == other {
             return Seen::Opposite;
         }
-        k += 1;
     }
     Seen::Nothing
 }
@@ -40,11 +37,9 @@ pub(crate) fn settle(inputs: &mut [i32]) -> usize
     ensures { Settles inputs.old inputs.new result }
 {
     let mut n: usize = 0;
-    let mut k: usize = 0;
-    while k < inputs.len() {
+    for k in 0..inputs.len() {
         let l = inputs[k];
-        let seen = look(&inputs[..n], l);
-        match seen {
+        match look(&inputs[..n], l) {
             Seen::Nothing => {
                 inputs[n] = l;
                 n += 1;
@@ -55,7 +50,6 @@ pub(crate) fn settle(inputs: &mut [i32]) -> usize
                 return 1;
             }
         }
-        k += 1;
     }
     n
 }
@@ -65,10 +59,7 @@ pub(crate) fn turn(inputs: &mut [i32])
     requires { AllInside 16002 (literals_of inputs.old) }
     ensures { literals_of inputs.new ≡ map opposite (literals_of inputs.old) }
 {
-    let mut k: usize = 0;
-    while k < inputs.len() {
-        let l = inputs[k];
-        inputs[k] = literal::opposite(l);
-        k += 1;
+    for l in inputs.iter_mut() {
+        *l = literal::opposite(*l);
     }
 }

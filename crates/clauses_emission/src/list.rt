@@ -7,6 +7,7 @@ ghost use Rattle.clauses_emission.specs.Emission.{literals_of, most_inputs, Appe
 use super::Tape;
 
 // Stores a word where the list has a place for it.
+// Kept: tried `get_mut`; std's contract for a slice says nothing of the element after a write through it, so `ensures` stayed open.
 fn put(list: &mut [i32], at: usize, word: i32)
     ensures { list.new ≡ set list.old at word }
 {
@@ -21,14 +22,10 @@ fn write_clause(rest: &mut [i32], first: i32, others: &[i32])
     ensures { rest.new ≡ put_all rest.old 0
         (pos (suc (length others.now)) ∷ first ∷ others.now) }
 {
-    let count = literal::positive((1 + others.len()) as u32);
-    put(rest, 0, count);
+    put(rest, 0, literal::positive((1 + others.len()) as u32));
     put(rest, 1, first);
-    let mut k: usize = 0;
-    while k < others.len() {
-        let l = others[k];
-        put(rest, 2 + k, l);
-        k += 1;
+    for (k, l) in others.iter().enumerate() {
+        put(rest, 2 + k, *l);
     }
 }
 
@@ -61,5 +58,5 @@ pub fn emit_clause(list: &mut [i32], tape: Tape, first: i32, others: &[i32]) -> 
 pub fn word_at(given: &[i32], i: usize) -> i32
     ensures { result ≡ get_or given.now i (negsuc 0) }
 {
-    if i < given.len() { given[i] } else { -1 }
+    given.get(i).copied().unwrap_or(-1)
 }

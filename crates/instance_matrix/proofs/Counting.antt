@@ -34,11 +34,3 @@ count-is = is_count_by count (λ b. b) refl step
     step : (b : Bool) (xs : List Bool) → count (b ∷ xs) ≡ cond b (1 + count xs) (count xs)
     step true xs = omega arith
     step false xs = refl
-
--- ---- 2.1.2 marks: one that is neither 0 nor 1
-pub exact-row : (sheet : Sheet) (instance : List ℕ) (mark : ℕ) (bound : Bool) (cells : List Bool) → (mark ≡ 0 → ⊥)
-    → (mark ≡ 1 → ⊥)
-    → row_holds sheet instance mark bound cells ≡ (leb (count cells) 1 && implies (bound, leb 1 (count cells)))
-exact-row sheet instance zero bound cells h g = absurd (h refl)
-exact-row sheet instance (suc zero) bound cells h g = absurd (g refl)
-exact-row sheet instance (suc (suc m)) bound cells h g = refl

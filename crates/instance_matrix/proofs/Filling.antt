@@ -13,9 +13,6 @@ use Rattle.relational.specs.Matrices.{upto, Place, places, cell_at}
 use Rattle.relational.proofs.Places.{length-map-from, upto-at, length-places, places-at, square, row_below, column-below}
 use Rattle.instance_matrix.specs.Values.{Value, matrix_of, Fine}
 
-pub small-index : (i columns j : ℕ) → i < 8 → columns ≤ 8 → j < columns → i * columns + j < 64
-small-index i columns j h g l = omega (arith, mul-le-mul_right columns h)
-
 -- ---- filled up to k with what f says, false from there on
 pub record Filled (cells : List Bool) (f : ℕ → Bool) (k : ℕ) : Type 0 where
   pub long : length cells ≡ 64
@@ -100,8 +97,3 @@ module _ (v : Value) (f : Fine v) where
 
   pub cells_of : ◌≡◌ {A = ℕ → Bool} (λ k. cell_at false (matrix_of v) k) (λ k. get_or v.cells k false)
   cells_of = fun_ext cell-of
-
-  pub cells-counted : length (matrix_of v).cells ≡ v.rows * v.columns
-  cells-counted =
-      length-take-le (v.rows * v.columns) v.cells
-      (omega (arith, f.long, square f.few_rows f.few_columns))

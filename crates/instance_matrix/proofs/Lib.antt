@@ -1,4 +1,3 @@
 pub mod Filling
 pub mod Results
 pub mod Counting
-mod Arities

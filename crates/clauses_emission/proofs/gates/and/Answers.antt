@@ -1,18 +1,11 @@
--- `gates::and` meets its contract.
-use native.Mathlib.Omega.{arith}
+use Rattle.std.proofs.Common.{arith}
 use Rattle.clauses_emission.specs.Emission.{literals_of}
 use Rattle.clauses_emission.proofs.Ranges.{all-opposites}
 use Rattle.clauses_emission.proofs.gates.and.Goals as goal
 
-pub or-made-requires : goal.or-made-requires
-or-made-requires c =
-    let start = c.before.before.before.before.before in
-    let turned = c.turn in
-    let ws = start.args.inputs.now in record {
-      bounded = start.requires.bounded;
-      inputs = record {
-        few = omega (arith, start.requires.inputs.few, turned.auto);
-        inside = rw turned.ensures (all-opposites (literals_of ws) start.requires.bounded.first
-            start.requires.inputs.inside);
-      };
-    }
+pub or-requires-clause-inputs : goal.or-requires-clause-inputs
+or-requires-clause-inputs c = record {
+  few = omega (arith, c.requires.inputs.few, c.turn.auto);
+  inside = rw c.turn.ensures
+      (all-opposites (literals_of c.args.inputs.now) c.requires.bounded.first c.requires.inputs.inside);
+}

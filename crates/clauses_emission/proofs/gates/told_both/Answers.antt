@@ -1,51 +1,43 @@
--- `gates::told_both` meets its contract.
-use mathlib.Core.Path.{◌≡◌, ap, ◌∙◌}
-use native.Mathlib.Omega.{arith}
-use lib.IntN.{ℤ}
+use Rattle.std.proofs.Common.{◌≡◌, Option, Some, None, ℤ, pos, negsuc, ap, ◌∙◌, arith, rules}
+use Rattle.std.specs.Option.{MatchOption, IfSome, IsSomeAnd}
 use mir.Syntax.{w32}
 use mir.Val.{SFits}
 use Rattle.literal.specs.Literals.{opposite}
 use Rattle.literal.specs.Words.{literal_of, opposite_word}
 use Rattle.literal.proofs.Signs.{read, back}
+use Rattle.clauses_rules.specs.Translation.{either, both}
 use Rattle.clauses_emission.specs.Emission.{Inside}
-use Rattle.clauses_emission.proofs.Ranges.{opposite-read, inside-opposite}
+use Rattle.clauses_emission.specs.Settling.{Told, Tells}
+use Rattle.clauses_emission.proofs.Ranges.{opposite-read, opposite-word, inside-opposite}
 use Rattle.clauses_emission.proofs.Twos.{told-turned}
 use Rattle.clauses_emission.proofs.gates.told_both.Goals as goal
-use Rattle.clauses_emission.proofs.gates.told_both.Lts as lts
-use Rattle.clauses_emission.proofs.gates.told_both.Tie as tie
-use Rattle.clauses_emission.proofs.gates.told_both.Reads as reads
 
-abbrev At-After-opposite : Type 0
-At-After-opposite = lts.After-opposite tie.the-claims reads.Pre reads.Post tie.handed_clauses
+told-map : {u v p q : ℤ} {R : ℤ → ℤ → Type 0} (told more : Option ℤ) → Tells u v told
+    → MatchOption told (more ≡ None) (λ r. IsSomeAnd more (R r))
+    → ((r l : ℤ) → Told either u v r → R r l → Told both p q l) → IfSome more (λ l. Told both p q l)
+told-map None more t e go = rw e tt
+told-map (Some r) None t h go = absurd h
+told-map (Some r) (Some l) t h go = go r l t h
 
-abbrev At-After-opposite2 : Type 0
-At-After-opposite2 = lts.After-opposite2 tie.the-claims reads.Pre reads.Post tie.handed_clauses
-
-turned-p : (c : At-After-opposite) → literal_of (read c.opposite.result) ≡ opposite (literal_of c.args.p)
-turned-p c =
-    opposite-read 16002 c.args.p c.opposite.result (omega arith)
-    c.ranges.p c.requires.inside c.opposite.ensures (record { sfits = c.opposite.type_inv })
-
-turned-q : (c : At-After-opposite2) → literal_of (read c.opposite-2.result) ≡ opposite (literal_of c.args.q)
-turned-q c =
-    let start = c.before.before in
-    opposite-read 16002 start.args.q c.opposite-2.result (omega arith)
-    start.ranges.q start.requires.inside_2 c.opposite-2.ensures (record { sfits = c.opposite-2.type_inv })
-
-inside-p : (c : At-After-opposite2) → Inside 16002 (literal_of (read c.opposite.result))
-inside-p c = rw (turned-p c.before) (inside-opposite (literal_of c.args.p) c.requires.inside)
-
-inside-q : (c : At-After-opposite2) → Inside 16002 (literal_of (read c.opposite-2.result))
-inside-q c = rw (turned-q c) (inside-opposite (literal_of c.args.q) c.requires.inside_2)
+-- a word of a variable in range is one that the machine holds
+fits : (r : ℤ) → Inside 16002 (literal_of r) → SFits w32 r
+fits (pos n) i = record { sfits = omega (arith, i.high) }
+fits (negsuc n) i = record { sfits = omega (arith, i.high) }
 
 pub returns : goal.returns
-returns c n =
-    let at = c.before.before in
-    let l = c.told.result in
-    let r = c.opposite-3.result in
-    let f : SFits w32 l = record { sfits = c.told.type_inv } in
-    let g : SFits w32 r = record { sfits = c.opposite-3.type_inv } in
-    let t = c.told.ensures.told (λ z. n (back r g ∙ c.opposite-3.ensures ∙ ap (λ (w : ℤ). opposite_word (read w)) z)) in
-    told-turned (turned-p at.before) (turned-q at)
-    (opposite-read 16002 l r (omega arith) f (t.inside (omega arith) (inside-p at) (inside-q at)) c.opposite-3.ensures
-    g) t
+returns c =
+    let x = c.opposite in
+    let y = c.opposite-2 in
+    let e : literal_of (read x.result) ≡ opposite (literal_of c.args.p) =
+    opposite-read 16002 c.args.p x.result (omega arith) c.ranges.p c.requires.inside x.ensures
+    (record { sfits = x.type_inv }) in
+    let f : literal_of (read y.result) ≡ opposite (literal_of c.args.q) =
+    opposite-read 16002 c.args.q y.result (omega arith) c.ranges.q c.requires.inside_2 y.ensures
+    (record { sfits = y.type_inv }) in
+    let i : Inside 16002 (literal_of (read x.result)) = rw e (inside-opposite (literal_of c.args.p) c.requires.inside) in
+    let j : Inside 16002 (literal_of (read y.result)) = rw f (inside-opposite (literal_of c.args.q) c.requires.inside_2) in
+    told-map c.told.result c.map.result c.told.ensures c.map.ensures.cases
+    (λ r l t h.
+    let k = t.inside {n = 16002} (omega arith) i j in
+    let w : l ≡ opposite_word (read r) = search rules in
+    told-turned e f (ap literal_of (w ∙ ap opposite_word (back r (fits r k))) ∙ opposite-word 16002 r (omega arith) k) t)

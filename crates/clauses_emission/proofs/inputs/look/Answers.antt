@@ -1,9 +1,4 @@
-use borrow.Author.Rules.{rules}
-use mathlib.Core.Path.{◌≡◌, sym, ap, ◌∙◌}
-use native.Mathlib.Numerals.{add-one}
-use native.Mathlib.Omega.{arith}
-use lib.IntN.{ℤ, pos}
-use lib.ListN.{get_or}
+use Rattle.std.proofs.Common.{◌≡◌, get_or, sym, ap, ◌∙◌, ℤ, pos, add-one, arith, rules}
 use mir.Syntax.{w32}
 use mir.Val.{SFits, of_z}
 use Rattle.literal.specs.Literals.{opposite}
@@ -27,49 +22,46 @@ returns-then-l-eqminus1 c = sym (look-absent c.args.l _ (same-as c.args.l c.rang
 pub returns-then-l-eq1 : goal.returns-then-l-eq1
 returns-then-l-eq1 c = sym (look_one c.args.l _ (same-as c.args.l c.ranges.l c.if-l-eq1.true))
 
-pub loop-k-init : goal.loop-k-init
-loop-k-init c = let l = c.args.l in (
-  omega arith,
-  rw (back l c.ranges.l)
-      (sym (look-further l _ (λ e. c.if-l-eqminus1.false (ap (of_z w32) e)) (λ e. c.if-l-eq1.false (ap (of_z w32) e)))),
-)
+pub loop-m-init : goal.loop-m-init
+loop-m-init c =
+    let l = c.args.l in
+    rw (back l c.ranges.l)
+    (sym (look-further l _ (λ e. c.if-l-eqminus1.false (ap (of_z w32) e)) (λ e. c.if-l-eq1.false (ap (of_z w32) e))))
 
 pub returns-then-m-l : goal.returns-then-m-l
 returns-then-m-l c =
     let ws = c.args.kept.now in
     let l = c.args.l in
-    let k = c.loop-k.k in
+    let k = c.loop-m.m-index in
     let e = same_word (get_or ws k (pos 0)) l (search rules) c.ranges.l c.if-m-l.true in
-    sym (look-itself ws k c.loop-k-test.true l e) ∙ (rw (back l c.ranges.l) at c.loop-k.invariant.1)
+    sym (look-itself ws k c.loop-m-test.true l e) ∙ (rw (back l c.ranges.l) at c.loop-m.invariant)
 
 pub returns-then-m-other : goal.returns-then-m-other
 returns-then-m-other c =
     let ws = c.args.kept.now in
     let l = c.args.l in
-    let k = c.loop-k.k in
+    let k = c.loop-m.m-index in
     let o = c.opposite-other in
     let g : SFits w32 o.result = record { sfits = o.type_inv } in
     let e = same_word (get_or ws k (pos 0)) o.result (search rules) g c.if-m-other.true in
     sym
-    (look-opposite ws k c.loop-k-test.true l (λ f. c.if-m-l.false (ap (of_z w32) f))
+    (look-opposite ws k c.loop-m-test.true l (λ f. c.if-m-l.false (ap (of_z w32) f))
     (ap literal_of e ∙ turned l o.result c.ranges.l g c.requires o.ensures))
-    ∙ (rw (back l c.ranges.l) at c.loop-k.invariant.1)
+    ∙ (rw (back l c.ranges.l) at c.loop-m.invariant)
 
-pub loop-k-preserved : goal.loop-k-preserved
-loop-k-preserved c =
+pub loop-m-preserved : goal.loop-m-preserved
+loop-m-preserved c =
     let ws = c.args.kept.now in
     let l = c.args.l in
-    let k = c.loop-k.k in
+    let k = c.loop-m.m-index in
     let o = c.opposite-other in
     let t = turned l o.result c.ranges.l (record { sfits = o.type_inv }) c.requires o.ensures in
-    let past = look-past ws k c.loop-k-test.true l (λ f. c.if-m-l.false (ap (of_z w32) f))
-    (λ f. c.if-m-other.false (ap (of_z w32) (one_word (get_or ws k (pos 0)) o.result (f ∙ sym t)))) in (
-      omega arith,
-      rw (add-one k, back l c.ranges.l) (sym past ∙ (rw (back l c.ranges.l) at c.loop-k.invariant.1)),
-    )
+    let past = look-past ws k c.loop-m-test.true l (λ f. c.if-m-l.false (ap (of_z w32) f))
+    (λ f. c.if-m-other.false (ap (of_z w32) (one_word (get_or ws k (pos 0)) o.result (f ∙ sym t)))) in
+    rw (add-one k, back l c.ranges.l) (sym past ∙ (rw (back l c.ranges.l) at c.loop-m.invariant))
 
 pub returns : goal.returns
 returns c =
     let l = c.args.l in
-    sym (look-end c.args.kept.now c.loop-k.k (literal_of l) (omega (arith, c.loop-k-test.false)))
-    ∙ (rw (back l c.ranges.l) at c.loop-k.invariant.1)
+    sym (look-end c.args.kept.now c.loop-m.m-index (literal_of l) c.loop-m-test.false)
+    ∙ (rw (back l c.ranges.l) at c.loop-m.invariant)

@@ -1,10 +1,4 @@
-use borrow.Author.Rules.{rules}
-use mathlib.Core.Path.{◌≡◌, sym, ◌∙◌}
-use Prim.Native.Nat.{ℕ, ◌<◌}
-use native.Mathlib.Omega.{arith}
-use lib.IntN.{ℤ, pos}
-use lib.ListN.{length, get_or, take}
-use mathlib.Core.List.{List, ◌∷◌}
+use Rattle.std.proofs.Common.{◌≡◌, ℕ, List, ◌∷◌, get_or, take, sym, ◌∙◌, ℤ, pos, rules}
 use mir.Syntax.{w32}
 use mir.Val.{SFits}
 use Rattle.literal.specs.Words.{literal_of}
@@ -25,41 +19,34 @@ saw : (out : List ℤ) (w : ℤ) (n : ℕ) (s t : Seen) → SFits w32 w → t �
     → seen_in (absent ∷ literals_of (take n out)) (literal_of w) ≡ s
 saw out w n s t f g e = sym (rw (back w f) at e) ∙ g
 
-pub look-seen-requires : goal.look-seen-requires
-look-seen-requires c =
+pub look-requires : goal.look-requires
+look-requires c =
     let loop = c.loop-k in
     let ws = c.args.inputs.now in
-    let h : loop.k < length ws = omega (arith, c.loop-k-test.true, loop.invariant.size) in
     rw (back (get_or loop.inputs loop.k (pos 0)) (search rules), rest_at loop.inputs ws loop.k loop.invariant.rest)
-    (rw (literal-at ws loop.k h) at (c.requires loop.k))
+    (rw (literal-at ws loop.k c.loop-k-test.true) at (c.requires loop.k))
 
 pub returns-in-Opposite : goal.returns-in-Opposite
 returns-in-Opposite c =
     let loop = c.loop-k in
-    let ws = c.args.inputs.now in
-    let h : loop.k < length ws = omega (arith, c.loop-k-test.true, loop.invariant.size) in
-    let w = get_or loop.inputs loop.k (pos 0) in
-    settling-true ws loop.inputs loop.n loop.k h loop.invariant
-    (saw loop.inputs w loop.n _ _ (search rules) c.in-Opposite.is c.look-seen.ensures)
+    settling-true c.args.inputs.now loop.inputs loop.n loop.k c.loop-k-test.true loop.invariant
+    (saw loop.inputs (get_or loop.inputs loop.k (pos 0)) loop.n _ _ (search rules) c.in-Opposite.is c.look.ensures)
 
 pub loop-k-preserved : goal.loop-k-preserved
 loop-k-preserved c =
     let loop = c.loop-k in
     let ws = c.args.inputs.now in
-    let h : loop.k < length ws = omega (arith, c.loop-k-test.true, loop.invariant.size) in
+    let h = c.loop-k-test.true in
     let w = get_or loop.inputs loop.k (pos 0) in
     let f : SFits w32 w = search rules in
-    elim c.match-seen.branch [
+    elim c.match-look.branch [
       | in-Nothing v ↦ rw (v.inputs-is, v.n-is, back w f)
           (settling-new ws loop.inputs loop.n loop.k h loop.invariant
-          (saw loop.inputs w loop.n _ _ f v.in-Nothing.is c.look-seen.ensures))
+          (saw loop.inputs w loop.n _ _ f v.in-Nothing.is c.look.ensures))
       | in-Itself v ↦ rw (v.inputs-is, v.n-is)
           (settling-old ws loop.inputs loop.n loop.k h loop.invariant
-          (saw loop.inputs w loop.n _ _ f v.in-Itself.is c.look-seen.ensures))
+          (saw loop.inputs w loop.n _ _ f v.in-Itself.is c.look.ensures))
     ]
 
 pub returns : goal.returns
-returns c =
-    let loop = c.loop-k in
-    settling-done c.args.inputs.now loop.inputs loop.n loop.k
-    (omega (arith, c.loop-k-test.false, loop.invariant.size)) loop.invariant
+returns c = settling-done c.args.inputs.now c.loop-k.inputs c.loop-k.n c.loop-k.k c.loop-k-test.false c.loop-k.invariant

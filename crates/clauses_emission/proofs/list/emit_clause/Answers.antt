@@ -1,7 +1,4 @@
--- `list::emit_clause` meets its contract.
-use mathlib.Core.Path.{refl, sym, ap, ◌∙◌}
-use native.Mathlib.Omega.{arith}
-use lib.ListN.{length}
+use Rattle.std.proofs.Common.{length, refl, sym, ap, ◌∙◌, arith}
 use Rattle.prelude.specs.Stores.{put_all}
 use Rattle.literal.proofs.Signs.{back}
 use Rattle.clauses_emission.proofs.Writes.{words-one}
@@ -9,17 +6,14 @@ use Rattle.clauses_emission.proofs.list.emit_clause.Goals as goal
 
 pub returns : goal.returns
 returns c =
-    let start = c.before.before.before.before in
-    let first = start.args.first in
-    let others = start.args.others.now in
-    let e = words-one first others in
+    let e = words-one c.args.first c.args.others.now in
     record {
       next = refl;
       writes = record {
         clauses = refl;
         words = omega (arith, ap length e);
         list =
-            (rw (back first start.ranges.first) at c.write_at.ensures)
-            ∙ ap (put_all start.args.list.now start.args.tape.words) (sym e);
+            (rw (back c.args.first c.ranges.first) at c.write_at.ensures)
+            ∙ ap (put_all c.args.list.now c.args.tape.words) (sym e);
       };
     }
