@@ -9,7 +9,7 @@ use Rattle.literal.specs.Words.{literal_of}
 use Rattle.clauses_rules.specs.Gates.{Clause}
 use Rattle.clauses_emission.specs.declared.Tape.{Tape}
 use Rattle.clauses_emission.specs.Emission.{literals_of, Appends, Room}
-use Rattle.clauses_emission.proofs.Writes.{words-one, writes-length, appends-none, appends-then, appends-as}
+use Rattle.clauses_emission.proofs.Writes.{words-one, appends-none, appends-then, appends-as}
 use Rattle.clauses_marks.specs.Marking.{Small, Adds}
 
 pub adds_none : (list : List ℤ) (tape : Tape) → Adds 0 [] list tape list tape
@@ -21,9 +21,6 @@ module _ {m : ℕ} {cs : List Clause} {old new : List ℤ} {a b : Tape} (p : Add
 
   pub adds-most : {n : ℕ} → m ≤ n → Adds n cs old a new b
   adds-most h = record { appends = p.appends; few_clauses = omega (arith, p.few_clauses); few_words = omega (arith, p.few_words) }
-
-  pub adds-length : length new ≡ length old
-  adds-length = writes-length p.appends.writes
 
   pub adds-small : {k n : ℕ} → Small k a → k + m ≤ n → Small n b
   adds-small s h = record { clauses = omega (arith, s.clauses, p.few_clauses); words = omega (arith, s.words, p.few_words) }
@@ -47,6 +44,3 @@ adds_one first others p = record {
 
 pub small-room : {tape : Tape} (others : List ℤ) → length others ≤ 8 → Small 100000 tape → Room tape others
 small-room others h s = record { few = omega arith; clauses = omega (arith, s.clauses); words = omega (arith, s.words) }
-
-pub small-most : {tape : Tape} {k n : ℕ} → Small k tape → k ≤ n → Small n tape
-small-most s h = record { clauses = omega (arith, s.clauses); words = omega (arith, s.words) }

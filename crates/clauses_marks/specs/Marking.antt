@@ -1,12 +1,9 @@
 -- What the code of the marks takes for granted, and what it adds to the list.
 -- No public contract reaches this file: nothing here needs belief.
-use Rattle.std.specs.Prelude.{◌≡◌, Bool, false, cond, List, [], ◌∷◌, ◌++◌, map, ℕ, ◌+◌, ◌≤◌, ◌<◌, ℤ, length}
+use Rattle.std.specs.Prelude.{Bool, false, cond, List, [], ◌∷◌, ◌++◌, map, ℕ, ◌+◌, ◌≤◌, ◌<◌, ℤ, length}
 use Rattle.literal.specs.Literals.{Literal, opposite}
-use Rattle.sheet_rules.specs.declared.Layout.{Layout}
-use Rattle.sheet_rules.specs.Blocks.{Sheet, is_bounded, multiplicity, first_sort, sheet_of}
-use Rattle.sheet_rules.specs.Reading.{accepted, reading}
-use Rattle.relational.specs.Cells.{is_set, row_count, row_length, cell_count}
-use Rattle.cells.specs.Private.{Located}
+use Rattle.sheet_rules.specs.Blocks.{Sheet, is_bounded, multiplicity, first_sort}
+use Rattle.relational.specs.Cells.{is_set, row_count, row_length}
 use Rattle.clauses_rules.specs.Gates.{Clause}
 use Rattle.clauses_rules.specs.Translation.{Two}
 use Rattle.clauses_rules.specs.Whole.{series, row_clauses, row_literals, member_literals, row_members, cell_members}
@@ -33,20 +30,8 @@ pub record Adds (most : ℕ) (clauses : List Clause) (old : List ℤ) (before : 
   pub few_clauses : after.clauses ≤ before.clauses + most
   pub few_words : after.words ≤ before.words + most
 
--- the literals of an accepted sheet's cells, in order
-pub record Given (sheet : List ℕ) (layout : Layout) (given : List ℤ) (starts : List ℕ) : Type 0 where
-  pub located : Located sheet layout starts
-  pub size : length given ≡ cell_count (sheet_of sheet)
-  pub inside : AllInside 16002 (literals_of given)
-
--- an accepted sheet, and literals of its cells
-pub record Accepts (sheet : List ℕ) (layout : Layout) (given : List ℤ) : Type 0 where
-  pub taken : reading sheet ≡ accepted layout
-  pub inside : AllInside 16002 (literals_of given)
-
--- the literals of row i of relation r
-pub record RowOf (sheet : List ℕ) (layout : Layout) (given : List ℤ) (r i : ℕ) (row : List ℤ) : Type 0 where
-  pub accepts : Accepts sheet layout given
+-- row i of relation r, and its literals
+pub record RowOf (r i : ℕ) (row : List ℤ) : Type 0 where
   pub relation : r < 256
   pub atom : i < 8
   pub members : Members 8 row

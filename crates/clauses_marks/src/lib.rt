@@ -3,21 +3,18 @@
 
 ghost use Rattle.std.specs.Prelude.{◌≡◌, map, ◌<◌};
 ghost use Rattle.literal.specs.Words.{literal_of};
-ghost use Rattle.sheet_rules.specs.Blocks as spec;
 ghost use Rattle.sheet_rules.specs.Blocks.{relation_count, sheet_of};
-ghost use Rattle.sheet_rules.specs.Reading.{accepted, reading};
-ghost use Rattle.relational.specs.Cells.{member_cell};
+ghost use Rattle.relational.specs.Cells.{row_count};
 ghost use Rattle.relational.specs.Matrices.{pairs};
-ghost use Rattle.clauses_rules.specs.Translation.{literal_at};
-ghost use Rattle.clauses_rules.specs.Whole.{pair_clause, row_clauses, row_members, mark_clauses};
+ghost use Rattle.clauses_rules.specs.Whole.{pair_clause, mark_clauses};
 ghost use Rattle.clauses_emission.specs.Emission.{Inside, literals_of};
-ghost use Rattle.clauses_marks.specs.Marking.{Small, Members, Adds, Given, RowOf, pairs_with, is_guarded};
-ghost use Rattle.clauses_marks.specs.Marking.{row_clause, relation_clauses};
+ghost use Rattle.clauses_marks.specs.Marking.{Small, Members, Adds, RowOf, pairs_with, is_guarded};
+ghost use Rattle.clauses_marks.specs.Marking.{row_clause, row_marks, relation_clauses};
 
-use cells::{arity, first_member, first_sort, is_bounded, multiplicity, row_count, row_length};
+use cells::Sheet;
 use clauses_emission::Tape;
-use clauses_emission::list::{emit_clause, word_at};
-use sheet_rules::Layout;
+use clauses_emission::list::emit_clause;
+use clauses_kinds::source::Source;
 
 pub mod members; // members.rt: cells of members only
 
@@ -31,12 +28,8 @@ fn pairs_with(list: &mut [i32], tape: Tape, p: i32, others: &[i32]) -> Tape
 {
     let first = literal::opposite(p);
     let mut after = tape;
-    let mut k: usize = 0;
-    while k < others.len() {
-        let q = others[k];
-        let second = [literal::opposite(q); 1];
-        after = emit_clause(list, after, first, &second);
-        k += 1;
+    for q in others {
+        after = emit_clause(list, after, first, &[literal::opposite(*q)]);
     }
     after
 }
@@ -48,151 +41,87 @@ fn row_pairs(list: &mut [i32], tape: Tape, row: &[i32]) -> Tape
     ensures { Adds 168 (map pair_clause (pairs (literals_of row.now))) list.old tape list.new result }
 {
     let mut after = tape;
-    let mut k: usize = 0;
-    while k < row.len() {
-        let p = row[k];
-        let rest = k + 1;
-        after = pairs_with(list, after, p, &row[rest..]);
-        k += 1;
+    for (k, p) in row.iter().enumerate() {
+        after = pairs_with(list, after, *p, &row[k + 1..]);
     }
     after
 }
 
 // Whether the rows of relation r are bound only where they are of members: "Mark 2 on a relation of two columns with a
 // limited first sort" (document 02, Change 8).
-fn is_guarded(sheet: &[u8], layout: Layout, r: usize) -> bool
-    requires sheet_value { reading sheet.now ≡ accepted layout }
-    requires r_bound { r < 256 }
-    ensures { result ≡ is_guarded (sheet_of sheet.now) r }
+fn is_guarded(sheet: &Sheet, r: usize) -> bool
+    requires { r < 256 }
+    ensures { result ≡ is_guarded (sheet_of sheet.now.bytes.now) r }
 {
-    if arity(sheet, layout, r) == 1 {
-        return false;
-    }
-    is_bounded(sheet, layout, first_sort(sheet, layout, r))
-}
-
-// The literal of atom i's membership cell.
-fn member(sheet: &[u8], layout: Layout, given: &[i32], sort: usize, i: usize) -> i32
-    requires sheet_value { reading sheet.now ≡ accepted layout }
-    requires sort_bound { (sort < 8) × (i < 8) }
-    ensures { literal_of result ≡
-        literal_at (sheet_of sheet.now) (literals_of given.now)
-        (member_cell (sheet_of sheet.now) sort i) }
-{
-    word_at(given, first_member(sheet, layout, sort) + i)
+    sheet.arity(r) != 1 && sheet.is_bounded(sheet.first_sort(r))
 }
 
 // The whole row, which starts with the opposite of the row's member if it is guarded.
 fn row_clause(
     list: &mut [i32],
     tape: Tape,
-    sheet: &[u8],
-    layout: Layout,
-    given: &[i32],
+    source: &Source,
     r: usize,
     i: usize,
     row: &[i32],
 ) -> Tape
     requires small { Small 70000 tape }
-    requires row_of { RowOf sheet.now layout given.now r i row.now }
+    requires row_of { RowOf r i row.now }
     ensures { Adds 10
-        (row_clause (sheet_of sheet.now) (literals_of given.now) r i (literals_of row.now))
-        list.old tape list.new result }
-{
-    if is_guarded(sheet, layout, r) {
-        let guard = literal::opposite(member(
-            sheet,
-            layout,
-            given,
-            first_sort(sheet, layout, r),
-            i,
-        ));
-        return emit_clause(list, tape, guard, row);
-    }
-    let p = row[0];
-    emit_clause(list, tape, p, &row[1..])
-}
-
-// "(-p, -q) for each pair in order, then for mark 2 the whole row"
-fn row_marks(
-    list: &mut [i32],
-    tape: Tape,
-    sheet: &[u8],
-    layout: Layout,
-    given: &[i32],
-    r: usize,
-    i: usize,
-    row: &[i32],
-) -> Tape
-    requires small { Small 60000 tape }
-    requires row_of { RowOf sheet.now layout given.now r i row.now }
-    ensures { Adds 178 (row_clauses (spec.multiplicity (sheet_of sheet.now) r)
-        (row_members (sheet_of sheet.now) (literals_of given.now) r i)
+        (row_clause (sheet_of source.now.sheet.bytes.now) (literals_of source.now.given.now) r i
         (literals_of row.now))
         list.old tape list.new result }
 {
-    let mark = multiplicity(sheet, layout, r);
+    if is_guarded(&source.sheet, r) {
+        let guard = literal::opposite(source.member(source.sheet.first_sort(r), i));
+        return emit_clause(list, tape, guard, row);
+    }
+    emit_clause(list, tape, row[0], &row[1..])
+}
+
+// "(-p, -q) for each pair in order, then for mark 2 the whole row"
+fn row_marks(list: &mut [i32], tape: Tape, source: &Source, r: usize, i: usize) -> Tape
+    requires small { Small 60000 tape }
+    requires r_bound { r < relation_count (sheet_of source.now.sheet.bytes.now) }
+    requires i_bound { i < row_count (sheet_of source.now.sheet.bytes.now) r }
+    ensures { Adds 178 (row_marks (sheet_of source.now.sheet.bytes.now) (literals_of source.now.given.now) r i)
+        list.old tape list.new result }
+{
+    let mark = source.sheet.multiplicity(r);
     if mark == 0 {
         return tape;
     }
+    let row = source.row(r, i);
     let after = row_pairs(list, tape, row);
     if mark == 1 {
         return after;
     }
-    row_clause(list, after, sheet, layout, given, r, i, row)
+    row_clause(list, after, source, r, i, row)
 }
 
 // The rows of relation r.
-fn relation_marks(
-    list: &mut [i32],
-    tape: Tape,
-    sheet: &[u8],
-    layout: Layout,
-    given: &[i32],
-    starts: &[usize],
-    r: usize,
-) -> Tape
+fn relation_marks(list: &mut [i32], tape: Tape, source: &Source, r: usize) -> Tape
     requires small { Small 50000 tape }
-    requires given { Given sheet.now layout given.now starts.now }
-    requires r_bound { r < relation_count (sheet_of sheet.now) }
-    ensures { Adds 1424 (relation_clauses (sheet_of sheet.now) (literals_of given.now) r)
+    requires r_bound { r < relation_count (sheet_of source.now.sheet.bytes.now) }
+    ensures { Adds 1424 (relation_clauses (sheet_of source.now.sheet.bytes.now) (literals_of source.now.given.now) r)
         list.old tape list.new result }
 {
-    let rows = row_count(sheet, layout, r);
-    let n = row_length(sheet, layout, r);
-    let first = starts[r];
     let mut after = tape;
-    let mut i: usize = 0;
-    while i < rows {
-        let start = first + i * n;
-        let end = start + n;
-        after = row_marks(list, after, sheet, layout, given, r, i, &given[start..end]);
-        i += 1;
+    for i in 0..source.sheet.row_count(r) {
+        after = row_marks(list, after, source, r, i);
     }
     after
 }
 
 // All relations.
-pub fn marks(
-    list: &mut [i32],
-    tape: Tape,
-    sheet: &[u8],
-    layout: Layout,
-    given: &[i32],
-    starts: &[usize],
-) -> Tape
-    requires small { Small 10000 tape }
-    requires given { Given sheet.now layout given.now starts.now }
-    ensures { Adds 22784 (mark_clauses (sheet_of sheet.now) (literals_of given.now))
+pub fn marks(list: &mut [i32], tape: Tape, source: &Source) -> Tape
+    requires { Small 10000 tape }
+    ensures { Adds 22784 (mark_clauses (sheet_of source.now.sheet.bytes.now) (literals_of source.now.given.now))
         list.old tape list.new result }
 {
-    let relations = layout.relations;
-    let count = relations.count;
     let mut after = tape;
-    let mut r: usize = 0;
-    while r < count {
-        after = relation_marks(list, after, sheet, layout, given, starts, r);
-        r += 1;
+    for r in 0..source.sheet.layout.relations.count {
+        after = relation_marks(list, after, source, r);
     }
     after
 }

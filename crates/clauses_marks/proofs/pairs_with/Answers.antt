@@ -3,43 +3,50 @@ use mathlib.Core.List.{List, [], ◌∷◌}
 use native.Mathlib.Omega.{arith}
 use lib.IntN.{pos}
 use lib.ListN.{get_or}
+use mir.Syntax.{w32}
+use mir.Val.{SFits}
+use borrow.Author.Rules.{rules}
 use Rattle.literal.specs.Literals.{opposite}
 use Rattle.literal.specs.Words.{literal_of}
 use Rattle.literal.proofs.Signs.{read, back}
 use Rattle.clauses_rules.specs.Gates.{Clause}
 use Rattle.clauses_emission.proofs.Ranges.{opposite-read}
-use Rattle.clauses_marks.proofs.Adding.{adds_none, adds-as, adds-most, adds_then, adds_one}
+use Rattle.clauses_marks.proofs.Adding.{adds_none, adds-as, adds-most, adds-small, small-room, adds_then, adds_one}
 use Rattle.clauses_marks.proofs.Rows.{with-next, member-inside}
 use Rattle.clauses_marks.proofs.pairs_with.Goals as goal
 
-pub loop-k-init : goal.loop-k-init
-loop-k-init c = (omega arith, adds_none c.args.list.now c.args.tape)
+pub loop-q-init : goal.loop-q-init
+loop-q-init c = adds_none c.args.list.now c.args.tape
 
-pub loop-k-preserved : goal.loop-k-preserved
-loop-k-preserved c =
-    let start = c.before.before.before.before.before.before.before.before.before in
+pub emit_clause-after-requires : goal.emit_clause-after-requires
+emit_clause-after-requires c =
+    let loop = c.loop-q in
+    small-room _ (omega arith)
+    (adds-small loop.invariant c.requires.small (omega (arith, c.loop-q-test.true, c.requires.members.few)))
+
+pub loop-q-preserved : goal.loop-q-preserved
+loop-q-preserved c =
     let first = c.opposite-first in
-    let loop = c.loop-k in
     let second = c.opposite in
-    let ws = start.args.others.now in
-    let k = loop.k in
+    let ws = c.args.others.now in
+    let k = c.loop-q.q-index in
     let w = get_or ws k (pos 0) in
-    let h = c.loop-k-test.true in
-    let p = start.args.p in
+    let h = c.loop-q-test.true in
+    let p = c.args.p in
+    let fits : SFits w32 w = search rules in
     let e : literal_of (read first.result) ≡ opposite (literal_of (read p)) =
-    opposite-read 16002 p first.result (omega arith) start.ranges.p start.requires.inside first.ensures
-    (record { sfits = first.type_inv })
-    ∙ ap (λ z. opposite (literal_of z)) (sym (back p start.ranges.p))
+    opposite-read 16002 p first.result (omega arith) c.ranges.p c.requires.inside first.ensures (record { sfits = first.type_inv })
+    ∙ ap (λ z. opposite (literal_of z)) (sym (back p c.ranges.p))
     in
     let f : literal_of (read second.result) ≡ opposite (literal_of w) =
-    opposite-read 16002 w second.result (omega arith) (record { sfits = c.q-1.given })
-    (member-inside start.requires.members k h) second.ensures (record { sfits = second.type_inv })
+    opposite-read 16002 w second.result (omega arith) fits (member-inside c.requires.members k h) second.ensures
+    (record { sfits = second.type_inv })
     in
     let g : ◌≡◌ {A = List Clause} ((literal_of (read first.result) ∷ literal_of (read second.result) ∷ []) ∷ [])
     ((opposite (literal_of (read p)) ∷ opposite (literal_of w) ∷ []) ∷ []) = rw (e, f)
-    in (
-      omega arith,
-      adds-most (adds-as (adds_then loop.invariant.1
-          (adds-as (adds_one (read first.result) (read second.result ∷ []) c.emit_clause-after.ensures) g))
-          (with-next (literal_of (read p)) ws k h)) (omega arith),
-    )
+    in
+    adds-most
+    (adds-as (adds_then c.loop-q.invariant
+    (adds-as (adds_one (read first.result) (read second.result ∷ []) c.emit_clause-after.ensures) g))
+    (with-next (literal_of (read p)) ws k h))
+    (omega arith)

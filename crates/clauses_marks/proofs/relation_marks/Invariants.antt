@@ -1,5 +1,5 @@
--- `relation_marks` meets its contract. The loop's invariant: the rows passed are written.
-use Prim.Native.Nat.{◌-◌, ◌*◌, ◌≤◌}
+-- The rows passed are written.
+use Prim.Native.Nat.{◌*◌}
 use Rattle.sheet_rules.specs.Blocks.{sheet_of}
 use Rattle.clauses_rules.specs.Whole.{series}
 use Rattle.clauses_emission.specs.Emission.{literals_of}
@@ -8,8 +8,5 @@ use Rattle.clauses_marks.proofs.relation_marks.Given as goal
 
 abbrev pub invariant-loop-i : goal.invariant-loop-i
 invariant-loop-i l =
-    (l.i ≤ l.rows) × Adds (178 * l.i) (series l.i (row_marks (sheet_of l.sheet) (literals_of l.given) l.r))
+    Adds (178 * l.i) (series l.i (row_marks (sheet_of l.source.sheet.bytes.now) (literals_of l.source.given.now) l.r))
     l.initial.list l.initial.after l.list l.after
-
-abbrev pub decreases-loop-i : goal.decreases-loop-i
-decreases-loop-i l = l.rows - l.i

@@ -1,10 +1,13 @@
--- `row_clause` meets its contract: guarded, or the row alone.
+-- Guarded, or the row alone.
 use mathlib.Core.Path.{◌≡◌, refl, sym, ap, ◌∙◌}
 use mathlib.Core.List.{List, [], ◌∷◌}
 use Prim.Native.Nat.{ℕ, ◌-◌}
 use native.Mathlib.Omega.{arith}
 use lib.IntN.{pos}
 use lib.ListN.{length, get_or, take, drop, length-drop}
+use mir.Syntax.{w32}
+use mir.Val.{SFits}
+use borrow.Author.Rules.{rules}
 use Rattle.literal.specs.Literals.{Literal, opposite}
 use Rattle.literal.specs.Words.{literal_of}
 use Rattle.literal.proofs.Signs.{read, back}
@@ -22,56 +25,45 @@ use Rattle.clauses_marks.proofs.row_clause.Goals as goal
 
 pub member-requires : goal.member-requires
 member-requires c =
-    let s = c.before.before.before.before.before in
-    let taken = s.requires.row_of.accepts.taken in
-    let bounded = guarded-bounded (sheet_of s.args.sheet.now) s.args.r
-    (sym c.is_guarded.ensures ∙ c.if-is_guarded.true)
-    c.first_sort.ensures in record {
-      sheet_value = taken;
-      sort_bound = (sort-low s.args.sheet.now taken c.first_sort.result bounded refl, s.requires.row_of.atom);
-    }
+    let s = c.args.source.now.sheet in
+    let bounded = guarded-bounded (sheet_of s.bytes.now) c.args.r (sym c.is_guarded.ensures ∙ c.if-is_guarded.true)
+    c.first_sort.ensures in
+    (sort-low s.bytes.now s.taken c.first_sort.result bounded refl, c.requires.row_of.atom)
 
 pub returns-then-is_guarded : goal.returns-then-is_guarded
 returns-then-is_guarded c =
-    let s = c.before.before.before.before.before.before.before.before.before.before in
-    let a = s.args in
-    let sheet = sheet_of a.sheet.now in
-    let cells = literals_of a.given.now in
+    let a = c.args in
+    let sheet = sheet_of a.source.now.sheet.bytes.now in
+    let cells = literals_of a.source.now.given.now in
     let row = a.row.now in
     let opp = c.opposite-guard in
     let mem = c.member in
     let m : literal_of mem.result ≡ literal_at sheet cells (member_cell sheet (first_sort sheet a.r) a.i) =
-    mem.ensures ∙ ap (λ (k : ℕ). literal_at sheet cells (member_cell sheet k a.i))
-    c.first_sort.ensures
+    mem.ensures ∙ ap (λ (k : ℕ). literal_at sheet cells (member_cell sheet k a.i)) c.first_sort.ensures
     in
     let e : literal_of (read opp.result) ≡ opposite (literal_of mem.result) =
     opposite-read 16002 mem.result opp.result (omega arith) (record { sfits = mem.type_inv })
-    (rw m (s.requires.row_of.accepts.inside _))
-    opp.ensures (record { sfits = opp.type_inv })
+    (rw m (a.source.now.inside _)) opp.ensures (record { sfits = opp.type_inv })
     in
     let g = ap (λ (l : Literal). (l ∷ literals_of row) ∷ []) (e ∙ ap opposite m) in
     adds-most
     (adds-as (adds_one (read opp.result) row c.emit_clause.ensures)
-    (g ∙ guarded-row sheet cells a.r a.i (literals_of row)
-    (sym c.is_guarded.ensures
-    ∙ c.if-is_guarded.true)))
-    (omega (arith, s.requires.row_of.members.few))
+    (g ∙ guarded-row sheet cells a.r a.i (literals_of row) (sym c.is_guarded.ensures ∙ c.if-is_guarded.true)))
+    (omega (arith, c.requires.row_of.members.few))
 
 pub returns : goal.returns
 returns c =
-    let s = c.before.before.before.before.before.before.before.before.before in
-    let a = s.args in
+    let a = c.args in
     let ws = a.row.now in
     let w = get_or ws 0 (pos 0) in
+    let fits : SFits w32 w = search rules in
     let others = take (length ws - 1) (drop 1 ws) in
     let e : ◌≡◌ {A = List Clause} ((literal_of (read w) ∷ literals_of others) ∷ []) (literals_of ws ∷ []) =
     ap (λ l. l ∷ [])
-    (ap (λ z. literal_of z ∷ literals_of others) (back w (record { sfits = c.p-1.given }))
-    ∙ whole_row ws s.requires.row_of.some.some)
+    (ap (λ z. literal_of z ∷ literals_of others) (back w fits) ∙ whole_row ws c.requires.row_of.some.some)
     in
     adds-most
     (adds-as (adds_one (read w) others c.emit_clause-2.ensures)
-    (e ∙ plain_row (sheet_of a.sheet.now) (literals_of a.given.now) a.r a.i (literals_of ws)
-    (sym c.is_guarded.ensures
-    ∙ c.if-is_guarded.false)))
-    (omega (arith, s.requires.row_of.members.few, ap length (part-is 1 ws), length-drop 1 ws))
+    (e ∙ plain_row (sheet_of a.source.now.sheet.bytes.now) (literals_of a.source.now.given.now) a.r a.i (literals_of ws)
+    (sym c.is_guarded.ensures ∙ c.if-is_guarded.false)))
+    (omega (arith, c.requires.row_of.members.few, ap length (part-is 1 ws), length-drop 1 ws))

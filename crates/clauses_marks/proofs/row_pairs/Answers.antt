@@ -4,6 +4,9 @@ use Prim.Native.Nat.{◌+◌, ◌-◌}
 use native.Mathlib.Omega.{arith}
 use lib.IntN.{pos}
 use lib.ListN.{length, get_or, take, drop}
+use mir.Syntax.{w32}
+use mir.Val.{SFits}
+use borrow.Author.Rules.{rules}
 use Rattle.literal.specs.Words.{literal_of}
 use Rattle.literal.proofs.Signs.{back}
 use Rattle.clauses_rules.specs.Whole.{pair_clause}
@@ -15,31 +18,28 @@ use Rattle.clauses_marks.proofs.Rows.{paired_none, paired-more, with_rest, membe
 use Rattle.clauses_marks.proofs.row_pairs.Goals as goal
 
 pub loop-k-init : goal.loop-k-init
-loop-k-init c = (omega arith, paired_none (literals_of c.args.row.now) c.args.list.now c.args.tape)
+loop-k-init c = paired_none (literals_of c.args.row.now) c.args.list.now c.args.tape
 
 pub pairs_with-after-requires : goal.pairs_with-after-requires
 pairs_with-after-requires c =
-    let start = c.before.before.before.before.before in
-    let loop = c.loop-k in
+    let k = c.loop-k.k in
     let h = c.loop-k-test.true in
-    let w = get_or start.args.row.now loop.k (pos 0) in record {
-      small = adds-small loop.invariant.1.adds start.requires.small
-          (omega (arith, loop.invariant.0, start.requires.members.few));
-      inside = rw (back w (record { sfits = c.p-1.given })) (member-inside start.requires.members loop.k h);
-      members = members-after start.requires.members (loop.k + 1) 7 (omega arith);
+    let w = get_or c.args.row.now k (pos 0) in
+    let fits : SFits w32 w = search rules in record {
+      small = adds-small c.loop-k.invariant.adds c.requires.small (omega (arith, h, c.requires.members.few));
+      inside = rw (back w fits) (member-inside c.requires.members k h);
+      members = members-after c.requires.members (k + 1) 7 (omega arith);
     }
 
 pub loop-k-preserved : goal.loop-k-preserved
 loop-k-preserved c =
-    let start = c.before.before.before.before.before.before.before in
-    let loop = c.loop-k in
+    let k = c.loop-k.k in
     let h = c.loop-k-test.true in
-    let ws = start.args.row.now in
-    let w = get_or ws loop.k (pos 0) in
-    let rest = literals_of (take (length ws - (loop.k + 1)) (drop (loop.k + 1) ws)) in (
-      omega arith,
-      paired-more (literals_of ws) loop.k loop.invariant.1 (rw (length-literals ws) h)
-          (adds-as c.pairs_with-after.ensures
-          (ap (λ z. map pair_clause (pairs_with (literal_of z) rest)) (back w (record { sfits = c.p-1.given }))
-          ∙ ap (map pair_clause) (with_rest ws loop.k h))),
-    )
+    let ws = c.args.row.now in
+    let w = get_or ws k (pos 0) in
+    let fits : SFits w32 w = search rules in
+    let rest = literals_of (take (length ws - (k + 1)) (drop (k + 1) ws)) in
+    paired-more (literals_of ws) k c.loop-k.invariant (rw (length-literals ws) h)
+    (adds-as c.pairs_with-after.ensures
+    (ap (λ z. map pair_clause (pairs_with (literal_of z) rest)) (back w fits)
+    ∙ ap (map pair_clause) (with_rest ws k h)))

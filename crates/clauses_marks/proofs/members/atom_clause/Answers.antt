@@ -1,4 +1,4 @@
--- `atom_clause` meets its contract: one clause, or none.
+-- One clause, or none.
 use mathlib.Core.Path.{◌≡◌, sym, ap, ◌∙◌}
 use mathlib.Core.List.{List, [], ◌∷◌}
 use native.Mathlib.Omega.{arith}
@@ -19,25 +19,18 @@ use Rattle.clauses_marks.proofs.members.atom_clause.Goals as goal
 
 pub member-requires : goal.member-requires
 member-requires c =
-    let s = c.before.before.before.before in
-    let taken = s.requires.accepts.taken in record {
-      sheet_value = taken;
-      sort_bound = (
-        sort-low s.args.sheet.now taken s.args.sort c.is_bounded.ensures c.if-is_bounded.true,
-        s.requires.inside.1,
-      );
-    }
+    let s = c.args.source.now.sheet in
+    (sort-low s.bytes.now s.taken c.args.sort c.is_bounded.ensures c.if-not-is_bounded.false, c.requires.inside.1)
 
-pub returns-then-is_bounded : goal.returns-then-is_bounded
-returns-then-is_bounded c =
-    let s = c.before.before.before.before.before.before.before.before.before.before in
-    let a = s.args in
-    let sheet = sheet_of a.sheet.now in
-    let cells = literals_of a.given.now in
+pub returns : goal.returns
+returns c =
+    let a = c.args in
+    let sheet = sheet_of a.source.now.sheet.bytes.now in
+    let cells = literals_of a.source.now.given.now in
     let opp = c.opposite in
     let mem = c.member in
     let e : literal_of (read opp.result) ≡ opposite (literal_of a.cell) =
-    opposite-read 16002 a.cell opp.result (omega arith) s.ranges.cell s.requires.inside.0 opp.ensures
+    opposite-read 16002 a.cell opp.result (omega arith) c.ranges.cell c.requires.inside.0 opp.ensures
     (record { sfits = opp.type_inv })
     in
     let f : literal_of (read mem.result) ≡ literal_at sheet cells (member_cell sheet a.sort a.i) =
@@ -48,16 +41,14 @@ returns-then-is_bounded c =
     in
     adds-most
     (adds-as (adds_one (read opp.result) (read mem.result ∷ []) c.emit_clause.ensures)
-    (g ∙ bounded-atom sheet cells (literal_of a.cell) a.sort a.i
-    (sym c.is_bounded.ensures
-    ∙ c.if-is_bounded.true)))
+    (g ∙ bounded-atom sheet cells (literal_of a.cell) a.sort a.i (sym c.is_bounded.ensures ∙ c.if-not-is_bounded.false)))
     (omega arith)
 
-pub returns : goal.returns
-returns c =
+pub returns-then-not-is_bounded : goal.returns-then-not-is_bounded
+returns-then-not-is_bounded c =
     let a = c.args in
     adds-most
     (adds-as (adds_none a.list.now a.tape)
-    (full-atom (sheet_of a.sheet.now) (literals_of a.given.now) (literal_of a.cell) a.sort a.i
-    (sym c.is_bounded.ensures ∙ c.if-is_bounded.false)))
+    (full-atom (sheet_of a.source.now.sheet.bytes.now) (literals_of a.source.now.given.now) (literal_of a.cell) a.sort a.i
+    (sym c.is_bounded.ensures ∙ c.if-not-is_bounded.true)))
     (omega arith)

@@ -1,4 +1,4 @@
--- `cell_clauses` meets its contract: of a set one column, of a relation two.
+-- Of a set one column, of a relation two.
 use mathlib.Core.Path.{ap, ◌∙◌}
 use mathlib.Core.List.{◌++◌}
 use native.Mathlib.Omega.{arith}
@@ -14,20 +14,16 @@ use Rattle.clauses_marks.proofs.members.cell_clauses.Goals as goal
 
 pub returns : goal.returns
 returns c =
-    let s = c.before.before.before.before.before.before.before.before.before.before.before.before in
-    let a = s.args in
-    let sheet = sheet_of a.sheet.now in
-    let cells = literals_of a.given.now in
+    let a = c.args in
+    let sheet = sheet_of a.source.now.sheet.bytes.now in
+    let cells = literals_of a.source.now.given.now in
     let first = c.first_sort-first in
     let second = c.second_sort-second in
     adds-most
-    (adds-as (adds_then c.atom_clause-after.ensures
-    c.atom_clause-2.ensures)
+    (adds-as (adds_then c.atom_clause-after.ensures c.atom_clause-2.ensures)
     (ap (λ (w : ℤ). atom_clauses sheet cells (literal_of w) first.result a.i ++ atom_clauses sheet cells
     (literal_of w) second.result a.j)
-    (back a.cell s.ranges.cell)
-    ∙ relation-columns sheet cells (literal_of a.cell) a.r a.i a.j
-    c.arity.ensures first.ensures
-    c.if-arity-eq1.false
+    (back a.cell c.ranges.cell)
+    ∙ relation-columns sheet cells (literal_of a.cell) a.r a.i a.j c.arity.ensures first.ensures c.if-arity-eq1.false
     second.ensures))
     (omega arith)

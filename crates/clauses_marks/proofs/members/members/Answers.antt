@@ -1,47 +1,29 @@
-use mathlib.Core.Path.{refl, ap, ◌∙◌}
+use mathlib.Core.Path.{◌≡◌, refl}
 use native.Mathlib.Omega.{arith}
-use Rattle.sheet_rules.specs.Blocks.{sheet_of}
+use Rattle.sheet_rules.specs.Blocks.{sheet_of, relation_count}
 use Rattle.cells.proofs.Parts.{relations-counted, few_relations}
-use Rattle.clauses_rules.specs.Whole.{series, member_clauses}
-use Rattle.clauses_emission.specs.Emission.{literals_of}
-use Rattle.clauses_marks.specs.Marking.{relation_inside}
-use Rattle.clauses_marks.proofs.Adding.{adds_none, adds-as, adds-most, adds-small, adds_then}
-use Rattle.clauses_marks.proofs.Relations.{series-none, series-more, series-done}
+use Rattle.clauses_rules.specs.Whole.{member_clauses}
+use Rattle.clauses_marks.proofs.Adding.{adds-small}
+use Rattle.clauses_marks.proofs.Relations.{series-start, series-next, series-end}
 use Rattle.clauses_marks.proofs.members.members.Goals as goal
 
 pub loop-r-init : goal.loop-r-init
-loop-r-init c =
-    let s = c.before.before.before.before in
-    (omega arith, adds-as (adds_none s.args.list.now s.args.tape) (series-none _))
+loop-r-init c = series-start 384 _
 
 pub relation_inside-after-requires : goal.relation_inside-after-requires
 relation_inside-after-requires c =
-    let p = c.requires in
-    let loop = c.loop-r in
-    let taken = p.given.located.taken in record {
-      small = adds-small loop.invariant.1 p.small (omega (arith, loop.invariant.0, few_relations _ _ taken));
-      given = p.given;
-      r_bound = omega (arith, c.loop-r-test.true, relations-counted _ _ taken);
+    let s = c.args.source.now.sheet in record {
+      small = adds-small c.loop-r.invariant c.requires (omega (arith, c.loop-r-test.true, few_relations _ _ s.taken));
+      r_bound = omega (arith, c.loop-r-test.true, relations-counted _ _ s.taken);
     }
 
 pub loop-r-preserved : goal.loop-r-preserved
-loop-r-preserved c =
-    let a = c.args in
-    let loop = c.loop-r in
-    let f = relation_inside (sheet_of a.sheet.now) (literals_of a.given.now) in (
-      omega arith,
-      adds-most (adds-as (adds_then loop.invariant.1 c.relation_inside-after.ensures)
-          (series-more loop.r f refl)) (omega arith),
-    )
+loop-r-preserved c = series-next 384 _ c.loop-r.r c.loop-r.invariant c.relation_inside-after.ensures refl
 
 pub returns : goal.returns
 unfolding member_clauses
 returns c =
-    let s = c.before.before.before.before.before.before in
-    let loop = c.loop-r in
-    let f = relation_inside (sheet_of s.args.sheet.now) (literals_of s.args.given.now) in
-    let taken = s.requires.given.located.taken in
-    adds-most
-    (adds-as loop.invariant.1
-    (series-done f loop.invariant.0 c.loop-r-test.false ∙ ap (λ k. series k f) (relations-counted _ _ taken)))
-    (omega (arith, loop.invariant.0, few_relations _ _ taken))
+    let s = c.args.source.now.sheet in
+    let e : c.loop-r.r ≡ relation_count (sheet_of s.bytes.now) =
+    omega (arith, c.loop-r-test.false, c.loop-r.auto.r-end, relations-counted _ _ s.taken) in
+    series-end 384 _ c.loop-r.invariant e (omega (arith, few_relations _ _ s.taken, relations-counted _ _ s.taken))

@@ -1,5 +1,5 @@
--- `members` meets its contract. The loop's invariant: the relations passed are written.
-use Prim.Native.Nat.{◌-◌, ◌*◌, ◌≤◌}
+-- The relations passed are written.
+use Prim.Native.Nat.{◌*◌}
 use Rattle.sheet_rules.specs.Blocks.{sheet_of}
 use Rattle.clauses_rules.specs.Whole.{series}
 use Rattle.clauses_emission.specs.Emission.{literals_of}
@@ -8,8 +8,5 @@ use Rattle.clauses_marks.proofs.members.members.Given as goal
 
 abbrev pub invariant-loop-r : goal.invariant-loop-r
 invariant-loop-r l =
-    (l.r ≤ l.count) × Adds (384 * l.r) (series l.r (relation_inside (sheet_of l.sheet) (literals_of l.given)))
+    Adds (384 * l.r) (series l.r (relation_inside (sheet_of l.source.sheet.bytes.now) (literals_of l.source.given.now)))
     l.initial.list l.initial.after l.list l.after
-
-abbrev pub decreases-loop-r : goal.decreases-loop-r
-decreases-loop-r l = l.count - l.r

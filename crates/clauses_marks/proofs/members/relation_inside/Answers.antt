@@ -1,4 +1,4 @@
--- `relation_inside` meets its contract: the cells of a relation over full sorts have no clause.
+-- The cells of a relation over full sorts have no clause.
 use mathlib.Core.Path.{◌≡◌, refl, sym}
 use mathlib.Core.Bool.{Bool, true, false, cond}
 use mathlib.Core.List.{List, []}
@@ -6,7 +6,6 @@ use Prim.Native.Nat.{ℕ, zero, suc}
 use native.Mathlib.Omega.{arith}
 use Rattle.literal.specs.Literals.{Literal}
 use Rattle.sheet_rules.specs.Blocks.{Sheet, sheet_of, is_bounded, first_sort, second_sort}
-use Rattle.sheet_rules.proofs.Acceptance.{accepted-facts}
 use Rattle.relational.specs.Cells.{is_set, row_count, row_length}
 use Rattle.cells.proofs.Members.{full-first, full-second}
 use Rattle.clauses_rules.specs.Gates.{Clause}
@@ -14,6 +13,7 @@ use Rattle.clauses_rules.specs.Whole.{series, cell_members, cell_clauses}
 use Rattle.clauses_emission.specs.Emission.{literals_of}
 use Rattle.clauses_marks.specs.Marking.{row_inside, relation_inside}
 use Rattle.clauses_marks.proofs.Adding.{adds_none, adds-as, adds-most}
+use Rattle.clauses_marks.proofs.Relations.{series-start, series-next, low-relation}
 use Rattle.clauses_marks.proofs.members.relation_inside.Goals as goal
 
 series-none : (n : ℕ) (f : ℕ → List Clause) → ((i : ℕ) → f i ≡ []) → series n f ≡ []
@@ -39,18 +39,22 @@ module _ (sheet : Sheet) (cells : List Literal) (r : ℕ) (e : is_bounded sheet 
       series-none (row_length sheet r) (cell_clauses sheet cells r i) (no-clause i)
 
 pub over_bounded-requires : goal.over_bounded-requires
-over_bounded-requires c =
-    let g = c.requires in
-    let facts = accepted-facts _ _ g.given.located.taken in record {
-      sheet_value = g.given.located.taken;
-      r_bound = omega (arith, g.r_bound, facts.counts.few_relations);
-    }
+over_bounded-requires c = low-relation _ _ c.args.r c.args.source.now.sheet.taken c.requires.r_bound
 
-pub returns : goal.returns
-returns c =
+pub row_count-i-end-requires : goal.row_count-i-end-requires
+row_count-i-end-requires c = low-relation _ _ c.args.r c.args.source.now.sheet.taken c.requires.r_bound
+
+pub loop-i-init : goal.loop-i-init
+loop-i-init c = series-start 48 _
+
+pub loop-i-preserved : goal.loop-i-preserved
+loop-i-preserved c = series-next 48 _ c.loop-i.i c.loop-i.invariant c.row_inside-after.ensures refl
+
+pub returns-then-not-over_bounded : goal.returns-then-not-over_bounded
+returns-then-not-over_bounded c =
     let a = c.args in
-    let sheet = sheet_of a.sheet.now in
+    let sheet = sheet_of a.source.now.sheet.bytes.now in
     let e = c.over_bounded.ensures in
-    let none = none_inside sheet (literals_of a.given.now) a.r (full-first sheet a.r e c.if-over_bounded.false)
-    (full-second sheet a.r e c.if-over_bounded.false) in
+    let none = none_inside sheet (literals_of a.source.now.given.now) a.r (full-first sheet a.r e c.if-not-over_bounded.true)
+    (full-second sheet a.r e c.if-not-over_bounded.true) in
     adds-as (adds-most (adds_none a.list.now a.tape) (omega arith)) (sym none)

@@ -1,73 +1,56 @@
-use mathlib.Core.Path.{◌≡◌, ap, ◌∙◌}
-use Prim.Native.Nat.{ℕ, ◌+◌, ◌<◌}
+use mathlib.Core.Path.{ap, ◌∙◌}
 use native.Mathlib.Omega.{arith}
+use lib.IntN.{pos}
 use lib.ListN.{get_or}
+use mir.Syntax.{w32}
+use mir.Val.{SFits}
+use borrow.Author.Rules.{rules}
 use Rattle.literal.specs.Literals.{Literal}
 use Rattle.literal.specs.Words.{literal_of}
-use Rattle.literal.proofs.Signs.{read, back}
+use Rattle.literal.proofs.Signs.{back}
 use Rattle.sheet_rules.specs.Blocks.{sheet_of}
-use Rattle.relational.specs.Cells.{cell}
-use Rattle.clauses_rules.specs.Translation.{absent, literal_at}
-use Rattle.clauses_rules.specs.Whole.{cell_clauses}
 use Rattle.clauses_emission.specs.Emission.{literals_of}
-use Rattle.clauses_emission.proofs.Ranges.{literal-of}
 use Rattle.clauses_marks.specs.Marking.{column_clauses}
-use Rattle.clauses_marks.proofs.Adding.{adds_none, adds-as, adds-most, adds-small, adds_then}
-use Rattle.clauses_marks.proofs.Relations.{series-none, series-more}
+use Rattle.clauses_marks.proofs.Adding.{adds-small}
+use Rattle.clauses_marks.proofs.Relations.{series-start, series-next, series-end}
+use Rattle.clauses_marks.proofs.Relations.{row-long, row-literal, row-members, row-of}
 use Rattle.clauses_marks.proofs.members.row_inside.Goals as goal
-use Rattle.clauses_marks.proofs.members.row_inside.Lts as lts
-use Rattle.clauses_marks.proofs.members.row_inside.Tie as tie
-use Rattle.clauses_marks.proofs.members.row_inside.Reads as reads
-
-abbrev At-After-word_at : Type 0
-At-After-word_at = lts.After-word_at tie.the-claims reads.Pre reads.Post goal.the-invariant-loop-j
-    goal.the-decreases-loop-j tie.handed_clauses
 
 pub loop-j-init : goal.loop-j-init
-loop-j-init c =
-    let s = c.before.before.before in
-    (omega arith, adds-as (adds_none s.args.list.now s.args.tape) (series-none _))
+loop-j-init c = series-start 6 _
 
--- the literal of the cell
-literal-is : (c : At-After-word_at)
-    → literal_of (read c.word_at-l.result)
-    ≡ literal_at (sheet_of c.args.sheet.now)
-    (literals_of c.args.given.now)
-    (cell (sheet_of c.args.sheet.now)
-    c.args.r c.args.i
-    c.loop-j.j)
-literal-is c =
-    let s = c.before.before.before.before.before in
-    let a = s.args in
-    let j = c.loop-j.j in
-    let place : a.first + j ≡ cell (sheet_of a.sheet.now) a.r a.i j = omega (arith, s.requires.first_value) in
-    ap literal_of (back c.word_at-l.result (record { sfits = c.word_at-l.type_inv }) ∙ c.word_at-l.ensures)
-    ∙ literal-of a.given.now (a.first + j) ∙ ap (λ (n : ℕ). get_or (literals_of a.given.now) n absent) place
+pub cell_clauses-after-requires-clause-small : goal.cell_clauses-after-requires-clause-small
+cell_clauses-after-requires-clause-small c =
+    let s = c.args.source.now in
+    let row = row-members _ _ s.sheet.taken _ s.inside c.args.r c.args.i c.requires.r_bound _ c.row-row.ensures in
+    adds-small c.loop-j.invariant c.requires.small (omega (arith, c.loop-j-test.true, row.few))
 
-pub cell_clauses-after-requires : goal.cell_clauses-after-requires
-cell_clauses-after-requires c =
-    let s = c.before.before.before.before.before.before.before in
-    let p = s.requires in
-    let l = c.loop-j in
-    let few = c.row_length-columns.ensures.1 in
-    let low : l.j < 8 = omega (arith, c.loop-j-test.true, few) in record {
-      small = adds-small l.invariant.1 s.requires.small (omega (arith, low));
-      accepts = p.accepts;
-      inside = (rw (literal-is c.before.before) (p.accepts.inside _), (p.r_bound.0, (p.r_bound.1.0, low)));
-    }
+pub cell_clauses-after-requires-clause-inside : goal.cell_clauses-after-requires-clause-inside
+cell_clauses-after-requires-clause-inside c =
+    let s = c.args.source.now in
+    let a = c.args in
+    let h = c.loop-j-test.true in
+    let w = get_or c.row-row.result.now c.loop-j.j (pos 0) in
+    let fits : SFits w32 w = search rules in
+    let row = row-of _ _ s.sheet.taken _ s.inside a.r a.i c.requires.r_bound _ c.row-row.ensures c.requires.i_bound in
+    let e = row-literal _ _ s.sheet.taken _ s.inside a.r a.i c.requires.r_bound _ c.row-row.ensures c.loop-j.j h in
+    (rw (back w fits, e) (s.inside _), (row.relation, (row.atom, omega (arith, h, row.members.few))))
 
 pub loop-j-preserved : goal.loop-j-preserved
 loop-j-preserved c =
-    let s = c.before.before.before.before.before.before.before.before.before in
-    let a = s.args in
-    let l = c.loop-j in
-    let sheet = sheet_of a.sheet.now in
-    let cells = literals_of a.given.now in
-    let e = ap (λ (m : Literal). column_clauses sheet cells m a.r a.i l.j)
-    (literal-is c.before.before.before.before) in (
-      omega (arith, c.loop-j-test.true),
-      adds-most
-          (adds-as (adds_then l.invariant.1 c.cell_clauses-after.ensures)
-          (series-more l.j (cell_clauses sheet cells a.r a.i) e))
-          (omega arith),
-    )
+    let a = c.args in
+    let s = a.source.now in
+    let w = get_or c.row-row.result.now c.loop-j.j (pos 0) in
+    let fits : SFits w32 w = search rules in
+    let e = ap literal_of (back w fits)
+    ∙ row-literal _ _ s.sheet.taken _ s.inside a.r a.i c.requires.r_bound _ c.row-row.ensures c.loop-j.j c.loop-j-test.true in
+    series-next 6 _ c.loop-j.j c.loop-j.invariant c.cell_clauses-after.ensures
+    (ap (λ (m : Literal). column_clauses (sheet_of s.sheet.bytes.now) (literals_of s.given.now) m a.r a.i c.loop-j.j) e)
+
+pub returns : goal.returns
+returns c =
+    let a = c.args in
+    let s = a.source.now in
+    let wide = row-long _ _ s.sheet.taken _ s.inside a.r a.i c.requires.r_bound _ c.row-row.ensures in
+    let row = row-members _ _ s.sheet.taken _ s.inside a.r a.i c.requires.r_bound _ c.row-row.ensures in
+    series-end 6 _ c.loop-j.invariant (omega (arith, wide, c.loop-j-test.false, c.loop-j.auto.j-end)) (omega (arith, wide, row.few))

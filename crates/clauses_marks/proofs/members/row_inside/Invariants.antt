@@ -1,5 +1,5 @@
--- `row_inside` meets its contract. The loop's invariant: the clauses of the cells passed are written.
-use Prim.Native.Nat.{◌-◌, ◌*◌, ◌≤◌}
+-- The clauses of the cells passed are written.
+use Prim.Native.Nat.{◌*◌}
 use Rattle.sheet_rules.specs.Blocks.{sheet_of}
 use Rattle.clauses_rules.specs.Whole.{series, cell_clauses}
 use Rattle.clauses_emission.specs.Emission.{literals_of}
@@ -8,8 +8,5 @@ use Rattle.clauses_marks.proofs.members.row_inside.Given as goal
 
 abbrev pub invariant-loop-j : goal.invariant-loop-j
 invariant-loop-j l =
-    (l.j ≤ l.columns) × Adds (6 * l.j) (series l.j (cell_clauses (sheet_of l.sheet) (literals_of l.given) l.r l.i))
+    Adds (6 * l.j) (series l.j (cell_clauses (sheet_of l.source.sheet.bytes.now) (literals_of l.source.given.now) l.r l.i))
     l.initial.list l.initial.after l.list l.after
-
-abbrev pub decreases-loop-j : goal.decreases-loop-j
-decreases-loop-j l = l.columns - l.j
