@@ -7,6 +7,7 @@ ghost use Rattle.clauses.specs.Answers.{fits, answer_of, count_answer, write_ans
 ghost use Rattle.clauses.specs.Translating.{Numbered, size_answer};
 
 use answer::{Count, Size};
+use cells::Sheet;
 use clauses_emission::{LIMIT, Tape};
 use refusal::Refusal;
 use sheet::answer::Reading;
@@ -39,7 +40,13 @@ fn count_accepted(sheet: &[u8], layout: Layout) -> Count
     ensures { answer_of result ≡ count_answer sheet.now }
 {
     let mut nothing = [0i32; 1];
-    let tape = translate(&mut nothing[..0], sheet, layout);
+    let tape = translate(
+        &mut nothing[..0],
+        &Sheet {
+            bytes: sheet,
+            layout,
+        },
+    );
     size_of(tape)
 }
 
@@ -64,7 +71,13 @@ fn write_counted(sheet: &[u8], layout: Layout, size: Size, list: &mut [i32]) -> 
     if list.len() < size.words {
         return Count::Refused(Refusal::Short);
     }
-    let tape = translate(list, sheet, layout);
+    let tape = translate(
+        list,
+        &Sheet {
+            bytes: sheet,
+            layout,
+        },
+    );
     size_of(tape)
 }
 

@@ -1,4 +1,5 @@
-// The operators, by kind (document 01, "Clauses", the last list). What an operand left on the tape is where the operator starts.
+// The operators, by kind (document 01, "Clauses", the last list). What an operand left on the tape is where the operator
+// starts.
 ghost use Rattle.std.specs.Prelude.{◌≡◌};
 ghost use Rattle.literal.specs.Words.{literal_of};
 ghost use Rattle.relational.specs.Trees.{Binary, Unary, Comparison, Test, Connective, Quantifier};
