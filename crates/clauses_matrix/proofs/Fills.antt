@@ -21,7 +21,7 @@ use Rattle.relational.proofs.Places.{place-below, square}
 use Rattle.clauses_rules.specs.Builder.{Builder, each}
 use Rattle.clauses_rules.specs.Translation.{Two, absent}
 use Rattle.clauses_emission.specs.declared.Tape.{Tape}
-use Rattle.clauses_matrix.specs.declared.Literals.{Literals}
+use Rattle.clauses_matrix.specs.Matrices.{Literals}
 use Rattle.clauses_emission.specs.Emission.{Inside, AllInside, literals_of, most_inputs, Inputs, Bounded, EmitsLiteral}
 use Rattle.clauses_matrix.specs.Matrices.{cells_of, Cells, matrix_of, Operand, EmitsCells}
 use Rattle.clauses_emission.proofs.Ranges.{inside-absent, all-grows, literal-at}
@@ -95,7 +95,7 @@ module _ {A : Type 0} (step : A → Builder Literal) (regular : (x : A) → Regu
       (subst (λ (n : ℕ). EmitsCells n (each step (map f (upto n)) a.next) old a ws new b) e p)
 
 -- ---- the cell at a place
-below-or-past : (k n : ℕ) → (k < n) ⊎ (n ≤ k)
+pub below-or-past : (k n : ℕ) → (k < n) ⊎ (n ≤ k)
 below-or-past k n = ⊎_elim (λ t. inl (ltb-true k n t)) (λ f. inr (ltb-false k n f)) (decided (ltb k n))
 
 cells_at : (size n : ℕ) (ws : List ℤ) (k : ℕ) → Cells size n ws → k < 64 → get_or (cells_of size ws) k absent ≡ literal_of (get_or ws k (pos 0))
@@ -137,24 +137,8 @@ abbrev pub pair_at : List ℤ → List ℤ → (ℕ → ℕ) → (ℕ → ℕ) �
 pair_at left right i j k = (literal_of (get_or left (i k) (pos 0)), literal_of (get_or right (j k) (pos 0)))
 
 -- ---- what the cells of a matrix go into
-pub size_fits : (r c : ℕ) → r ≤ 8 → c ≤ 8 → Fits w64 (r * c)
-size_fits r c h l = record { fits = omega (arith, square h l) }
-
 pub cell_below : (r c k : ℕ) → r ≤ 8 → c ≤ 8 → k < r * c → k < 64
 cell_below r c k h l b = omega (arith, square h l)
-
--- numbers that the machine takes
-pub fits-small : (k : ℕ) → k < 64 → Fits w64 k
-fits-small k h = record { fits = omega arith }
-
-pub fits-part : (i k : ℕ) → i + k < 64 → Fits w64 i
-fits-part i k h = record { fits = omega arith }
-
-pub fits-four : (k : ℕ) → k < 64 → Fits w64 (k * 4)
-fits-four k h = record { fits = omega arith }
-
-pub fits_next : (k : ℕ) → k < 64 → Fits w64 (k + 1)
-fits_next k h = record { fits = omega arith }
 
 pub place_in : (r c i j : ℕ) → r ≤ 8 → c ≤ 8 → i < r → j < c → i * c + j < 64
 place_in r c i j h l a b = cell_below r c (i * c + j) h l (place-below r c i j a b)
@@ -171,9 +155,6 @@ inputs-front k n ws h l a = record { few = omega (arith, length-take k ws); insi
 
 pub front-inputs : (size k n : ℕ) (ws : List ℤ) → 2 ≤ n → Cells size n ws → Inputs n (take k ws)
 front-inputs size k n ws h c = inputs-front k n ws h (omega (arith, c.room)) c.inside
-
-pub front_length : (size k n : ℕ) (ws : List ℤ) → Cells size n ws → k ≤ 64 → k ≡ length (take k ws)
-front_length size k n ws c h = sym (length-take-le k ws (omega (arith, c.room)))
 
 -- ---- a set on the right of a join is a column
 few_columns : (b : Bool) (c : ℕ) → c ≤ 8 → cond b 1 c ≤ 8

@@ -2,18 +2,13 @@
 #![tactic(auto)]
 
 use clauses_emission::Tape;
+use nodes::matrix::Matrix;
 
 pub mod operators; // operators.rt: union to closure
 pub mod truths; // truths.rt: comparisons, and tests of an expression
 
-// A matrix of literals: its cells are the first rows times columns words, in row order; the other words are -1.
-#[derive(Clone, Copy)]
-pub struct Literals {
-    pub arity: usize,
-    pub rows: usize,
-    pub columns: usize,
-    pub cells: [i32; 64],
-}
+// Literals, cell by cell: the words past the matrix are -1.
+pub type Literals = Matrix<i32>;
 
 #[derive(Clone, Copy)]
 pub struct MadeCells {

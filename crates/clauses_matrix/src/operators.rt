@@ -1,5 +1,5 @@
 // Expressions, operator by operator: cells in row order (document 01, "Clauses", the last list).
-ghost use Rattle.std.specs.Prelude.{true, List, ◌≡◌, ◌*◌, ℤ, length};
+ghost use Rattle.std.specs.Prelude.{List, ◌*◌, ℤ};
 ghost use Rattle.relational.specs.declared.Binary.TheVariants.{Join as join, Product as product};
 ghost use Rattle.relational.specs.declared.Unary.TheVariants.{Inverse as inverse, Closure as closure};
 ghost use Rattle.relational.specs.Matrices as matrices;
@@ -11,6 +11,7 @@ ghost use Rattle.clauses_matrix.specs.Matrices.{paired, paired_matrix, join_cell
 use super::{Literals, MadeCells, MadeMatrix};
 use clauses_emission::gates::{both, or, pair};
 use clauses_emission::{Made, Pairing, Tape};
+use nodes::matrix::{index, places_by};
 use nodes::sizes::{join_columns, rounds};
 
 // The cells at the same place of p and q, place by place.
@@ -27,16 +28,12 @@ pub fn matched_cells(
     ensures { EmitsCells (p.rows * p.columns) (paired kind (matrix_of p) (matrix_of q) tape.next)
         list.old tape result.cells list.new result.tape }
 {
-    let size = p.rows * p.columns;
     let mut cells = [-1; 64];
     let mut after = tape;
-    let mut k: usize = 0;
-    while k < size {
+    for k in 0..p.rows * p.columns {
         let made = pair(list, after, kind, p.cells[k], q.cells[k]);
-        let l = made.literal;
-        cells[k] = l;
+        cells[k] = made.literal;
         after = made.tape;
-        k += 1;
     }
     MadeCells { cells, tape: after }
 }
@@ -49,17 +46,14 @@ pub fn matched(list: &mut [i32], tape: Tape, kind: Pairing, p: Literals, q: Lite
     ensures { EmitsBinary (paired_matrix kind) p q
         list.old tape result.matrix list.new result.tape }
 {
-    let made = matched_cells(list, tape, kind, p, q);
-    let cells = made.cells;
-    let after = made.tape;
-    let matrix = Literals {
-        arity: p.arity,
-        rows: p.rows,
-        columns: p.columns,
-        cells,
-    };
+    let MadeCells { cells, tape: after } = matched_cells(list, tape, kind, p, q);
     MadeMatrix {
-        matrix,
+        matrix: Literals {
+            arity: p.arity,
+            rows: p.rows,
+            columns: p.columns,
+            cells,
+        },
         tape: after,
     }
 }
@@ -81,19 +75,15 @@ fn join_cell(
 {
     let mut middles = [-1; 8];
     let mut after = tape;
-    let mut k: usize = 0;
-    while k < left.len() {
-        let made = both(list, after, left[k], right[k * columns + j]);
-        let l = made.literal;
-        middles[k] = l;
+    for (k, l) in left.iter().enumerate() {
+        let made = both(list, after, *l, right[k * columns + j]);
+        middles[k] = made.literal;
         after = made.tape;
-        k += 1;
     }
-    let n = left.len();
-    or(list, after, &mut middles[..n])
+    or(list, after, &mut middles[..left.len()])
 }
 
-// The cells of a join, place by place: cell k stands in column j, and its row starts at `start` in the left operand.
+// The cells of a join, place by place.
 fn join_cells(list: &mut [i32], tape: Tape, p: Literals, q: Literals) -> MadeCells
     requires bounded { Bounded tape }
     requires operand { Operand tape.next p }
@@ -102,27 +92,23 @@ fn join_cells(list: &mut [i32], tape: Tape, p: Literals, q: Literals) -> MadeCel
         list.old tape result.cells list.new result.tape }
 {
     let columns = join_columns(q.arity, q.columns);
-    let size = p.rows * columns;
     let n = p.columns;
     let left = p.cells;
     let right = q.cells;
     let mut cells = [-1; 64];
     let mut after = tape;
-    let mut k: usize = 0;
-    let mut start: usize = 0;
-    let mut j: usize = 0;
-    while k < size {
-        let end = start + n;
-        let made = join_cell(list, after, &left[start..end], &right, columns, j);
-        let l = made.literal;
-        cells[k] = l;
+    for k in 0..p.rows * columns {
+        let start = k / columns * n;
+        let made = join_cell(
+            list,
+            after,
+            &left[start..start + n],
+            &right,
+            columns,
+            k % columns,
+        );
+        cells[k] = made.literal;
         after = made.tape;
-        k += 1;
-        j += 1;
-        if j == columns {
-            start = end;
-            j = 0;
-        }
     }
     MadeCells { cells, tape: after }
 }
@@ -134,29 +120,24 @@ pub fn join(list: &mut [i32], tape: Tape, p: Literals, q: Literals) -> MadeMatri
     ensures { EmitsBinary (translate_binary join) p q list.old tape result.matrix list.new result.tape }
 {
     let columns = join_columns(q.arity, q.columns);
-    let made = join_cells(list, tape, p, q);
-    let cells = made.cells;
-    let after = made.tape;
-    if p.arity + q.arity == 4 {
-        let relation = Literals {
+    let MadeCells { cells, tape: after } = join_cells(list, tape, p, q);
+    let matrix = if p.arity + q.arity == 4 {
+        Literals {
             arity: 2,
             rows: p.rows,
             columns,
             cells,
-        };
-        return MadeMatrix {
-            matrix: relation,
-            tape: after,
-        };
-    }
-    let set = Literals {
-        arity: 1,
-        rows: 1,
-        columns: p.rows * columns,
-        cells,
+        }
+    } else {
+        Literals {
+            arity: 1,
+            rows: 1,
+            columns: p.rows * columns,
+            cells,
+        }
     };
     MadeMatrix {
-        matrix: set,
+        matrix,
         tape: after,
     }
 }
@@ -169,25 +150,20 @@ pub fn product(list: &mut [i32], tape: Tape, p: Literals, q: Literals) -> MadeMa
     ensures { EmitsBinary (translate_binary product) p q list.old tape result.matrix list.new result.tape }
 {
     let columns = q.columns;
-    let size = p.columns * columns;
     let mut cells = [-1; 64];
     let mut after = tape;
-    let mut k: usize = 0;
-    while k < size {
+    for k in 0..p.columns * columns {
         let made = both(list, after, p.cells[k / columns], q.cells[k % columns]);
-        let l = made.literal;
-        cells[k] = l;
+        cells[k] = made.literal;
         after = made.tape;
-        k += 1;
     }
-    let relation = Literals {
-        arity: 2,
-        rows: p.columns,
-        columns,
-        cells,
-    };
     MadeMatrix {
-        matrix: relation,
+        matrix: Literals {
+            arity: 2,
+            rows: p.columns,
+            columns,
+            cells,
+        },
         tape: after,
     }
 }
@@ -198,24 +174,18 @@ pub fn inverse(tape: Tape, p: Literals) -> MadeMatrix
     requires operand { Operand tape.next p }
     ensures { (list : List ℤ) → EmitsUnary (translate_unary inverse) p list tape result.matrix list result.tape }
 {
-    let rows = p.rows;
-    let size = p.columns * rows;
-    let columns = p.columns;
-    let mut cells = [-1; 64];
-    let mut k: usize = 0;
-    while k < size {
-        let l = p.cells[(k % rows) * columns + k / rows];
-        cells[k] = l;
-        k += 1;
-    }
-    let relation = Literals {
-        arity: 2,
-        rows: columns,
-        columns: rows,
-        cells,
-    };
     MadeMatrix {
-        matrix: relation,
+        matrix: Literals {
+            arity: 2,
+            rows: p.columns,
+            columns: p.rows,
+            cells: places_by(
+                p.columns,
+                p.rows,
+                -1,
+                |i, j| p.cells[index(j, p.columns, i)],
+            ),
+        },
         tape,
     }
 }
@@ -226,25 +196,8 @@ fn round(list: &mut [i32], tape: Tape, p: Literals) -> MadeMatrix
     requires operand { Operand tape.next p }
     ensures { EmitsUnary round_of p list.old tape result.matrix list.new result.tape }
 {
-    let made = join(list, tape, p, p);
-    let joined = made.matrix;
-    let after = made.tape;
-    matched(list, after, Pairing::Either, p, joined)
-}
-
-// Whether p and q hold the same words.
-fn same_words(p: &[i32], q: &[i32]) -> bool
-    requires { length p.now ≡ length q.now }
-    ensures { result ≡ true → p.now ≡ q.now }
-{
-    let mut k: usize = 0;
-    while k < p.len() {
-        if p[k] != q[k] {
-            return false;
-        }
-        k += 1;
-    }
-    true
+    let joined = join(list, tape, p, p);
+    matched(list, joined.tape, Pairing::Either, p, joined.matrix)
 }
 
 // After a round that takes no variable and leaves the cells as they were, the others would change nothing: they are not worked out.
@@ -253,24 +206,15 @@ pub fn closure(list: &mut [i32], tape: Tape, p: Literals) -> MadeMatrix
     requires operand { Operand tape.next p }
     ensures { EmitsUnary (translate_unary closure) p list.old tape result.matrix list.new result.tape }
 {
-    let n = rounds(p.rows);
     let mut matrix = p;
     let mut after = tape;
-    let mut k: usize = 0;
-    while k < n {
+    for _ in 0..rounds(p.rows) {
         let made = round(list, after, matrix);
-        let next = made.matrix;
-        let later = made.tape;
-        if later.next == after.next {
-            let old = matrix.cells;
-            let new = next.cells;
-            if same_words(&old, &new) {
-                return made;
-            }
+        if made.tape.next == after.next && made.matrix.cells == matrix.cells {
+            return made;
         }
-        matrix = next;
-        after = later;
-        k += 1;
+        matrix = made.matrix;
+        after = made.tape;
     }
     MadeMatrix {
         matrix,

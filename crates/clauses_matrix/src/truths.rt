@@ -1,7 +1,9 @@
 // Comparisons, and tests of an expression (document 01, "Clauses", the last list).
 ghost use Rattle.relational.specs.declared.Test.TheVariants.{Some as some, None as none, Lone as lone};
 ghost use Rattle.clauses_rules.specs.Translation.{translate_test};
-ghost use Rattle.clauses_emission.specs.Emission.{Bounded, EmitsLiteral};
+ghost use Rattle.literal.specs.Words.{literal_of};
+ghost use Rattle.clauses_rules.specs.Translation as two;
+ghost use Rattle.clauses_emission.specs.Emission.{Inside, Bounded, EmitsLiteral, EmitsTwo};
 ghost use Rattle.clauses_matrix.specs.Matrices.{matrix_of, Operand, EmitsTest, compared};
 
 use super::Literals;
@@ -17,11 +19,8 @@ pub fn all_matched(list: &mut [i32], tape: Tape, kind: Pairing, p: Literals, q: 
     ensures { EmitsLiteral (compared kind (matrix_of p) (matrix_of q) tape.next)
         list.old tape result.literal list.new result.tape }
 {
-    let made = matched_cells(list, tape, kind, p, q);
-    let mut cells = made.cells;
-    let after = made.tape;
-    let n = p.rows * p.columns;
-    and(list, after, &mut cells[..n])
+    let mut made = matched_cells(list, tape, kind, p, q);
+    and(list, made.tape, &mut made.cells[..p.rows * p.columns])
 }
 
 pub fn some(list: &mut [i32], tape: Tape, p: Literals) -> Made
@@ -30,8 +29,7 @@ pub fn some(list: &mut [i32], tape: Tape, p: Literals) -> Made
     ensures { EmitsTest (translate_test some) p list.old tape result.literal list.new result.tape }
 {
     let mut cells = p.cells;
-    let n = p.rows * p.columns;
-    or(list, tape, &mut cells[..n])
+    or(list, tape, &mut cells[..p.rows * p.columns])
 }
 
 pub fn none(list: &mut [i32], tape: Tape, p: Literals) -> Made
@@ -39,12 +37,23 @@ pub fn none(list: &mut [i32], tape: Tape, p: Literals) -> Made
     requires operand { Operand tape.next p }
     ensures { EmitsTest (translate_test none) p list.old tape result.literal list.new result.tape }
 {
-    let made = some(list, tape, p);
-    negate(made)
+    negate(some(list, tape, p))
+}
+
+// AND(p, q): where it is told no gate is made, and list and tape stay.
+fn meet(list: &mut [i32], tape: Tape, p: i32, q: i32) -> Made
+    requires bounded { Bounded tape }
+    requires inside { Inside tape.next (literal_of p) }
+    requires inside_2 { Inside tape.next (literal_of q) }
+    ensures { EmitsTwo two.both p q list.old tape result.literal list.new result.tape }
+{
+    match told_both(p, q) {
+        Some(literal) => Made { literal, tape },
+        None => both(list, tape, p, q),
+    }
 }
 
 // At most one: AND over pairs, in order, of OR(-p, -q). It is made as the opposite of OR over pairs of AND(p, q): the same gates.
-// Of a pair that is told (not 0) no gate is made: list and tape stay.
 pub fn lone(list: &mut [i32], tape: Tape, p: Literals) -> Made
     requires bounded { Bounded tape }
     requires operand { Operand tape.next p }
@@ -54,23 +63,13 @@ pub fn lone(list: &mut [i32], tape: Tape, p: Literals) -> Made
     let mut pairs = [-1; 2016];
     let mut after = tape;
     let mut t: usize = 0;
-    let mut i: usize = 0;
-    let mut j: usize = 1;
-    while j < n {
-        let mut l = told_both(p.cells[i], p.cells[j]);
-        if l == 0 {
-            let made = both(list, after, p.cells[i], p.cells[j]);
-            l = made.literal;
+    for i in 0..n {
+        for j in i + 1..n {
+            let made = meet(list, after, p.cells[i], p.cells[j]);
+            pairs[t] = made.literal;
             after = made.tape;
-        }
-        pairs[t] = l;
-        t += 1;
-        j += 1;
-        if j == n {
-            i += 1;
-            j = i + 1;
+            t += 1;
         }
     }
-    let met = or(list, after, &mut pairs[..t]);
-    negate(met)
+    negate(or(list, after, &mut pairs[..t]))
 }
