@@ -15,5 +15,5 @@ pub mod FollowingCalls
 pub mod GoesBack
 pub mod Every
 pub mod MoreSteps
-pub mod AnswerTests
 pub mod OpenSlices
+pub mod Ends

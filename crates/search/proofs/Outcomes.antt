@@ -1,4 +1,5 @@
 -- The outcome of a call, case by case, and the end of a run as the answer that it gives.
+use Rattle.std.specs.Prelude.{Ok}
 use mathlib.Core.Path.{◌≡◌, refl, ◌∙◌, ap}
 use mathlib.Core.Bool.{Bool, true, false, cond, ◌&&◌}
 use mathlib.Core.List.{List, ◌++◌}
@@ -20,13 +21,10 @@ use Rattle.search_rules.specs.Following.{first_step, following_run}
 use Rattle.search_rules.proofs.Invariant.{length-values}
 use Rattle.search_rules.proofs.StepView.{total-count, Ends, run_ends}
 use Rattle.search_rules.proofs.Following.{first-not-found, follow-none, follow-waits, follow-step}
-use Rattle.search_core.specs.declared.run.End.TheVariants as core
 use Rattle.search_core.specs.declared.run.Ran.{Ran}
-use Rattle.search_core.specs.Inner.{state_at, Ended}
-use Rattle.search.specs.Answers.{Answer, found, none, spent, refused, answer_at, values_at, trail_at, Outcome, refuse, finish}
+use Rattle.search_core.specs.Inner.{Ended}
+use Rattle.search.specs.Answers.{Answer, found, none, spent, refused, end_answer, answer_at, values_at, trail_at, Outcome, refuse, finish}
 use Rattle.search.specs.Answers.{search_run, outcome}
-use Rattle.search.specs.declared.answer.Search.{Search}
-use Rattle.search.specs.declared.answer.Search.TheVariants.{None, Found, Spent}
 use Rattle.search.specs.declared.answer.Resumed.{Resumed}
 use Rattle.search.specs.Inner.{Finished}
 
@@ -91,54 +89,30 @@ following-within clauses v n t state = by n (first_step clauses v state) refl
         rw (follow-step clauses v n t state kind s e) (omega (arith, figure-within clauses v n (count kind t) s, total-count kind t))
 
 -- the end of a run, as `go_on` ensures it
-abbrev finished : Ran → (Steps → Search) → Resumed
-finished r answer = record { answer = answer (steps_of r.position); position = r.position }
+module _ (v : ℕ) (r : Ran) (values : List ℕ) (trail : List ℤ) where
+  abbrev finished : Resumed
+  finished = record { answer = Ok (record { end = r.end; steps = steps_of r.position }); position = r.position }
 
-at-end : (v : ℕ) (end : End) (r : Ran) (values : List ℕ) (trail : List ℤ) → Ended v end r values trail
-    → r.position ≡ position_of (length (state_at end)) (steps_at end)
-at-end v end r values trail h = λ i. position_of (h.stored.used_is i) (h.steps_are i)
-
-pub finish-none : (v : ℕ) (end : End) (r : Ran) (values : List ℕ) (trail : List ℤ) → Ended v end r values trail → r.end ≡ core.None
-    → Finished v end (finished r None) values trail
-unfolding answer_at values_at trail_at
-finish-none v (was_none t) r values trail h e = record {
-  answer_is = ap none h.steps_are;
-  values_are = h.stored.values_are;
-  trail_is = h.stored.trail_is;
-  position_is = at-end v (was_none t) r values trail h;
-}
-finish-none v (was_found t s) r values trail h e =
-    absurd (let d : r.end ≡ core.Found = h.end_is in let z : ◌≡◌ {A = ℕ} 0 1 = cc in omega arith)
-finish-none v (was_spent t s) r values trail h e =
-    absurd (let d : r.end ≡ core.Spent = h.end_is in let z : ◌≡◌ {A = ℕ} 0 1 = cc in omega arith)
-
-pub finish-found : (v : ℕ) (end : End) (r : Ran) (values : List ℕ) (trail : List ℤ) → Ended v end r values trail → r.end ≡ core.Found
-    → Finished v end (finished r Found) values trail
-unfolding answer_at values_at trail_at
-finish-found v (was_none t) r values trail h e =
-    absurd (let d : r.end ≡ core.None = h.end_is in let z : ◌≡◌ {A = ℕ} 0 1 = cc in omega arith)
-finish-found v (was_found t s) r values trail h e = record {
-  answer_is = ap found h.steps_are;
-  values_are = h.stored.values_are;
-  trail_is = h.stored.trail_is;
-  position_is = at-end v (was_found t s) r values trail h;
-}
-finish-found v (was_spent t s) r values trail h e =
-    absurd (let d : r.end ≡ core.Spent = h.end_is in let z : ◌≡◌ {A = ℕ} 0 1 = cc in omega arith)
-
-pub finish-spent : (v : ℕ) (end : End) (r : Ran) (values : List ℕ) (trail : List ℤ) → Ended v end r values trail → r.end ≡ core.Spent
-    → Finished v end (finished r Spent) values trail
-unfolding answer_at values_at trail_at
-finish-spent v (was_none t) r values trail h e =
-    absurd (let d : r.end ≡ core.None = h.end_is in let z : ◌≡◌ {A = ℕ} 0 1 = cc in omega arith)
-finish-spent v (was_found t s) r values trail h e =
-    absurd (let d : r.end ≡ core.Found = h.end_is in let z : ◌≡◌ {A = ℕ} 0 1 = cc in omega arith)
-finish-spent v (was_spent t s) r values trail h e = record {
-  answer_is = ap spent h.steps_are;
-  values_are = h.stored.values_are;
-  trail_is = h.stored.trail_is;
-  position_is = at-end v (was_spent t s) r values trail h;
-}
+  pub finish-run : (end : End) → Ended v end r values trail → Finished v end finished values trail
+  unfolding answer_at values_at trail_at
+  finish-run (was_none t) h = record {
+    answer_is = λ i. end_answer (h.end_is i) (h.steps_are i);
+    values_are = h.stored.values_are;
+    trail_is = h.stored.trail_is;
+    position_is = λ i. position_of (h.stored.used_is i) (h.steps_are i);
+  }
+  finish-run (was_found t s) h = record {
+    answer_is = λ i. end_answer (h.end_is i) (h.steps_are i);
+    values_are = h.stored.values_are;
+    trail_is = h.stored.trail_is;
+    position_is = λ i. position_of (h.stored.used_is i) (h.steps_are i);
+  }
+  finish-run (was_spent t s) h = record {
+    answer_is = λ i. end_answer (h.end_is i) (h.steps_are i);
+    values_are = h.stored.values_are;
+    trail_is = h.stored.trail_is;
+    position_is = λ i. position_of (h.stored.used_is i) (h.steps_are i);
+  }
 
 -- the end of a run, told by its answer
 pub was-none : (end : End) (t : Steps) → answer_at end ≡ none t → end ≡ was_none t

@@ -13,7 +13,7 @@ use Rattle.refusal.specs.Refusals.{number_of}
 use Rattle.clause_list.specs.ClauseList.{is_list}
 use Rattle.search_rules.specs.Run.{total, End}
 use Rattle.search_rules.specs.Held.{steps_of, no_state, step_limit}
-use Rattle.search.specs.declared.answer.Search.TheVariants.{Refused}
+use Rattle.std.specs.Prelude.{Err}
 use Rattle.search_rules.specs.declared.Position.{Position}
 use Rattle.search.specs.declared.answer.Resumed.{Resumed}
 use Rattle.search.specs.Answers.{answer_of}
@@ -83,13 +83,13 @@ granted false e = refl
 
 -- a refusal, as `resumed` ensures it
 pub declines : (refusal : Refusal) (values : List ℕ) (trail : List ℤ) (p : Position) (r : Resumed) (o : Resumption)
-    → r.answer ≡ Refused refusal → r.position ≡ p → o ≡ decline (number_of refusal) values trail p
+    → r.answer ≡ Err refusal → r.position ≡ p → o ≡ decline (number_of refusal) values trail p
     → left (answer_of r.answer) values trail r.position ≡ o
 declines refusal values trail p r o e q d = rw (e, q, d) refl
 
 -- the same after the first n bytes and words were lent on, and came back as they were
 pub declines-back : (n : ℕ) (refusal : Refusal) (values : List ℕ) (trail : List ℤ) (p : Position) (r : Resumed) (o : Resumption)
-    → r.answer ≡ Refused refusal → r.position ≡ p → o ≡ decline (number_of refusal) values trail p
+    → r.answer ≡ Err refusal → r.position ≡ p → o ≡ decline (number_of refusal) values trail p
     → left (answer_of r.answer) (take n values ++ drop n values) (take n trail ++ drop n trail) r.position ≡ o
 declines-back n refusal values trail p r o e q d =
     rw (take-append-drop n values, take-append-drop n trail) (declines refusal values trail p r o e q d)

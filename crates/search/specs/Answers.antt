@@ -1,11 +1,13 @@
 -- What a call of `search` answers, and what it leaves in the lent slices (document 01, "Search" and "Answers that
 -- decline"; document 02, Changes 3 and 6).
-use Rattle.std.specs.Prelude.{cond, ◌&&◌, List, [], ◌++◌, ℕ, leb, ℤ, length, drop}
+use Rattle.std.specs.Prelude.{cond, ◌&&◌, List, [], ◌++◌, ℕ, leb, ℤ, length, drop, Result, Ok, Err}
 use Rattle.std.proofs.Math.Option.{Option, none as Option·none, some}
+use Rattle.refusal.specs.declared.Refusal.{Refusal}
 use Rattle.refusal.specs.Refusals.{number_of}
 use Rattle.clause_list.specs.ClauseList.{clauses_of, is_list}
-use Rattle.search.specs.declared.answer.Search.{Search}
-use Rattle.search.specs.declared.answer.Search.TheVariants.{Found, None, Spent, Refused}
+use Rattle.search_core.specs.declared.run.End as core
+use Rattle.search_core.specs.declared.run.End.TheVariants.{Found, None, Spent}
+use Rattle.search.specs.declared.answer.Ended.{Ended}
 use Rattle.search_rules.specs.declared.Steps.{Steps}
 use Rattle.search_rules.specs.Rules.{values_of, trail_of}
 use Rattle.search_rules.specs.Run.{zeros, End, was_none, was_found, was_spent, run}
@@ -16,12 +18,15 @@ pub data Answer : Type 0 where
   found none spent : Steps → Answer
   refused : ℕ → Answer
 
--- the paper's answer of each case of the enum
-abbrev pub answer_of : Search → Answer
-answer_of (Found steps) = found steps
-answer_of (None steps) = none steps
-answer_of (Spent steps) = spent steps
-answer_of (Refused refusal) = refused (number_of refusal)
+-- the paper's answer of each end, and of a refusal
+abbrev pub end_answer : core.End → Steps → Answer
+end_answer Found steps = found steps
+end_answer None steps = none steps
+end_answer Spent steps = spent steps
+
+abbrev pub answer_of : Result Ended Refusal → Answer
+answer_of (Ok ended) = end_answer ended.end ended.steps
+answer_of (Err refusal) = refused (number_of refusal)
 
 -- the steps that an answer gives
 abbrev pub steps_in : Answer → Option Steps

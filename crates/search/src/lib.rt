@@ -2,14 +2,13 @@
 // the call for the next.
 #![tactic(auto)]
 
-ghost use Rattle.std.specs.Prelude.{◌≡◌};
-ghost use Rattle.search.specs.declared.answer.Search.TheVariants.{Refused};
+ghost use Rattle.std.specs.Prelude.{◌≡◌, Err};
 ghost use Rattle.search.specs.Answers.{answer_of, outcome};
 ghost use Rattle.search.specs.Resumed.{left, taken_up, resumption};
 ghost use Rattle.search.specs.Following.{following};
 ghost use Rattle.search.specs.Inner.{run_of};
 
-use answer::{Position, Resumed, Search};
+use answer::{Ended, Position, Resumed};
 use refusal::Refusal;
 use runs::{Call, fresh, go_on};
 use search_state::{is_state, too_many};
@@ -20,20 +19,20 @@ mod runs; // runs.rt: the run over slices that fit
 
 // The search from a fresh start within a budget. Its answer and all that it leaves are those of the definition `outcome`; what "found" leaves
 // is, with 3 taken as 0, the first satisfying assignment in variable order (`FoundFirst`).
-pub fn search(list: &[i32], v: u32, values: &mut [u8], trail: &mut [i32], budget: u64) -> Search
+pub fn search(list: &[i32], v: u32, values: &mut [u8], trail: &mut [i32], budget: u64) -> Result<Ended, Refusal>
     ensures result_value { answer_of result ≡ (outcome list.now v values.old trail.old budget).answer }
     ensures values_after { values.new ≡ (outcome list.now v values.old trail.old budget).values }
     ensures trail_after { trail.new ≡ (outcome list.now v values.old trail.old budget).trail }
 {
     if !clause_list::is_list(list, v) {
-        return Search::Refused(Refusal::List);
+        return Err(Refusal::List);
     }
     let n = v as usize;
     if values.len() < n {
-        return Search::Refused(Refusal::Short);
+        return Err(Refusal::Short);
     }
     if trail.len() < n {
-        return Search::Refused(Refusal::Short);
+        return Err(Refusal::Short);
     }
     let vs = &mut values[..n];
     let ts = &mut trail[..n];
@@ -42,9 +41,9 @@ pub fn search(list: &[i32], v: u32, values: &mut [u8], trail: &mut [i32], budget
 
 // A refusal of a call that takes up a state: the position stays.
 fn refused(refusal: Refusal, position: Position) -> Resumed
-    ensures { (result.answer ≡ Refused refusal) × (result.position ≡ position) }
+    ensures { (result.answer ≡ Err refusal) × (result.position ≡ position) }
 {
-    let answer = Search::Refused(refusal);
+    let answer = Err(refusal);
     Resumed { answer, position }
 }
 
@@ -121,7 +120,7 @@ pub fn resume(
     trail: &mut [i32],
     position: &mut Position,
     budget: u64,
-) -> Search
+) -> Result<Ended, Refusal>
     ensures { left (answer_of result) values.new trail.new position.new
         ≡ resumption list.now v values.old trail.old position.old budget }
 {
@@ -140,7 +139,7 @@ pub fn next(
     trail: &mut [i32],
     position: &mut Position,
     budget: u64,
-) -> Search
+) -> Result<Ended, Refusal>
     ensures { left (answer_of result) values.new trail.new position.new
         ≡ following list.now v values.old trail.old position.old budget }
 {

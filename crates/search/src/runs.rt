@@ -5,13 +5,15 @@ ghost use Rattle.search_rules.specs.Rules.{State};
 ghost use Rattle.search_rules.specs.Run.{total};
 ghost use Rattle.search_rules.specs.Held.{steps_of, step_limit, Stored};
 ghost use Rattle.search_rules.specs.Inner.{Fine};
-ghost use Rattle.search_core.specs.Inner.{SomeStored, Ended};
+ghost use Rattle.search_core.specs.Inner.{SomeStored};
+ghost use Rattle.search_core.specs.Inner as inner;
 ghost use Rattle.search.specs.Answers.{answer_of, answer_at, values_at, trail_at, search_run};
 ghost use Rattle.search.specs.Inner.{run_of, Finished};
 
-use super::answer::{Position, Resumed, Search, Steps};
+use super::answer::{Ended, Position, Resumed, Steps};
 use super::fills::{clear_all, open_all};
-use search_core::run::{End, Ran, run, run_next};
+use refusal::Refusal;
+use search_core::run::{Ran, run, run_next};
 
 // How a state is taken up: by a resumed call, or by a call for the next.
 #[derive(Clone, Copy)]
@@ -34,7 +36,7 @@ fn run_as(
     requires some_stored { SomeStored (length values.old) values.old trail.old position.length }
     requires budget_bound { total (steps_of position) + budget ≤ step_limit }
     ensures { (state : State) → Stored (length values.old) state values.old trail.old position.length
-        → Ended (length values.old)
+        → inner.Ended (length values.old)
         (run_of call list.now (length values.old) (steps_of position) state budget)
         result values.new trail.new }
 {
@@ -69,25 +71,15 @@ pub(crate) fn go_on(
         decisions: position.decisions,
         backtracks: position.backtracks,
     };
-    let end = ran.end;
-    match end {
-        End::None => {
-            let answer = Search::None(steps);
-            Resumed { answer, position }
-        }
-        End::Found => {
-            let answer = Search::Found(steps);
-            Resumed { answer, position }
-        }
-        End::Spent => {
-            let answer = Search::Spent(steps);
-            Resumed { answer, position }
-        }
-    }
+    let answer = Ok(Ended {
+        end: ran.end,
+        steps,
+    });
+    Resumed { answer, position }
 }
 
 // The run from a fresh start.
-pub(crate) fn fresh(list: &[i32], values: &mut [u8], trail: &mut [i32], budget: u64) -> Search
+pub(crate) fn fresh(list: &[i32], values: &mut [u8], trail: &mut [i32], budget: u64) -> Result<Ended, Refusal>
     requires fine { Fine (length values.old) list.now }
     requires values_len_bound { length values.old ≤ last_variable }
     requires trail_len { length trail.old ≡ length values.old }

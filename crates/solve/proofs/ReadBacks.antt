@@ -14,12 +14,7 @@ use Rattle.prelude.specs.Tests.{all}
 use Rattle.prelude.proofs.Laws.{and_both, and-not-left, and-not-right}
 use Rattle.sheet_rules.specs.Blocks.{sheet_of}
 use Rattle.sheet_rules.specs.Reading as sheets
-use Rattle.refusal.specs.declared.Refusal.{Refusal}
-use Rattle.refusal.specs.Refusals.{number_of}
 use Rattle.relational.specs.Cells.{cell_count}
-use Rattle.clauses.specs.declared.answer.Size.{Size}
-use Rattle.clauses.specs.declared.answer.Count.{Count}
-use Rattle.clauses.specs.declared.answer.Count.TheVariants.{Fits, Refused}
 use Rattle.clauses.specs.Answers as count
 use Rattle.clauses.specs.Answers.{count_after, count_answer}
 use Rattle.clauses.proofs.Answered.{count_fits}
@@ -97,15 +92,6 @@ module _ (v cells : ℕ) (values instance : List ℕ) where
   pub copies : length values ≡ v → bits ≡ true → cells ≤ length instance → Gives (copied cells) (read ++ drop cells instance)
   copies e h l =
       gives (copied cells) (by_tests true true (and_both _ bits (eq-eqb (length values) v e) h) (le-leb cells (length instance) l))
-
--- what counting answered, by the case that its answer is
-pub count-refused : (s : List ℕ) (r : Count) (x : Refusal) → count.answer_of r ≡ count_answer s → r ≡ Refused x
-    → count_answer s ≡ count.refused (number_of x)
-count-refused s r x e f = sym e ∙ ap count.answer_of f
-
-pub count-sized : (s : List ℕ) (r : Count) (z : Size) → count.answer_of r ≡ count_answer s → r ≡ Fits z
-    → count_answer s ≡ count.fits z.variables z.clauses z.words
-count-sized s r z e f = sym e ∙ ap count.answer_of f
 
 -- from counting to read-back
 module _ (s values instance : List ℕ) where

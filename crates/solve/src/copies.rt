@@ -5,7 +5,6 @@ ghost use Rattle.search_rules.specs.Rules.{settle};
 ghost use Rattle.solve.specs.Answers.{answer_of};
 ghost use Rattle.solve.specs.Private.{cells_answer, cells_left};
 
-use super::answer::ReadBack;
 use refusal::Refusal;
 
 // The bit that a value gives: 3, false by decision, is taken as 0.
@@ -43,21 +42,21 @@ pub(crate) fn copy_cells(cells: usize, values: &[u8], instance: &mut [u8])
 }
 
 // Numbers 11 and 13 over values of v variables, and the copy.
-pub(crate) fn read_cells(v: usize, cells: usize, values: &[u8], instance: &mut [u8]) -> ReadBack
+pub(crate) fn read_cells(v: usize, cells: usize, values: &[u8], instance: &mut [u8]) -> Result<usize, Refusal>
     requires { suc cells ≤ v }
     ensures result_value { answer_of result ≡ cells_answer v cells values.now (length instance.old) }
     ensures instance_after { instance.new ≡ cells_left v cells values.now instance.old }
 {
     if values.len() != v {
-        return ReadBack::Refused(Refusal::Cells);
+        return Err(Refusal::Cells);
     }
     let end = cells + 1;
     if !give_bits(&values[1..end]) {
-        return ReadBack::Refused(Refusal::Cells);
+        return Err(Refusal::Cells);
     }
     if instance.len() < cells {
-        return ReadBack::Refused(Refusal::Short);
+        return Err(Refusal::Short);
     }
     copy_cells(cells, values, instance);
-    ReadBack::Copied(cells)
+    Ok(cells)
 }

@@ -12,46 +12,26 @@ ghost use Rattle.solve_rules.specs.Finds.{Finds};
 ghost use Rattle.solve.specs.Answers.{answer_of};
 ghost use Rattle.solve.specs.Private.{Fitting, Left};
 
-use answer::ReadBack;
 use cells::cell_count;
-use clauses::answer::{Count, Size};
+use clauses::answer::Size;
 use clauses::{count, write};
 use copies::{copy_cells, read_cells};
 use refusal::Refusal;
-use search::answer::Search;
+use search::answer::{End, Ended};
 use search::search;
-use sheet::answer::Reading;
 use sheet::read;
 
-pub mod answer; // answer.rt: what read-back answers
 mod copies; // copies.rt: the cells' values, tested and copied
 
-// Read-back over values of an accepted sheet with so many cells.
-fn read_accepted(sheet: &[u8], cells: usize, values: &[u8], instance: &mut [u8]) -> ReadBack
-    requires { cells ≡ cell_count (sheet_of sheet.now) }
-    ensures result_value { answer_of result ≡ read_back_answer sheet.now values.now instance.old }
-    ensures instance_after { instance.new ≡ instance_after sheet.now values.now instance.old }
-{
-    let counted = count(sheet);
-    match counted {
-        Count::Refused(r) => ReadBack::Refused(r),
-        Count::Fits(size) => read_cells(size.variables, cells, values, instance),
-    }
-}
-
 // Copies the cells' values to the front of the instance. Its answer and what it leaves are those of the definitions.
-pub fn read_back(sheet: &[u8], values: &[u8], instance: &mut [u8]) -> ReadBack
+pub fn read_back(sheet: &[u8], values: &[u8], instance: &mut [u8]) -> Result<usize, Refusal>
     ensures result_value { answer_of result ≡ read_back_answer sheet.now values.now instance.old }
     ensures instance_after { instance.new ≡ instance_after sheet.now values.now instance.old }
 {
-    let reading = read(sheet);
-    match reading {
-        Reading::Refused(r) => ReadBack::Refused(r),
-        Reading::Accepted(layout) => {
-            let cells = cell_count(sheet, layout);
-            read_accepted(sheet, cells, values, instance)
-        }
-    }
+    let layout = read(sheet)?;
+    let cells = cell_count(sheet, layout);
+    let size = count(sheet)?;
+    read_cells(size.variables, cells, values, instance)
 }
 
 // Writing, search and read-back, where the sheet fits the limits and the slices fit.
@@ -64,7 +44,7 @@ fn find_in(
     trail: &mut [i32],
     instance: &mut [u8],
     budget: u64,
-) -> Search
+) -> Result<Ended, Refusal>
     requires { Fitting sheet.now size cells (slices list.old values.old trail.old instance.old) }
     ensures { Left sheet.now
         (slices list.old values.old trail.old instance.old) budget
@@ -72,13 +52,13 @@ fn find_in(
 {
     let v = size.variables;
     let w = size.words;
-    write(sheet, list);
-    let ended = search(&list[..w], v as u32, values, trail, budget);
-    if let Search::Found(_) = ended {
+    write(sheet, list)?;
+    let ended = search(&list[..w], v as u32, values, trail, budget)?;
+    if let End::Found = ended.end {
         copy_cells(cells, &values[..v], instance);
-        return ended;
+        return Ok(ended);
     }
-    ended
+    Ok(ended)
 }
 
 // The word limit of 12, and 13 over every slice before any is written to.
@@ -91,7 +71,7 @@ fn find_sized(
     trail: &mut [i32],
     instance: &mut [u8],
     budget: u64,
-) -> Search
+) -> Result<Ended, Refusal>
     requires sheet_value { count_answer sheet.now ≡ fits size.variables size.clauses size.words }
     requires cells_value { cells ≡ cell_count (sheet_of sheet.now) }
     ensures { Left sheet.now
@@ -101,43 +81,21 @@ fn find_sized(
     let words = size.words;
     let variables = size.variables;
     if words > 2147483647 {
-        return Search::Refused(Refusal::List);
+        return Err(Refusal::List);
     }
     if list.len() < words {
-        return Search::Refused(Refusal::Short);
+        return Err(Refusal::Short);
     }
     if values.len() < variables {
-        return Search::Refused(Refusal::Short);
+        return Err(Refusal::Short);
     }
     if trail.len() < variables {
-        return Search::Refused(Refusal::Short);
+        return Err(Refusal::Short);
     }
     if instance.len() < cells {
-        return Search::Refused(Refusal::Short);
+        return Err(Refusal::Short);
     }
     find_in(sheet, size, cells, list, values, trail, instance, budget)
-}
-
-// Counting, and what follows for an accepted sheet with so many cells.
-fn find_accepted(
-    sheet: &[u8],
-    cells: usize,
-    list: &mut [i32],
-    values: &mut [u8],
-    trail: &mut [i32],
-    instance: &mut [u8],
-    budget: u64,
-) -> Search
-    requires { cells ≡ cell_count (sheet_of sheet.now) }
-    ensures { Left sheet.now
-        (slices list.old values.old trail.old instance.old) budget
-        (searched.answer_of result) (slices list.new values.new trail.new instance.new) }
-{
-    let counted = count(sheet);
-    match counted {
-        Count::Refused(r) => Search::Refused(r),
-        Count::Fits(size) => find_sized(sheet, size, cells, list, values, trail, instance, budget),
-    }
 }
 
 // From a sheet to an answer: the smallest instance in the lent slice, or that there is none, or that the budget is spent. The answer and what
@@ -150,7 +108,7 @@ pub fn find(
     trail: &mut [i32],
     instance: &mut [u8],
     budget: u64,
-) -> Search
+) -> Result<Ended, Refusal>
     ensures result_value { searched.answer_of result
         ≡ (finding sheet.now
         (slices list.old values.old trail.old instance.old) budget).answer }
@@ -161,12 +119,8 @@ pub fn find(
         (slices list.old values.old trail.old instance.old) budget
         (searched.answer_of result) (slices list.new values.new trail.new instance.new) }
 {
-    let reading = read(sheet);
-    match reading {
-        Reading::Refused(r) => Search::Refused(r),
-        Reading::Accepted(layout) => {
-            let cells = cell_count(sheet, layout);
-            find_accepted(sheet, cells, list, values, trail, instance, budget)
-        }
-    }
+    let layout = read(sheet)?;
+    let cells = cell_count(sheet, layout);
+    let size = count(sheet)?;
+    find_sized(sheet, size, cells, list, values, trail, instance, budget)
 }
