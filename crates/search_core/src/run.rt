@@ -40,20 +40,17 @@ fn advance(p: Position, kind: StepKind, length: usize) -> Position
         StepKind::Propagation => Position {
             length,
             propagations: p.propagations + 1,
-            decisions: p.decisions,
-            backtracks: p.backtracks,
+            ..p
         },
         StepKind::Decision => Position {
             length,
-            propagations: p.propagations,
             decisions: p.decisions + 1,
-            backtracks: p.backtracks,
+            ..p
         },
         StepKind::Backtrack => Position {
             length,
-            propagations: p.propagations,
-            decisions: p.decisions,
             backtracks: p.backtracks + 1,
+            ..p
         },
     }
 }
@@ -62,14 +59,7 @@ fn advance(p: Position, kind: StepKind, length: usize) -> Position
 fn any_decision(values: &[u8]) -> bool
     ensures { result ≡ any (λ b. eqb b 3) values.now }
 {
-    let mut i = 0;
-    while i < values.len() {
-        if values[i] == 3 {
-            return true;
-        }
-        i += 1;
-    }
-    false
+    values.contains(&3)
 }
 
 // Whether the rules end here; Spent where they do not.
@@ -316,10 +306,5 @@ pub fn run_next(
 fn emptied(p: Position) -> Position
     ensures { result ≡ position_of 0 (steps_of p) }
 {
-    Position {
-        length: 0,
-        propagations: p.propagations,
-        decisions: p.decisions,
-        backtracks: p.backtracks,
-    }
+    Position { length: 0, ..p }
 }
