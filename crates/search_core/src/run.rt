@@ -90,6 +90,37 @@ fn ends(list: &[i32], values: &[u8]) -> End
     }
 }
 
+// The end of a run with no step left, from the state that the slices and the position hold.
+fn stop(
+    list: &[i32],
+    values: &mut [u8],
+    trail: &mut [i32],
+    position: Position,
+    chains: &[u16],
+    weights: &mut [u16],
+) -> Ran
+    requires fine { Fine (length values.old) list.now }
+    requires values_len_bound { length values.old ≤ last_variable }
+    requires some_stored { SomeStored (length values.old) values.old trail.old position.length }
+    requires watched { Watched (clauses_of list.now) values.old chains.now weights.old }
+    ensures { (state : State) → Stored (length values.old) state values.old trail.old position.length
+        → Ended (length values.old)
+        (run (clauses_of list.now) (length values.old) 0 (steps_of position) state)
+        result values.new trail.new }
+{
+    let end = ends(list, values);
+    match end {
+        End::None => {
+            let used = position.length;
+            back(list, values, trail, used, chains, weights);
+            let position = emptied(position);
+            Ran { end, position }
+        }
+        End::Found => Ran { end, position },
+        End::Spent => Ran { end, position },
+    }
+}
+
 // The run from the state that the slices and the position hold, with the index that is lent.
 fn go(
     list: &[i32],
@@ -113,9 +144,7 @@ fn go(
     let mut position = start;
     let mut left = budget;
     while left > 0 {
-        let used = position.length;
-        let moved = step(list, values, trail, used, chains, weights);
-        match moved {
+        match step(list, values, trail, position.length, chains, weights) {
             Moved::NoneLeft => {
                 let end = End::None;
                 let position = emptied(position);
@@ -125,23 +154,11 @@ fn go(
                 let end = End::Found;
                 return Ran { end, position };
             }
-            Moved::To(kind, n) => {
-                position = advance(position, kind, n);
-            }
+            Moved::To(kind, n) => position = advance(position, kind, n),
         }
         left -= 1;
     }
-    let end = ends(list, values);
-    match end {
-        End::None => {
-            let used = position.length;
-            back(list, values, trail, used, chains, weights);
-            let position = emptied(position);
-            Ran { end, position }
-        }
-        End::Found => Ran { end, position },
-        End::Spent => Ran { end, position },
-    }
+    stop(list, values, trail, position, chains, weights)
 }
 
 // The run where each step scans the list.

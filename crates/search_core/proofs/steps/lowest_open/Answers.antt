@@ -8,5 +8,5 @@ pub returns : goal.returns
 returns c =
     let values = c.args.values.now in
     let first = position_from_yields_List (λ x. eqb x 2) c.position.new.self _ c.position.result c.position.ensures.ran
-      (YieldsList-from_slice values cc) (λ x b q k. search (rules, tests)) in
+    (YieldsList-from_slice values cc) (λ x b q k. search (rules, tests)) in
     c.unwrap_or.ensures ∙ ap (λ o. unwrap_or o (length values)) first ∙ low-position values
