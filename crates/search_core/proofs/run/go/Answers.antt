@@ -1,4 +1,4 @@
-use mathlib.Core.Path.{refl, ◌∙◌}
+use mathlib.Core.Path.{◌≡◌, refl, ◌∙◌, ap}
 use Prim.Native.Nat.{◌<◌}
 use native.Mathlib.Omega.{arith}
 use Rattle.search_core.proofs.RunCode.{figure-on, far_none, far-found, far-on, far-emptied, far-full, far-spent}
@@ -16,8 +16,8 @@ At-In-loop =
 some_left : (c : At-In-loop) → 0 < c.loop-left.left
 some_left c = omega (arith, c.loop-left-test.true)
 
-pub step-moved-requires : goal.step-moved-requires
-step-moved-requires c =
+pub step-requires : goal.step-requires
+step-requires c =
     let l = c.loop-left.invariant in
     let f = l.0.far c.requires.some_stored.state c.requires.some_stored.stored in record {
       fine = rw l.0.wide c.requires.fine;
@@ -50,19 +50,19 @@ loop-left-preserved c =
     let t = some_left c.before.before.before.before.before.before.before.before.before.before.before.before in (
       record {
         figure = figure-on loop.position _ c.in-To.kind _ _ _ c.advance-position.ensures t l.figure;
-        wide = c.step-moved.auto.values ∙ l.wide;
-        deep = c.step-moved.auto.trail ∙ l.deep;
+        wide = c.step.auto.values ∙ l.wide;
+        deep = c.step.auto.trail ∙ l.deep;
         far = λ state i.
             let f = l.far state i in
             let s = (rw l.wide at c.in-To.ensures.stepped) f.at f.stored in
             far-on _ _ _ _ _ _ _ _ _ f _ _ _ _ _ t c.advance-position.ensures _ refl s;
       },
-      c.step-moved.ensures.watched_2,
-      c.step-moved.auto.weights ∙ loop.invariant.2,
+      c.step.ensures.watched_2,
+      c.step.auto.weights ∙ loop.invariant.2,
     )
 
-pub back-requires : goal.back-requires
-back-requires c =
+pub stop-requires : goal.stop-requires
+stop-requires c =
     let l = c.loop-left.invariant in
     let f = l.0.far c.requires.some_stored.state c.requires.some_stored.stored in record {
       fine = rw l.0.wide c.requires.fine;
@@ -71,24 +71,9 @@ back-requires c =
       watched = l.1;
     }
 
-pub returns-in-None : goal.returns-in-None
-returns-in-None c state i =
+pub returns : goal.returns
+returns c state i =
     let l = c.loop-left.invariant.0 in
     let f = l.far state i in
-    let e = (rw l.wide at c.in-None.ensures) f.at f.stored.was_open f.stored.values_are in
-    let b = (rw l.wide at c.back.ensures.turned) f.at f.stored in
-    rw c.in-None.is (far-emptied _ _ _ _ _ _ _ _ _ f _ _ _ _ _ refl e c.emptied-position-in-None.ensures b)
-
-pub returns-in-Found : goal.returns-in-Found
-returns-in-Found c state i =
-    let l = c.loop-left.invariant.0 in
-    let f = l.far state i in
-    let e = (rw l.wide at c.in-Found.ensures) f.at f.stored.was_open f.stored.values_are in
-    rw c.in-Found.is (far-full _ _ _ _ _ _ _ _ _ f _ refl e)
-
-pub returns-in-Spent : goal.returns-in-Spent
-returns-in-Spent c state i =
-    let l = c.loop-left.invariant.0 in
-    let f = l.far state i in
-    let e = (rw l.wide at c.in-Spent.ensures) f.at f.stored.was_open f.stored.values_are in
-    rw c.in-Spent.is (far-spent _ _ _ _ _ _ _ _ _ f _ c.loop-left-test.false refl e)
+    let none : c.loop-left.left ≡ 0 = omega (arith, c.loop-left-test.false) in
+    rw (← f.alike, none) ((rw l.wide at c.stop.ensures) f.at f.stored)
