@@ -1,10 +1,10 @@
-// The operators, by kind (document 01, "Clauses", the last list). What an operand left on the tape is where the operator
-// starts.
+// The operators, by kind (document 01, "Clauses", the last list). What an operand left on the tape is where the
+// operator starts.
 ghost use Rattle.std.specs.Prelude.{◌≡◌};
 ghost use Rattle.literal.specs.Words.{literal_of};
 ghost use Rattle.relational.specs.Trees.{Binary, Unary, Comparison, Test, Connective, Quantifier};
-ghost use Rattle.relational.specs.Trees.{binary-symbol, unary-symbol, comparison-symbol, test-symbol, connective-symbol};
-ghost use Rattle.relational.specs.Trees.{quantifier-symbol, symbol_of, intersection, for_some};
+ghost use Rattle.relational.specs.Trees.{binary-symbol, unary-symbol, comparison-symbol, test-symbol};
+ghost use Rattle.relational.specs.Trees.{connective-symbol, quantifier-symbol, symbol_of, intersection, for_some};
 ghost use Rattle.relational.specs.Meaning.{Environment};
 ghost use Rattle.sheet_rules.specs.Blocks.{sheet_of};
 ghost use Rattle.clauses_rules.specs.Translation.{translate_binary, translate_unary, translate_comparison};
