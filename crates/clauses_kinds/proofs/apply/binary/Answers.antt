@@ -1,4 +1,5 @@
 -- `binary` meets its contract, kind by kind.
+use native.Mathlib.Omega.{arith}
 use Rattle.nodes.proofs.Numbers.{at-union, at-intersection, at-difference, at_join, at-product}
 use Rattle.clauses_kinds.proofs.apply.binary.Goals as goal
 
@@ -16,5 +17,4 @@ returns-in-8 c o s = rw (at_join _ c.in-8.is o s) c.join.ensures
 
 pub returns-in_default : goal.returns-in_default
 returns-in_default c o s =
-    let m = c.in_default.in_default-own in
-    rw (at-product _ m.rest.0.0.0.1 m.rest.0.0.1 m.rest.0.1 m.rest.1 o s) c.product.ensures
+    rw (at-product _ (λ z. omega (arith, z)) (λ z. omega (arith, z)) (λ z. omega (arith, z)) (λ z. omega (arith, z)) o s) c.product.ensures

@@ -1,6 +1,7 @@
 -- `connect` meets its contract, kind by kind.
 use mir.Syntax.{w32}
 use mir.Val.{SFits}
+use native.Mathlib.Omega.{arith}
 use Rattle.literal.proofs.Signs.{back}
 use Rattle.nodes.proofs.Numbers.{at-conjunction, at-disjunction, at-implication, at-equivalence}
 use borrow.Author.Rules.{rules}
@@ -35,9 +36,8 @@ returns-in-33 c o s =
 
 pub returns-in_default : goal.returns-in_default
 returns-in_default c o s =
-    let m = c.in_default.in_default-own in
     let a = c.args in
     let f : SFits w32 a.p.literal = search rules in
     let g : SFits w32 a.q.literal = search rules in
-    rw (at-equivalence _ m.rest.0.0.1 m.rest.0.1 m.rest.1 o s)
+    rw (at-equivalence _ (λ z. omega (arith, z)) (λ z. omega (arith, z)) (λ z. omega (arith, z)) o s)
     (rw (back a.p.literal f, back a.q.literal g) at c.pair-in_default.ensures)

@@ -1,4 +1,5 @@
 -- `test` meets its contract, kind by kind.
+use native.Mathlib.Omega.{arith}
 use Rattle.nodes.proofs.Numbers.{at_some, at_none, at-lone}
 use Rattle.clauses_kinds.proofs.apply.test.Goals as goal
 
@@ -10,5 +11,4 @@ returns-in-23 c o s = rw (at_none _ c.in-23.is o s) c.none.ensures
 
 pub returns-in_default : goal.returns-in_default
 returns-in_default c o s =
-    let m = c.in_default.in_default-own in
-    rw (at-lone _ m.rest.0.1 m.rest.1 o s) c.lone.ensures
+    rw (at-lone _ (λ z. omega (arith, z)) (λ z. omega (arith, z)) o s) c.lone.ensures

@@ -32,7 +32,6 @@ returns-in-3 c l s =
 
 pub returns-in_default : goal.returns-in_default
 returns-in_default c l s =
-    let m = c.in_default.in_default-own in
     let a = c.args in
-    rw (at-identity _ m.rest.0.0.1 m.rest.0.1 m.rest.1 l s)
+    rw (at-identity _ (λ z. omega (arith, z)) (λ z. omega (arith, z)) (λ z. omega (arith, z)) l s)
     (identity-leaf (c.atoms-in_default.ensures (environment a.env)) c.identity.ensures)
