@@ -142,8 +142,7 @@ fn go(
         result values.new trail.new }
 {
     let mut position = start;
-    let mut left = budget;
-    while left > 0 {
+    for _ in 0..budget {
         match step(list, values, trail, position.length, chains, weights) {
             Moved::NoneLeft => {
                 let end = End::None;
@@ -156,7 +155,6 @@ fn go(
             }
             Moved::To(kind, n) => position = advance(position, kind, n),
         }
-        left -= 1;
     }
     stop(list, values, trail, position, chains, weights)
 }
