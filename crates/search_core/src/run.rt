@@ -249,13 +249,11 @@ pub fn run(list: &[i32], values: &mut [u8], trail: &mut [i32], start: Position, 
         return run_indexed(list, values, trail, start, budget);
     }
     let ran = run_scanned(list, values, trail, start, few);
-    let end = ran.end;
     let position = ran.position;
-    match end {
-        End::None => ran,
-        End::Found => ran,
-        End::Spent => run_indexed(list, values, trail, position, budget - few),
+    if let End::Spent = ran.end {
+        return run_indexed(list, values, trail, position, budget - few);
     }
+    ran
 }
 
 // A call for the next on a full assignment, which is a clash: the latest decision is turned, and the run goes on; without one it ends.

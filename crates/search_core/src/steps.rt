@@ -94,11 +94,7 @@ fn propagate(values: &mut [u8], trail: &mut [i32], used: usize, l: i32)
     ensures trail_after { trail.new ≡ set trail.old used l }
 {
     let at = literal::place(l);
-    let mut b: u8 = 0;
-    if literal::is_positive(l) {
-        b = 1;
-    }
-    values[at] = b;
+    values[at] = u8::from(literal::is_positive(l));
     trail[used] = l;
 }
 
