@@ -16,7 +16,7 @@ use Rattle.clauses_rules.specs.Whole.{series}
 use Rattle.report.specs.Printed.{cell_digit, row_digits, relation_line, member_digits, member_line}
 use Rattle.report.specs.Private.{row_from, line_from}
 
-series-more : (n : ℕ) (f : ℕ → List ℕ) → series n f ++ f n ≡ series (n + 1) f
+pub series-more : (n : ℕ) (f : ℕ → List ℕ) → series n f ++ f n ≡ series (n + 1) f
 unfolding series
 series-more n f = ap (λ (k : ℕ). series k f) (sym (add-one n))
 
