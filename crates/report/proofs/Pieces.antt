@@ -11,12 +11,12 @@ use Rattle.text.specs.Texts.{bytes_of, decimal}
 use Rattle.text.proofs.Decimals.{decimal-short}
 use Rattle.text.proofs.Puts.{put-nothing, put_both, put_as}
 use Rattle.sheet_rules.specs.Blocks.{Sheet, byte, scope, is_bounded}
-use Rattle.relational.specs.Cells.{first_member, member_cell, member_count, row_count, row_length, cells_of, first_cell, cell}
+use Rattle.relational.specs.Cells.{first_member, member_cell, row_count, row_length, first_cell, cell}
 use Rattle.clauses_rules.specs.Whole.{series}
 use Rattle.report.specs.Printed.{cell_digit, row_digits, relation_line, member_digits, member_line}
 use Rattle.report.specs.Private.{row_from, line_from}
 
-series-more : (n : ℕ) (f : ℕ → List ℕ) → series n f ++ f n ≡ series (n + 1) f
+pub series-more : (n : ℕ) (f : ℕ → List ℕ) → series n f ++ f n ≡ series (n + 1) f
 unfolding series
 series-more n f = ap (λ (k : ℕ). series k f) (sym (add-one n))
 

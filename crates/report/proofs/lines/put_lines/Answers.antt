@@ -1,6 +1,6 @@
 -- The lines of the sorts, then those of the relations.
 use native.Mathlib.Omega.{arith}
-use Rattle.text.proofs.Puts.{put_both, put-length}
+use Rattle.text.proofs.Puts.{put_both}
 use Rattle.report.proofs.lines.put_lines.Goals as goal
 
 pub returns : goal.returns

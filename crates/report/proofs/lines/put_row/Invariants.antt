@@ -1,6 +1,6 @@
 -- The loop puts the digits of the cells before j after the space.
-use mathlib.Core.List.{List, [], ◌∷◌}
-use Prim.Native.Nat.{ℕ, ◌+◌}
+use mathlib.Core.List.{[], ◌∷◌}
+use Prim.Native.Nat.{◌+◌}
 use Rattle.text.specs.Puts.{Put}
 use Rattle.sheet_rules.specs.Blocks.{byte}
 use Rattle.clauses_rules.specs.Whole.{series}
