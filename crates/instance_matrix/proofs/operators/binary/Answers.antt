@@ -1,5 +1,5 @@
 -- Kind by kind as the definition.
-use Rattle.std.proofs.Common.{rules}
+use Rattle.std.proofs.Common.{rules, arith}
 use Rattle.relational.specs.Evaluation.{either, both, without}
 use Rattle.nodes.proofs.Numbers.{at-union, at-intersection, at-difference, at_join, at-product}
 use Rattle.instance_matrix.proofs.operators.binary.Goals as goal
@@ -18,5 +18,4 @@ returns-in-8 c o s = rw (at_join _ c.in-8.is o s) c.join.ensures
 
 pub returns-in_default : goal.returns-in_default
 returns-in_default c o s =
-    let m = c.in_default.in_default-own.rest in
-    rw (at-product _ m.0.0.0.1 m.0.0.1 m.0.1 m.1 o s) c.product.ensures
+    rw (at-product c.args.kind (omega arith) (omega arith) (omega arith) (omega arith) o s) c.product.ensures

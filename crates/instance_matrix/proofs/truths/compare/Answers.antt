@@ -1,5 +1,5 @@
 -- Kind by kind as the definition.
-use Rattle.std.proofs.Common.{◌≡◌, ◌∙◌, rules}
+use Rattle.std.proofs.Common.{◌≡◌, ◌∙◌, rules, arith}
 use mathlib.Core.Bool.{beq}
 use Rattle.relational.specs.Evaluation.{same, implies}
 use Rattle.instance_matrix.proofs.Counting.{same-is}
@@ -11,4 +11,4 @@ returns-in-20 c o s = rw (at-equal _ c.in-20.is o s) (c.all_matched.ensures same
 
 pub returns-in_default : goal.returns-in_default
 returns-in_default c o s =
-    rw (at-within _ c.in_default.in_default-own.rest.1 o s) (c.all_matched-in_default.ensures implies (λ a b r h. search rules))
+    rw (at-within c.args.kind (omega arith) o s) (c.all_matched-in_default.ensures implies (λ a b r h. search rules))

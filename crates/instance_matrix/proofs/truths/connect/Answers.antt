@@ -1,5 +1,5 @@
 -- Kind by kind as the definition.
-use Rattle.std.proofs.Common.{refl}
+use Rattle.std.proofs.Common.{refl, arith}
 use Rattle.nodes.proofs.Numbers.{at-conjunction, at-disjunction, at-implication, at-equivalence}
 use Rattle.instance_matrix.proofs.Counting.{same-is}
 use Rattle.instance_matrix.proofs.truths.connect.Goals as goal
@@ -24,5 +24,4 @@ returns-else-not-a c o s = rw (at-implication _ c.in-33.is o s, c.if-not-a.false
 
 pub returns-in_default : goal.returns-in_default
 returns-in_default c o s =
-    let m = c.in_default.in_default-own.rest in
-    rw (at-equivalence _ m.0.0.1 m.0.1 m.1 o s) (same-is _ _)
+    rw (at-equivalence c.args.kind (omega arith) (omega arith) (omega arith) o s) (same-is _ _)
