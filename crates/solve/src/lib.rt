@@ -27,7 +27,8 @@ pub fn read_back(sheet: &[u8], values: &[u8], instance: &mut [u8]) -> Result<usi
     ensures result_value { answer_of result ≡ read_back_answer sheet.now values.now instance.old }
     ensures instance_after { instance.new ≡ instance_after sheet.now values.now instance.old }
 {
-    let cells = Sheet::read(sheet)?.cells().count;
+    let accepted = Sheet::read(sheet)?;
+    let cells = accepted.cells().count;
     let size = count(sheet)?;
     read_cells(size.variables, cells, values, instance)
 }
@@ -117,7 +118,8 @@ pub fn find(
         (slices list.old values.old trail.old instance.old) budget
         (searched.answer_of result) (slices list.new values.new trail.new instance.new) }
 {
-    let cells = Sheet::read(sheet)?.cells().count;
+    let accepted = Sheet::read(sheet)?;
+    let cells = accepted.cells().count;
     let size = count(sheet)?;
     find_sized(sheet, size, cells, list, values, trail, instance, budget)
 }

@@ -6,9 +6,9 @@ use Rattle.solve_rules.specs.Finding.{slices, finding}
 use Rattle.solve.proofs.FindLaws.{means}
 use Rattle.solve.proofs.find.Goals as goal
 
-pub returns-in_err-layout : goal.returns-in_err-layout
+pub returns-in_err-accepted : goal.returns-in_err-accepted
 unfolding count_answer finding
-returns-in_err-layout c =
+returns-in_err-accepted c =
     let a = c.args in
     let lent = slices a.list.now a.values.now a.trail.now a.instance.now in
     let e : answer_of c.from_residual.result ≡ (finding a.sheet.now lent a.budget).answer = search rules in
