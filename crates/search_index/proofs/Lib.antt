@@ -5,7 +5,7 @@ mod Spots
 mod Chaining
 mod Entering
 mod Weighing
-pub mod WeightCode
+mod WeightCode
 mod Tallies
 mod Statuses
 mod WeighLoop

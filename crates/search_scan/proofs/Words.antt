@@ -1,6 +1,6 @@
 -- Literals as the machine has them: their place among the values, and what the values say of them.
 use mathlib.Core.Path.{◌≡◌, refl, ◌∙◌, ap}
-use mathlib.Core.Bool.{Bool, true, false, not}
+use mathlib.Core.Bool.{Bool, true, false, beq}
 use mathlib.Core.List.{List, [], ◌∷◌}
 use Prim.Native.Nat.{ℕ, zero, suc, ◌-◌, ◌<◌}
 use native.Mathlib.Omega.{arith}
@@ -60,19 +60,16 @@ unfolding truth_of negated test_of
 says-open true = refl
 says-open false = refl
 
-says-above : (x : ℕ) → (x ≡ 2 → ⊥) → Some (eqb x 1) ≡ test_of (truth_of x)
-unfolding truth_of test_of
-says-above zero h = refl
-says-above (suc zero) h = refl
-says-above (suc (suc zero)) h = absurd (h refl)
-says-above (suc (suc (suc n))) h = rw (ne_eqb (suc (suc (suc n))) 1 (omega arith)) refl
-
-says-below : (x : ℕ) → (x ≡ 2 → ⊥) → Some (not (eqb x 1)) ≡ test_of (negated (truth_of x))
+says-set : (b : Bool) (x : ℕ) → (x ≡ 2 → ⊥) → Some (beq (eqb x 1) b) ≡ test_of (signed b (truth_of x))
 unfolding truth_of negated test_of
-says-below zero h = refl
-says-below (suc zero) h = refl
-says-below (suc (suc zero)) h = absurd (h refl)
-says-below (suc (suc (suc n))) h = rw (ne_eqb (suc (suc (suc n))) 1 (omega arith)) refl
+says-set true zero h = refl
+says-set true (suc zero) h = refl
+says-set true (suc (suc zero)) h = absurd (h refl)
+says-set true (suc (suc (suc n))) h = rw (ne_eqb (suc (suc (suc n))) 1 (omega arith)) refl
+says-set false zero h = refl
+says-set false (suc zero) h = refl
+says-set false (suc (suc zero)) h = absurd (h refl)
+says-set false (suc (suc (suc n))) h = rw (ne_eqb (suc (suc (suc n))) 1 (omega arith)) refl
 
 -- the answers of `truth`: z is the literal as the machine has it, p its place
 module _ (vs : List ℕ) (z l : ℤ) (p : ℕ) (e : z ≡ l) (r : InRange (length vs) l) (d : p ≡ nat_abs z - 1) where
@@ -85,11 +82,8 @@ module _ (vs : List ℕ) (z l : ℤ) (p : ℕ) (e : z ≡ l) (r : InRange (lengt
   pub is_open : get_or vs p 0 ≡ 2 → None ≡ test_of (literal vs l)
   is_open q = rw (says, q) (says-open (is_positive z))
 
-  pub set-above : (get_or vs p 0 ≡ 2 → ⊥) → is_positive z ≡ true → Some (eqb (get_or vs p 0) 1) ≡ test_of (literal vs l)
-  set-above q t = rw (says, t) (says-above (get_or vs p 0) q)
-
-  pub set-below : (get_or vs p 0 ≡ 2 → ⊥) → is_positive z ≡ false → Some (not (eqb (get_or vs p 0) 1)) ≡ test_of (literal vs l)
-  set-below q t = rw (says, t) (says-below (get_or vs p 0) q)
+  pub is_set : (get_or vs p 0 ≡ 2 → ⊥) → Some (beq (eqb (get_or vs p 0) 1) (is_positive z)) ≡ test_of (literal vs l)
+  is_set q = rw says (says-set (is_positive z) (get_or vs p 0) q)
 
 -- the byte of a propagated literal, by its sign
 module _ (v : ℕ) (z l : ℤ) (e : z ≡ l) (r : InRange v l) where

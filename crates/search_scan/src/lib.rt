@@ -29,11 +29,7 @@ fn truth(values: &[u8], l: i32) -> Option<bool>
     if x == 2 {
         return None;
     }
-    if literal::is_positive(l) {
-        Some(x == 1)
-    } else {
-        Some(x != 1)
-    }
+    Some((x == 1) == literal::is_positive(l))
 }
 
 // What one clause shows. It is left at a true literal, and at a second open one that is another.
