@@ -94,15 +94,17 @@ fn told(p: i32, q: i32) -> Option<i32>
     requires inside_2 { Inside 16002 (literal_of q) }
     ensures { Tells p q result }
 {
-    let other = literal::opposite(q);
     if p == -1 {
         Some(q)
     } else if q == -1 || p == q {
         Some(p)
-    } else if p == 1 || q == 1 || p == other {
-        Some(1)
     } else {
-        None
+        let other = literal::opposite(q);
+        if p == 1 || q == 1 || p == other {
+            Some(1)
+        } else {
+            None
+        }
     }
 }
 
