@@ -1,10 +1,12 @@
 // An accepted sheet: its blocks, the scopes and membership cells of its sorts, and its variables.
-ghost use Rattle.std.specs.Prelude.{◌≡◌, ◌+◌, ◌*◌, ◌≤◌, length, take, drop};
+ghost use Rattle.std.specs.Prelude.{◌≡◌, IfOk, IfErr, ◌+◌, ◌*◌, ◌≤◌, length, take, drop};
 ghost use Rattle.sheet_rules.specs.Blocks as spec;
 ghost use Rattle.sheet_rules.specs.Blocks.{sheet_of};
-ghost use Rattle.sheet_rules.specs.Reading.{accepted, reading};
+ghost use Rattle.sheet_rules.specs.Reading.{accepted, reading, refused};
+ghost use Rattle.refusal.specs.Refusals.{number_of};
 ghost use Rattle.relational.specs.Cells.{members_of, first_member};
 
+use refusal::Refusal;
 use sheet::bytes::{byte, scope_at};
 use sheet_rules::{Block, Layout};
 
@@ -25,6 +27,15 @@ fn part(sheet: &[u8], start: usize, size: usize) -> &[u8]
 }
 
 impl<'a> Sheet<'a> {
+    // Reads a sheet, or refuses it as `sheet::read` does.
+    pub fn read(bytes: &'a [u8]) -> Result<Sheet<'a>, Refusal>
+        ensures same_bytes { IfOk result (λ sheet. sheet.bytes.now ≡ bytes.now) }
+        ensures refusal { IfErr result (λ refusal. reading bytes.now ≡ refused (number_of refusal)) }
+    {
+        let layout = sheet::read(bytes)?;
+        Ok(Sheet { bytes, layout })
+    }
+
     pub fn sorts(&self) -> &[u8]
         ensures { result.now ≡ (sheet_of self.now.bytes.now).sorts }
     {

@@ -178,6 +178,7 @@ pub fn same(list: &mut [i32], tape: Tape, p: i32, q: i32) -> Made
 }
 
 // One of these.
+// Kept: with a function in its place, each contract over cells would have to ask for its law, which `pairing` says once.
 pub fn pair(list: &mut [i32], tape: Tape, kind: Pairing, p: i32, q: i32) -> Made
     requires bounded { Bounded tape }
     requires inside { Inside tape.next (literal_of p) }

@@ -10,6 +10,7 @@ pub mod truths; // truths.rt: comparisons, and tests of an expression
 // Literals, cell by cell: the words past the matrix are -1.
 pub type Literals = Matrix<i32>;
 
+// Kept: with `Made` no one generic struct: each is read by the name of what it holds, here, in the contracts and in three crates above.
 #[derive(Clone, Copy)]
 pub struct MadeCells {
     pub cells: [i32; 64],

@@ -4,31 +4,23 @@
 #![tactic(auto)]
 
 ghost use Rattle.std.specs.Prelude.{◌≡◌};
-ghost use Rattle.sheet_rules.specs.Reading.{accepted, reading};
 ghost use Rattle.instance.specs.Answers.{CheckAnswers, answer_of};
 ghost use Rattle.instance.specs.Held.{check_answer};
 
 use cells::{Cells, Sheet, are_bits};
 use instance_evaluation::Instance;
 use refusal::Refusal;
-use sheet::read;
-use sheet_rules::Layout;
 
 // The check over an accepted sheet.
-fn check_accepted(sheet: &[u8], layout: Layout, instance: &[u8]) -> Result<bool, Refusal>
-    requires { reading sheet.now ≡ accepted layout }
-    ensures { answer_of result ≡ check_answer sheet.now instance.now }
+fn check_accepted(sheet: &Sheet, instance: &[u8]) -> Result<bool, Refusal>
+    ensures { answer_of result ≡ check_answer sheet.now.bytes.now instance.now }
 {
-    let accepted = Sheet {
-        bytes: sheet,
-        layout,
-    };
-    let Cells { count, starts } = accepted.cells();
+    let Cells { count, starts } = sheet.cells();
     if instance.len() != count || !are_bits(instance) {
         return Err(Refusal::Cells);
     }
     let given = Instance {
-        sheet: accepted,
+        sheet: *sheet,
         cells: instance,
         starts,
     };
@@ -40,6 +32,6 @@ pub fn check(sheet: &[u8], instance: &[u8]) -> Result<bool, Refusal>
     ensures check_answers { CheckAnswers sheet.now instance.now (answer_of result) }
     ensures result_value { answer_of result ≡ check_answer sheet.now instance.now }
 {
-    let layout = read(sheet)?;
-    check_accepted(sheet, layout, instance)
+    let sheet = Sheet::read(sheet)?;
+    check_accepted(&sheet, instance)
 }

@@ -38,16 +38,9 @@ fn put_found(text: &mut [u8], input: &[u8], steps: Steps, instance: &[u8]) -> us
     ensures upper_bound { result ≤ 2048 }
 {
     let at = put_end(text, b"found ", step_figure(steps));
-    let reading = sheet::read(input);
-    match reading {
+    match Sheet::read(input) {
         Err(_) => at,
-        Ok(layout) => {
-            let sheet = Sheet {
-                bytes: input,
-                layout,
-            };
-            put_lines(text, at, &sheet, instance)
-        }
+        Ok(sheet) => put_lines(text, at, &sheet, instance),
     }
 }
 

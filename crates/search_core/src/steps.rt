@@ -32,14 +32,7 @@ pub enum Moved {
 pub fn lowest_open(values: &[u8]) -> usize
     ensures { result ≡ get_or (lowest_open 0 values.now) (length values.now) }
 {
-    let mut i = 0;
-    while i < values.len() {
-        if values[i] == 2 {
-            return i;
-        }
-        i += 1;
-    }
-    i
+    values.iter().position(|x| *x == 2).unwrap_or(values.len())
 }
 
 // Opens all back to the latest decision, which becomes true. The words of the trail then in use, 0 where there is no decision.
@@ -101,11 +94,7 @@ fn propagate(values: &mut [u8], trail: &mut [i32], used: usize, l: i32)
     ensures trail_after { trail.new ≡ set trail.old used l }
 {
     let at = literal::place(l);
-    let mut b: u8 = 0;
-    if literal::is_positive(l) {
-        b = 1;
-    }
-    values[at] = b;
+    values[at] = u8::from(literal::is_positive(l));
     trail[used] = l;
 }
 

@@ -55,6 +55,7 @@ pub(crate) fn shapes_of(variables: &[u8], relations: &[u8], nodes: &[u8]) -> [Sh
         → sheet.nodes ≡ nodes.now → Fills (λ x. x) Shape.Ill (spec.shapes sheet) result }
 {
     let mut shapes = [Shape::Ill; 200];
+    // Kept: here and below a loop of one line; a filler that takes the step as a closure is no shorter.
     for v in 0..nodes.len() / 3 {
         shapes[v] = node_shape(variables, relations, nodes, &shapes, v);
     }

@@ -19,7 +19,6 @@ use copies::{copy_cells, read_cells};
 use refusal::Refusal;
 use search::answer::{End, Ended};
 use search::search;
-use sheet::read;
 
 mod copies; // copies.rt: the cells' values, tested and copied
 
@@ -28,12 +27,7 @@ pub fn read_back(sheet: &[u8], values: &[u8], instance: &mut [u8]) -> Result<usi
     ensures result_value { answer_of result ≡ read_back_answer sheet.now values.now instance.old }
     ensures instance_after { instance.new ≡ instance_after sheet.now values.now instance.old }
 {
-    let layout = read(sheet)?;
-    let accepted = Sheet {
-        bytes: sheet,
-        layout,
-    };
-    let cells = accepted.cells().count;
+    let cells = Sheet::read(sheet)?.cells().count;
     let size = count(sheet)?;
     read_cells(size.variables, cells, values, instance)
 }
@@ -123,12 +117,7 @@ pub fn find(
         (slices list.old values.old trail.old instance.old) budget
         (searched.answer_of result) (slices list.new values.new trail.new instance.new) }
 {
-    let layout = read(sheet)?;
-    let accepted = Sheet {
-        bytes: sheet,
-        layout,
-    };
-    let cells = accepted.cells().count;
+    let cells = Sheet::read(sheet)?.cells().count;
     let size = count(sheet)?;
     find_sized(sheet, size, cells, list, values, trail, instance, budget)
 }

@@ -1,6 +1,6 @@
 -- Numbers in decimal: the two cases, and how many digits there are.
 use mathlib.Core.Path.{◌≡◌, sym, ap, ◌∙◌}
-use mathlib.Core.Bool.{true, false, cond}
+use mathlib.Core.Bool.{true, false}
 use mathlib.Core.List.{List, [], ◌∷◌, ◌++◌}
 use mathlib.Core.Logic.{⊎_elim}
 use Prim.Native.Nat.{ℕ, zero, suc, ◌+◌, ◌/◌, ◌%◌, ◌^◌, ◌<◌, ◌≤◌}
@@ -47,32 +47,14 @@ decimal-more n h =
 pub length_more : (n : ℕ) → 9 < n → length (decimal n) ≡ length (decimal (n / 10)) + 1
 length_more n h = ap length (decimal-more n h) ∙ length-append (decimal (n / 10)) (digit (n % 10) ∷ [])
 
--- a number's digits before its last
-pub leading : ℕ → List ℕ
-leading n = cond (leb n 9) [] (decimal (n / 10))
-
-pub leading-none : (n : ℕ) → n ≤ 9 → leading n ≡ []
-unfolding leading
-leading-none n h = rw (le-leb n 9 h)
-
-pub leading-some : (n : ℕ) → 9 < n → leading n ≡ decimal (n / 10)
-unfolding leading
-leading-some n h = rw (lt-leb n 9 h)
-
-pub decimal_last : (n : ℕ) → decimal n ≡ leading n ++ (digit (n % 10) ∷ [])
-decimal_last n =
+-- a number has at least one digit, and at most one more than itself
+pub decimal-some : (n : ℕ) → 1 ≤ length (decimal n)
+decimal-some n =
     ⊎_elim
-    (λ e.
-    let h : n ≤ 9 = leb-true n 9 e in
-    let d : n % 10 ≡ n = omega arith in
-    rw (leading-none n h, d) (decimal-one n h))
-    (λ e. let h : 9 < n = leb-false n 9 e in rw (leading-some n h) (decimal-more n h))
+    (λ e. rw (decimal-one n (leb-true n 9 e)) (omega arith))
+    (λ e. omega (arith, length_more n (leb-false n 9 e)))
     (decided (leb n 9))
 
-pub length_last : (n : ℕ) → length (decimal n) ≡ length (leading n) + 1
-length_last n = ap length (decimal_last n) ∙ length-append (leading n) (digit (n % 10) ∷ [])
-
--- a number has at most one digit more than itself
 digits-few : (r n : ℕ) → length (digits r n) ≤ n + 1
 digits-few zero n = unfold digits in omega arith
 digits-few (suc r) n =

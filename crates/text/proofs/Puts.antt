@@ -17,10 +17,6 @@ put-nothing old at = record { ends = sym (add-zero at); holds = sym (put-none ol
 pub put_byte : (old : List ℕ) (at b : ℕ) → Put old at (b ∷ []) (set old at b) (at + 1)
 put_byte old at b = record { ends = refl; holds = sym (put_one old at b) }
 
-pub put_two : (old : List ℕ) (at a b : ℕ) → Put old at (a ∷ b ∷ []) (set (set old at a) (at + 1) b) (at + 2)
-unfolding put_all
-put_two old at a b = record { ends = refl; holds = refl }
-
 -- one piece, and then another
 pub put_both : {old mid new us ws : List ℕ} {at m end : ℕ} → Put old at us mid m → Put mid m ws new end → Put old at (us ++ ws) new end
 put_both {old} {mid} {new} {us} {ws} {at} {m} {end} p q = record {

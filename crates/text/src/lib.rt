@@ -21,11 +21,11 @@ pub fn put_decimal(text: &mut [u8], at: usize, n: usize) -> usize
     requires { Room text.old at (decimal n) }
     ensures { Put text.old at (decimal n) text.new result }
 {
-    let last = if 9 < n {
-        put_decimal(text, at, n / 10)
-    } else {
-        at
-    };
+    if n < 10 {
+        text[at] = b'0' + n as u8;
+        return at + 1;
+    }
+    let last = put_decimal(text, at, n / 10);
     text[last] = b'0' + (n % 10) as u8;
     last + 1
 }

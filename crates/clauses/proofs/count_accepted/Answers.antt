@@ -1,8 +1,6 @@
--- `count_accepted` meets its contract.
 use mathlib.Core.Path.{◌∙◌}
 use Rattle.clauses.proofs.Answering.{count-is}
 use Rattle.clauses.proofs.count_accepted.Goals as goal
 
 pub returns : goal.returns
-returns c =
-    c.size_of.ensures ∙ count-is c.args.sheet.now c.args.layout c.requires c.translate-tape.ensures
+returns c = c.size_of.ensures ∙ count-is _ _ c.args.sheet.now.taken c.translate.ensures

@@ -1,30 +1,29 @@
--- `put_decimal` meets its contract: what stands before the last digit, and then that.
-use Rattle.std.proofs.Common.{ℕ, ◌%◌, sym, arith}
+-- `put_decimal` meets its contract: the digits of the tenth, and then the last digit.
+use Rattle.std.proofs.Common.{◌%◌, sym, arith}
 use Rattle.text.specs.Texts.{digit}
-use Rattle.text.specs.Puts.{Put}
-use Rattle.text.proofs.Decimals.{leading, leading-none, leading-some, decimal_last, length_last, length_more}
-use Rattle.text.proofs.Puts.{put-nothing, put_byte, put_both, put_as}
+use Rattle.text.proofs.Decimals.{decimal-one, decimal-more, decimal-some, length_more}
+use Rattle.text.proofs.Puts.{put_byte, put_both, put_as, put-length}
 use Rattle.text.proofs.+put_decimal.Goals as goal
-use Rattle.text.proofs.+put_decimal.Goals.{then-n-gt9, else-n-gt9}
+
+pub bounds-text-at : goal.bounds-text-at
+bounds-text-at t c = omega (arith, c.requires, decimal-some c.args.n)
+
+pub returns-then-n-lt10 : goal.returns-then-n-lt10
+returns-then-n-lt10 t c =
+    put_as (sym (decimal-one c.args.n (omega arith))) (put_byte c.args.text.now c.args.at (digit c.args.n))
 
 pub put_decimal-last-requires : goal.put_decimal-last-requires
-put_decimal-last-requires t c = (omega arith, omega (arith, length_more c.args.n c.if-n-gt9.true))
-
-module _ (t : ℕ) (c : goal.Joined-n-gt9 t) where
-  front : Put c.args.text.now c.args.at (leading c.args.n) c.if-n-gt9.text c.if-n-gt9.last
-  front =
-      elim c.if-n-gt9.branch [
-        | then-n-gt9 w ↦ rw (w.text-is, w.last-is) (put_as (sym (leading-some c.args.n w.if-n-gt9.true)) w.put_decimal-last.ensures)
-        | else-n-gt9 w ↦ rw (w.text-is, w.last-is) (put_as (sym (leading-none c.args.n w.if-n-gt9.false)) (put-nothing c.args.text.now c.args.at))
-      ]
+put_decimal-last-requires t c = (omega arith, omega (arith, c.requires, length_more c.args.n (omega arith)))
 
 pub bounds-text-last : goal.bounds-text-last
-bounds-text-last t c = let p = front t c in omega (arith, length_last c.args.n, p.ends)
+bounds-text-last t c =
+    let p = c.put_decimal-last.ensures in omega (arith, c.requires, length_more c.args.n (omega arith), p.ends, put-length p)
 
-pub overflow_add-result : goal.overflow_add-result
-overflow_add-result t c = let p = front t c.before in omega (arith, length_last c.args.n, p.ends, c.well_formed)
+pub overflow_add-result-2 : goal.overflow_add-result-2
+overflow_add-result-2 t c =
+    omega (arith, c.requires, length_more c.args.n (omega arith), c.put_decimal-last.ensures.ends, c.well_formed)
 
 pub returns : goal.returns
 returns t c =
-    put_as (sym (decimal_last c.args.n))
-    (put_both (front t c.before) (put_byte c.if-n-gt9.text c.if-n-gt9.last (digit (c.args.n % 10))))
+    let p = c.put_decimal-last in
+    put_as (sym (decimal-more c.args.n (omega arith))) (put_both p.ensures (put_byte p.new.text p.result (digit (c.args.n % 10))))

@@ -50,6 +50,6 @@ returns-in_default c =
     let n = c.settle.result in
     let e = length-take-le n out (search rules) in
     emits-as
-    (or-many (take n out) g (λ z. absurd (c.in_default.in_default-own.rest.0.1 (sym e ∙ z))) (λ z. absurd (c.in_default.in_default-own.rest.1 (sym e ∙ z)))
+    (or-many (take n out) g (λ z. omega (arith, e, z)) (λ z. omega (arith, e, z))
     ∙ settled-or c.args.inputs.now out n c.settle.ensures g)
     refl c.gate.ensures

@@ -77,11 +77,8 @@ run_indexed-requires-in-Spent c =
       values_len_bound_2 = (omega (arith, wide k, f.0), f.1);
     }
 
-pub returns-in-None : goal.returns-in-None
-returns-in-None c = early c.before.before.before.before.before.before (λ z. apart_none (sym c.in-None.is ∙ z))
-
-pub returns-in-Found : goal.returns-in-Found
-returns-in-Found c = early c.before.before.before.before.before.before (λ z. apart-found (sym c.in-Found.is ∙ z))
+pub returns : goal.returns
+returns c = early c.before.before.before.before.before.before c.in_default.not-Spent
 
 pub returns-in-Spent : goal.returns-in-Spent
 returns-in-Spent c state i =
