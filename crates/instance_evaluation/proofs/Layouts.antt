@@ -30,7 +30,8 @@ module _ (sheet : Sheet) (r : ℕ) where
   relation-leaf instance env ef ea er ec = λ i. sized (ea i) (er i) (ec i) (flags_from instance (ef i) (er i * ec i))
 
   -- row i of it, read as a set
-  pub row-cells : (instance : List ℕ) (i : ℕ) {first columns : ℕ} → first ≡ cell sheet r i 0 → columns ≡ row_length sheet r
+  pub row-cells : (instance : List ℕ) (i : ℕ) {first columns : ℕ} → first ≡ cell sheet r i 0
+      → columns ≡ row_length sheet r
       → flags_from instance first (1 * columns) ≡ row_cells sheet instance r i
   row-cells instance i {first} {columns} ef ec =
       let one : 1 * columns ≡ row_length sheet r = rw ec (omega arith) in
@@ -45,7 +46,8 @@ module _ (i : Instance) where
   few there = omega (arith, facts-of.counts.few_relations)
 
   pub first-few : {r : ℕ} → r < relation_count (sheet_of i.sheet.bytes.now) → get_or i.starts r 0 ≤ 1024
-  first-few {r} there = omega (arith, i.located.first r there, first-most (sheet_of i.sheet.bytes.now) facts-of r, few there)
+  first-few {r} there =
+      omega (arith, i.located.first r there, first-most (sheet_of i.sheet.bytes.now) facts-of r, few there)
 
   -- a row of it is one of at most 8, of at most 8 cells
   module _ (r : ℕ) {k : ℕ} (inside : k < row_count (sheet_of i.sheet.bytes.now) r) where

@@ -18,7 +18,8 @@ use Rattle.prelude.specs.Tests.{each}
 use Rattle.prelude.proofs.Chains.{each-is}
 
 module _ {F : Type 0} {g : Mut F (ℕ × Unit {0}) Bool} {u : Range ℕ} {f : F} {r : Bool} {n m : ℕ} (test : ℕ → Bool) where
-  pub each-turn : (xs : List ℕ) × (o : Option ℕ) × (j : F) × YieldsThen nat_range_steps (record { start = 0; end = n }) xs o u
+  pub each-turn : (xs : List ℕ) × (o : Option ℕ) × (j : F)
+      × YieldsThen nat_range_steps (record { start = 0; end = n }) xs o u
       × FoldsTo (λ p x q. Called g p (x, tt) true q) f xs j
       × MatchOption o (r ≡ true) (λ x. (r ≡ false) × ((h : F) × Called g j (x, tt) false h))
       → n ≡ m → ((x : ℕ) (b : Bool) (q : F) → Called g f (x, tt) b q → (q ≡ f) × (b ≡ test x)) → r ≡ each m test

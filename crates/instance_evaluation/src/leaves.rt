@@ -18,7 +18,8 @@ impl<'a> Instance<'a> {
     fn relation(&self, r: usize) -> Value
         requires { r < relation_count (sheet_of self.now.sheet.bytes.now) }
         ensures { (env : Environment)
-            → Gives result (value_leaf (sheet_of self.now.sheet.bytes.now) self.now.cells.now leaf_operator.Relation r env) }
+            → Gives result
+            (value_leaf (sheet_of self.now.sheet.bytes.now) self.now.cells.now leaf_operator.Relation r env) }
     {
         let arity = self.sheet.arity(r);
         let rows = self.sheet.row_count(r);
@@ -29,7 +30,8 @@ impl<'a> Instance<'a> {
     // Kinds 1 to 4: the value of a leaf over field a.
     pub(crate) fn leaf(&self, env: [usize; 4], leaf: Leaf, a: usize) -> Value
         requires { leaf ≡ leaf_operator.Relation → a < relation_count (sheet_of self.now.sheet.bytes.now) }
-        ensures { Gives result (value_leaf (sheet_of self.now.sheet.bytes.now) self.now.cells.now leaf a (environment env)) }
+        ensures { Gives result
+            (value_leaf (sheet_of self.now.sheet.bytes.now) self.now.cells.now leaf a (environment env)) }
     {
         match leaf {
             Leaf::Relation => self.relation(a),

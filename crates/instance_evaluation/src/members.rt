@@ -26,7 +26,8 @@ impl<'a> Instance<'a> {
     // Kind 3: the set of a sort's atoms.
     pub(crate) fn atoms(&self, sort: usize) -> Value
         ensures { (env : Environment)
-            → Gives result (spec.value_leaf (sheet_of self.now.sheet.bytes.now) self.now.cells.now leaf_operator.Atoms sort env) }
+            → Gives result
+            (spec.value_leaf (sheet_of self.now.sheet.bytes.now) self.now.cells.now leaf_operator.Atoms sort env) }
     {
         let n = self.sheet.scope(sort);
         if self.sheet.is_bounded(sort) {

@@ -46,8 +46,8 @@ fn put_row(text: &mut [u8], at: usize, instance: &[u8], first: usize, columns: u
 fn put_line(text: &mut [u8], at: usize, letter: u8, number: usize, grid: &Grid) -> usize
     requires at_in_bounds { at + 76 ≤ length text.old }
     requires number_bound { number < 16 }
-    ensures put { Put text.old at (line_from letter grid.now.instance.now number grid.now.first grid.now.rows grid.now.columns)
-        text.new result }
+    ensures put { Put text.old at
+        (line_from letter grid.now.instance.now number grid.now.first grid.now.rows grid.now.columns) text.new result }
     ensures upper_bound { result ≤ at + 76 }
 {
     text[at] = letter;

@@ -15,5 +15,5 @@ returns-then-instance-count c =
 
 pub returns : goal.returns
 returns c =
-    evaluated _ _ c.args.sheet.now.taken c.cells-count.ensures.0 c.if-instance-count.false c.are_bits.ensures c.if-not-are_bits.false
-    c.holds.ensures
+    evaluated _ _ c.args.sheet.now.taken c.cells-count.ensures.0 c.if-instance-count.false c.are_bits.ensures
+    c.if-not-are_bits.false c.holds.ensures

@@ -19,7 +19,8 @@ use Rattle.instance_evaluation.specs.declared.Instance.{Instance}
 use Rattle.instance_evaluation.specs.Walking.{truth_in_tree}
 use Rattle.instance_evaluation.proofs.Layouts.{facts-of}
 use Rattle.instance_evaluation.proofs.Steps.{leaf-value, binary-value, unary-value, comprehension-value}
-use Rattle.instance_evaluation.proofs.Steps.{comparison-truth, test-truth, negation-truth, connective-truth, quantifier-truth}
+use Rattle.instance_evaluation.proofs.Steps.{comparison-truth, test-truth, negation-truth, connective-truth}
+use Rattle.instance_evaluation.proofs.Steps.{quantifier-truth}
 use Rattle.instance_evaluation.proofs.Instance.+bodies_expression_formula.Goals as goal
 
 -- ---- 2.2.6: the bodies of a binder
@@ -39,7 +40,8 @@ bodies-returns t c =
 -- the node that the walk has read
 module _ (Is : Sheet → ℕ → Type 0) (i : Instance) where
   reached : {at : ℕ} {node : Node} → Is (sheet_of i.sheet.bytes.now) at
-      → (node ≡ node_at (sheet_of i.sheet.bytes.now).nodes at) × (node.a < 256) → Reached (sheet_of i.sheet.bytes.now) at node Is
+      → (node ≡ node_at (sheet_of i.sheet.bytes.now).nodes at) × (node.a < 256)
+      → Reached (sheet_of i.sheet.bytes.now) at node Is
   reached p e = record { facts = facts-of i; read = e.0; tree = p }
 
 pub expression-read_node-node-requires : goal.expression-read_node-node-requires

@@ -18,5 +18,6 @@ pub returns : goal.returns
 unfolding cells_inside
 returns c =
     let i = c.args.self.now in
-    each-turn (relation_inside (sheet_of i.sheet.bytes.now) i.cells.now) c.all.ensures.ran (relations-counted _ _ i.sheet.taken)
+    each-turn (relation_inside (sheet_of i.sheet.bytes.now) i.cells.now) c.all.ensures.ran
+    (relations-counted _ _ i.sheet.taken)
     (λ x b q k. search (rules, tests))

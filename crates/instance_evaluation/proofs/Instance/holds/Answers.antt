@@ -26,7 +26,8 @@ unfolding holds
 returns-then-marked c =
     let i = c.args.self.now in
     let sheet = sheet_of i.sheet.bytes.now in
-    let truth = (rw (nodes-counted _ _ i.sheet.taken) at c.formula.ensures) ∙ root-truth sheet i.cells.now (root_tree sheet) in
+    let truth = (rw (nodes-counted _ _ i.sheet.taken) at c.formula.ensures)
+    ∙ root-truth sheet i.cells.now (root_tree sheet) in
     rw (← c.cells_inside-inside.ensures, c.if-marked.true.0, ← c.marks_hold-marked.ensures, c.if-marked.true.1) truth
 
 pub returns-else-marked : goal.returns-else-marked

@@ -18,5 +18,6 @@ pub returns : goal.returns
 unfolding marks_hold
 returns c =
     let i = c.args.self.now in
-    each-turn (rows_hold (sheet_of i.sheet.bytes.now) i.cells.now) c.all.ensures.ran (relations-counted _ _ i.sheet.taken)
+    each-turn (rows_hold (sheet_of i.sheet.bytes.now) i.cells.now) c.all.ensures.ran
+    (relations-counted _ _ i.sheet.taken)
     (λ x b q k. search (rules, tests))

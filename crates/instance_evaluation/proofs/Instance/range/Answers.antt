@@ -11,5 +11,6 @@ pub returns : goal.returns
 returns c env =
     let i = c.args.self.now in
     gives_as _ _ _
-    (ap (λ (k : ℕ). value_leaf (sheet_of i.sheet.bytes.now) i.cells.now leaf_operator.Atoms k env) c.sort_of_variable.ensures)
+    (ap (λ (k : ℕ). value_leaf (sheet_of i.sheet.bytes.now) i.cells.now leaf_operator.Atoms k env)
+    c.sort_of_variable.ensures)
     (c.atoms.ensures env)

@@ -37,5 +37,6 @@ returns-then-not-over_bounded c =
     let sheet = sheet_of i.sheet.bytes.now in
     let e = c.over_bounded.ensures in
     let f = c.if-not-over_bounded.true in
-    let full = full-inside sheet i.cells.now c.args.r (full-first sheet c.args.r e f) (full-second sheet c.args.r e f) in
+    let full = full-inside sheet i.cells.now c.args.r (full-first sheet c.args.r e f)
+    (full-second sheet c.args.r e f) in
     rw (f, full) refl

@@ -20,5 +20,6 @@ all-requires-clause-callable c =
 pub returns : goal.returns
 returns c =
     let i = c.args.self.now in
-    each-turn (cell_inside (sheet_of i.sheet.bytes.now) i.cells.now c.args.r c.args.i) c.all.ensures.ran c.row_length.ensures.0
+    each-turn (cell_inside (sheet_of i.sheet.bytes.now) i.cells.now c.args.r c.args.i) c.all.ensures.ran
+    c.row_length.ensures.0
     (λ x b q k. search (rules, tests))

@@ -32,5 +32,7 @@ returns c =
     let cells = ap (λ (m : Matrix Bool). m.cells) c.given-row.ensures.is
     ∙ row-cells sheet r i.cells.now c.args.i c.row_start.ensures.0 c.row_length.ensures.0 in
     c.row_holds.ensures sheet i.cells.now
-    ∙ ap₂ (λ (m : ℕ) (row : List Bool). row_holds sheet i.cells.now m c.row_bound.result row) c.multiplicity.ensures cells
-    ∙ ap (λ (b : Bool). row_holds sheet i.cells.now (multiplicity sheet r) b (row_cells sheet i.cells.now r c.args.i)) c.row_bound.ensures
+    ∙ ap₂ (λ (m : ℕ) (row : List Bool). row_holds sheet i.cells.now m c.row_bound.result row)
+    c.multiplicity.ensures cells
+    ∙ ap (λ (b : Bool). row_holds sheet i.cells.now (multiplicity sheet r) b (row_cells sheet i.cells.now r c.args.i))
+    c.row_bound.ensures

@@ -12,5 +12,5 @@ invariant-loop-i l =
     let grid = l.grid in
     (l.end ≤ l.at + 3 + 9 * l.i)
     × Put l.fn.text l.at
-    ((l.letter ∷ decimal l.number) ++ series l.i (λ k. row_from grid.instance.now (grid.first + k * grid.columns) grid.columns)) l.text
-    l.end
+    ((l.letter ∷ decimal l.number)
+    ++ series l.i (λ k. row_from grid.instance.now (grid.first + k * grid.columns) grid.columns)) l.text l.end

@@ -49,7 +49,8 @@ put_line-end-requires-clause-at_in_bounds c =
     omega (arith, l.most, put-length l.puts, few_relations _ _ c.args.sheet.now.taken, c.requires, c.loop-r-test.true)
 
 pub put_line-end-requires-clause-number_bound : goal.put_line-end-requires-clause-number_bound
-put_line-end-requires-clause-number_bound c = omega (arith, few_relations _ _ c.args.sheet.now.taken, c.loop-r-test.true)
+put_line-end-requires-clause-number_bound c =
+    omega (arith, few_relations _ _ c.args.sheet.now.taken, c.loop-r-test.true)
 
 pub loop-r-preserved : goal.loop-r-preserved
 loop-r-preserved c =

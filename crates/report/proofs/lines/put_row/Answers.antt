@@ -22,7 +22,8 @@ loop-j-preserved c =
     let k = c.loop-j in
     let f : ℕ → List ℕ = λ n. cell_digit (byte c.args.instance.now (c.args.first + n)) ∷ [] in
     let e = ap (λ (b : ℕ). b ∷ []) c.cell_digit.ensures in
-    ends_at (put-more f k.j k.invariant (put_as e (put_byte k.text (c.args.at + 1 + k.j) c.cell_digit.result))) (omega arith)
+    ends_at (put-more f k.j k.invariant (put_as e (put_byte k.text (c.args.at + 1 + k.j) c.cell_digit.result)))
+    (omega arith)
 
 pub returns : goal.returns
 unfolding row_from

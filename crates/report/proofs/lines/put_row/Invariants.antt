@@ -9,4 +9,5 @@ use Rattle.report.proofs.lines.put_row.Given as goal
 
 abbrev pub invariant-loop-j : goal.invariant-loop-j
 invariant-loop-j l =
-    Put l.initial.text l.start (series l.j (λ k. cell_digit (byte l.instance (l.first + k)) ∷ [])) l.text (l.start + l.j)
+    Put l.initial.text l.start (series l.j (λ k. cell_digit (byte l.instance (l.first + k)) ∷ [])) l.text
+    (l.start + l.j)

@@ -18,7 +18,8 @@ returns-then-is_bounded c =
 pub returns : goal.returns
 returns c =
     let a = c.args in
-    let e = no_line (sheet_of a.sheet.now.bytes.now) a.instance.now a.k (sym c.is_bounded.ensures ∙ c.if-is_bounded.false) in record {
+    let e = no_line (sheet_of a.sheet.now.bytes.now) a.instance.now a.k
+    (sym c.is_bounded.ensures ∙ c.if-is_bounded.false) in record {
       put = put_as e (put-nothing _ _);
       upper_bound = omega arith;
     }
