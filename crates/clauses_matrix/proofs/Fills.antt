@@ -21,7 +21,7 @@ use Rattle.relational.proofs.Places.{place-below, square}
 use Rattle.clauses_rules.specs.Builder.{Builder, each}
 use Rattle.clauses_rules.specs.Translation.{Two, absent}
 use Rattle.clauses_emission.specs.declared.Tape.{Tape}
-use Rattle.clauses_matrix.specs.declared.Literals.{Literals}
+use Rattle.clauses_matrix.specs.Matrices.{Literals}
 use Rattle.clauses_emission.specs.Emission.{Inside, AllInside, literals_of, most_inputs, Inputs, Bounded, EmitsLiteral}
 use Rattle.clauses_matrix.specs.Matrices.{cells_of, Cells, matrix_of, Operand, EmitsCells}
 use Rattle.clauses_emission.proofs.Ranges.{inside-absent, all-grows, literal-at}
@@ -95,7 +95,7 @@ module _ {A : Type 0} (step : A → Builder Literal) (regular : (x : A) → Regu
       (subst (λ (n : ℕ). EmitsCells n (each step (map f (upto n)) a.next) old a ws new b) e p)
 
 -- ---- the cell at a place
-below-or-past : (k n : ℕ) → (k < n) ⊎ (n ≤ k)
+pub below-or-past : (k n : ℕ) → (k < n) ⊎ (n ≤ k)
 below-or-past k n = ⊎_elim (λ t. inl (ltb-true k n t)) (λ f. inr (ltb-false k n f)) (decided (ltb k n))
 
 cells_at : (size n : ℕ) (ws : List ℤ) (k : ℕ) → Cells size n ws → k < 64 → get_or (cells_of size ws) k absent ≡ literal_of (get_or ws k (pos 0))

@@ -6,3 +6,4 @@ pub mod Pairs
 pub mod Middles
 pub mod Rows
 pub mod Rounds
+mod Placed

@@ -43,11 +43,8 @@ rest-wrap ls i j h =
     ap (λ (l : List Literal). map {B = Two} (λ y. (get_or ls i absent, y)) l ++ pairs (drop (suc i) ls)) (drop_of_length-le ls h)
     ∙ pairs-rest ls (suc i)
 
-rest_end : (ls : List Literal) (i j : ℕ) → length ls ≤ j → j ≡ suc i → rest ls i j ≡ []
-unfolding rest
-rest_end ls i j h e =
-    let d : drop (suc i) ls ≡ [] = drop_of_length-le ls {i = suc i} (omega (arith, e)) in
-    rw (e, d)
+rest_end : (ls : List Literal) (i : ℕ) → length ls ≤ i → rest ls i (suc i) ≡ []
+rest_end ls i h = sym (pairs-rest ls i) ∙ ap pairs (drop_of_length-le ls h)
 
 pairs-count : (ls : List Literal) → 2 * length (pairs ls) + length ls ≡ length ls * length ls
 pairs-count [] = refl
@@ -64,8 +61,6 @@ pub record Passed (ls : List Literal) (t i j : ℕ) (old : List ℤ) (a : Tape) 
   pub done : List Two
   pub whole : pairs ls ≡ done ++ rest ls i j
   pub count : length done ≡ t
-  pub later : i < j
-  pub last : length ls ≤ j → j ≡ suc i
   pub room : length out ≡ 2016
   pub emits : Emits (each both done a.next) old a (literals_of (take t out)) new b (λ m. AllInside m (literals_of out))
 
@@ -75,8 +70,6 @@ passed_start ls list tape b = record {
   done = [];
   whole = pairs-rest ls 0;
   count = refl;
-  later = omega arith;
-  last = λ h. refl;
   room = length-replicate 2016 (negsuc 0);
   emits = emits-return [] list tape b (blank-inside tape.next 2016 b.first);
 }
@@ -89,15 +82,6 @@ module _ (ls : List Literal) (t i j : ℕ) {old mid : List ℤ} {a b : Tape} (ou
   pub passed-room : t < 2016
   passed-room =
       omega (arith, ap length p.whole, length-append p.done (rest ls i j), p.count, left_over, pairs-few ls few)
-
-  pub less-stay : length (rest ls i (j + 1)) < length (rest ls i j)
-  less-stay = rw (add-one j) (omega (arith, left_over))
-
-  pub less-wrap : j + 1 ≡ length ls → length (rest ls (i + 1) ((i + 1) + 1)) < length (rest ls i j)
-  less-wrap e =
-      let w : rest ls i (suc j) ≡ rest ls (suc i) (suc (suc i)) = rest-wrap ls i (suc j) (omega (arith, e)) in
-      let f : (i + 1) + 1 ≡ suc (suc i) = omega arith in
-      rw (f, add-one i) (omega (arith, left_over, ap length w))
 
   module _ (w : ℤ) {new : List ℤ} {c : Tape}
       (q : EmitsLiteral (both (get_or ls i absent, get_or ls j absent) b.next) mid b w new c) where
@@ -114,32 +98,34 @@ module _ (ls : List Literal) (t i j : ℕ) {old mid : List ℤ} {a b : Tape} (ou
         (emits-map (λ z. ys ++ (z ∷ [])) (both x) q refl
         (all_set c.next out t w (all-grows (literals_of out) q.grows p.emits.fine) q.fine)))
 
-    -- the pair is passed: what is left goes on from k and m
-    passed_to : (k m : ℕ) → rest ls i (suc j) ≡ rest ls k m → k < m → (length ls ≤ m → m ≡ suc k) → Passed ls (t + 1) k m old a (set out t w) new c
-    passed_to k m e d l =
+    pub passed-right : Passed ls (t + 1) i (j + 1) old a (set out t w) new c
+    passed-right =
         let x : Two = (get_or ls i absent, get_or ls j absent) in
-        rw (add-one t)
+        rw (add-one t, add-one j)
         (record {
           done = p.done ++ (x ∷ []);
           whole =
               p.whole
-              ∙ ap (λ (r : List Two). p.done ++ r) (rest-next ls i j h ∙ ap (λ (r : List Two). x ∷ r) e)
-              ∙ sym (append_assoc p.done (x ∷ []) (rest ls k m));
+              ∙ ap (λ (r : List Two). p.done ++ r) (rest-next ls i j h)
+              ∙ sym (append_assoc p.done (x ∷ []) (rest ls i (suc j)));
           count = omega (arith, length-append p.done (x ∷ []), p.count);
-          later = d;
-          last = l;
           room = length-set out t w ∙ p.room;
           emits = more;
         })
 
-    pub passed-stay : (j + 1 ≡ length ls → ⊥) → Passed ls (t + 1) i (j + 1) old a (set out t w) new c
-    passed-stay f = passed_to i (j + 1) (ap (rest ls i) (sym (add-one j))) (omega (arith, p.later)) (λ l. absurd (omega (arith, l, f)))
-
-    pub passed-wrap : j + 1 ≡ length ls → Passed ls (t + 1) (i + 1) ((i + 1) + 1) old a (set out t w) new c
-    passed-wrap e =
-        let f : (i + 1) + 1 ≡ suc (suc i) = omega arith in
-        passed_to (i + 1) ((i + 1) + 1)
-        (rest-wrap ls i (suc j) (omega (arith, e)) ∙ rw (f, add-one i)) (omega arith) (λ l. omega arith)
+-- a row is passed
+pub passed_down : (ls : List Literal) (t i j : ℕ) {old mid : List ℤ} {a b : Tape} (out : List ℤ) → Passed ls t i j old a out mid b
+    → length ls ≤ j → Passed ls t (i + 1) ((i + 1) + 1) old a out mid b
+passed_down ls t i j out p h =
+    let f : (i + 1) + 1 ≡ suc (suc i) = omega arith in
+    rw (f, add-one i)
+    (record {
+      done = p.done;
+      whole = p.whole ∙ ap (λ (r : List Two). p.done ++ r) (rest-wrap ls i j h);
+      count = p.count;
+      room = p.room;
+      emits = p.emits;
+    })
 
 -- both against apart: the same gates, the opposite literals
 each_both : (ts : List Two) (g : ℕ) → each both ts g ≡ (map opposite <$> each apart ts) g
@@ -154,12 +140,12 @@ pub never_both : (ts : List Two) (g : ℕ) → (opposite <$> (each both ts >>= o
 never_both ts g = ap (λ (u : Built (List Literal)). (opposite <$> ((λ h. u) >>= or)) g) (each_both ts g)
 
 -- all are passed
-pub passed-all : (ls : List Literal) (t i j : ℕ) {old new : List ℤ} {a b : Tape} (out : List ℤ) → Passed ls t i j old a out new b → length ls ≤ j
+pub passed-all : (ls : List Literal) (t i j : ℕ) {old new : List ℤ} {a b : Tape} (out : List ℤ) → Passed ls t i j old a out new b → length ls ≤ i
+    → j ≡ i + 1
     → Emits (each both (pairs ls) a.next) old a (literals_of (take t out)) new b (λ m. AllInside m (literals_of out))
-passed-all ls t i j {old} {new} {a} {b} out p h =
-    let e : p.done ≡ pairs ls =
-    sym (p.whole ∙ ap (λ (r : List Two). p.done ++ r) (rest_end ls i j h (p.last h)) ∙ append-nil p.done)
-    in
+passed-all ls t i j {old} {new} {a} {b} out p h s =
+    let last : rest ls i j ≡ [] = rw (s, add-one i) (rest_end ls i h) in
+    let e : p.done ≡ pairs ls = sym (p.whole ∙ ap (λ (r : List Two). p.done ++ r) last ∙ append-nil p.done) in
     emits-as (ap (λ (ts : List Two). each both ts a.next) e) refl p.emits
 
 pub passed-few : (ls : List Literal) (t i j : ℕ) {old new : List ℤ} {a b : Tape} (out : List ℤ) → Passed ls t i j old a out new b

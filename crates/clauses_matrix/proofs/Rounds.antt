@@ -12,7 +12,7 @@ use Rattle.clauses_rules.specs.Translation.{round_of, after_rounds}
 use Rattle.clauses_emission.specs.declared.Tape.{Tape}
 use Rattle.clauses_emission.specs.Emission.{Within}
 use Rattle.clauses_emission.proofs.Steps.{Regular, emits-bind}
-use Rattle.clauses_matrix.specs.declared.Literals.{Literals}
+use Rattle.clauses_matrix.specs.Matrices.{Literals}
 use Rattle.clauses_matrix.specs.Matrices.{matrix_of, EmitsMatrix, EmitsUnary}
 use Rattle.clauses_matrix.proofs.Regulars.{regular-round, regular-rounds}
 

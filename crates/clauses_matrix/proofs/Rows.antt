@@ -15,7 +15,7 @@ use Rattle.clauses_rules.specs.Builder.{Built, Builder, each}
 use Rattle.clauses_rules.specs.Translation.{Two, absent}
 use Rattle.clauses_emission.specs.Emission.{AllInside, literals_of}
 use Rattle.clauses_emission.proofs.Ranges.{literal-at}
-use Rattle.clauses_matrix.specs.declared.Literals.{Literals}
+use Rattle.clauses_matrix.specs.Matrices.{Literals}
 use Rattle.clauses_matrix.specs.Matrices.{matrix_of, Operand, join_cell, middle_at, row_middles, RowAndColumn}
 use Rattle.clauses_matrix.proofs.Numbers.{place_of, places-by-number}
 use Rattle.clauses_matrix.proofs.Fills.{map_same, all-front, operand_at, place_in, join-few}

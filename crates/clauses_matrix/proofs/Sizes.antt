@@ -12,7 +12,7 @@ use borrow.Author.Tests.{eq-eqb, ne_eqb, eqb-true, eqb-false}
 use Rattle.prelude.proofs.Laws.{decided}
 use Rattle.literal.specs.Literals.{Literal}
 use Rattle.relational.specs.Matrices.{Matrix, join_columns, join_size, relation_of, set_of}
-use Rattle.clauses_matrix.specs.declared.Literals.{Literals}
+use Rattle.clauses_matrix.specs.Matrices.{Literals}
 use Rattle.clauses_matrix.specs.Matrices.{cells_of, Cells, matrix_of, Operand}
 use Rattle.clauses_matrix.proofs.Fills.{join-few}
 

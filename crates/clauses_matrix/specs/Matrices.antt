@@ -9,7 +9,7 @@ use Rattle.clauses_rules.specs.Translation.{Two, absent, both}
 use Rattle.clauses_emission.specs.declared.Tape.{Tape}
 use Rattle.clauses_emission.specs.declared.Pairing.{Pairing}
 use Rattle.clauses_emission.specs.Emission.{AllInside, literals_of, Emits, EmitsLiteral, pairing}
-use Rattle.clauses_matrix.specs.declared.Literals.{Literals}
+use Rattle.nodes.specs.declared.matrix.Matrix as held
 
 -- n cells, then -1s
 pub record Cells (size : ℕ) (n : ℕ) (ws : List ℤ) : Type 0 where
@@ -17,6 +17,10 @@ pub record Cells (size : ℕ) (n : ℕ) (ws : List ℤ) : Type 0 where
   pub small : size ≤ 64
   pub rest : (k : ℕ) → size ≤ k → k < 64 → get_or ws k (pos 0) ≡ negsuc 0
   pub inside : AllInside n (literals_of ws)
+
+-- words, cell by cell
+abbrev pub Literals : Type 0
+Literals = held.Matrix ℤ
 
 -- the matrix that stands in the first rows times columns words
 abbrev pub cells_of : ℕ → List ℤ → List Literal

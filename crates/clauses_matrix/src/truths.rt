@@ -1,76 +1,78 @@
 // Comparisons, and tests of an expression (document 01, "Clauses", the last list).
 ghost use Rattle.relational.specs.declared.Test.TheVariants.{Some as some, None as none, Lone as lone};
 ghost use Rattle.clauses_rules.specs.Translation.{translate_test};
-ghost use Rattle.clauses_emission.specs.Emission.{Bounded, EmitsLiteral};
+ghost use Rattle.literal.specs.Words.{literal_of};
+ghost use Rattle.clauses_rules.specs.Translation as two;
+ghost use Rattle.clauses_emission.specs.Emission.{Inside, Bounded, EmitsLiteral, EmitsTwo};
 ghost use Rattle.clauses_matrix.specs.Matrices.{matrix_of, Operand, EmitsTest, compared};
 
 use super::Literals;
 use super::operators::matched_cells;
-use clauses_emission::gates::{and, both, negate, or, told_both};
-use clauses_emission::{Made, Pairing, Tape};
+use clauses_emission::gates::{and, both, or, told_both};
+use clauses_emission::{Pairing, Tape};
 
 // Equal (Same) and within (Implies): AND over the cells.
-pub fn all_matched(list: &mut [i32], tape: Tape, kind: Pairing, p: Literals, q: Literals) -> Made
-    requires bounded { Bounded tape }
-    requires operand { Operand tape.next p }
-    requires operand_2 { Operand tape.next q }
-    ensures { EmitsLiteral (compared kind (matrix_of p) (matrix_of q) tape.next)
-        list.old tape result.literal list.new result.tape }
+pub fn all_matched(
+    list: &mut [i32],
+    tape: &mut Tape,
+    kind: Pairing,
+    p: Literals,
+    q: Literals,
+) -> i32
+    requires bounded { Bounded tape.old }
+    requires operand { Operand tape.old.next p }
+    requires operand_2 { Operand tape.old.next q }
+    ensures { EmitsLiteral (compared kind (matrix_of p) (matrix_of q) tape.old.next)
+        list.old tape.old result list.new tape.new }
 {
-    let made = matched_cells(list, tape, kind, p, q);
-    let mut cells = made.cells;
-    let after = made.tape;
-    let n = p.rows * p.columns;
-    and(list, after, &mut cells[..n])
+    let mut cells = matched_cells(list, tape, kind, p, q);
+    and(list, tape, &mut cells[..p.rows * p.columns])
 }
 
-pub fn some(list: &mut [i32], tape: Tape, p: Literals) -> Made
-    requires bounded { Bounded tape }
-    requires operand { Operand tape.next p }
-    ensures { EmitsTest (translate_test some) p list.old tape result.literal list.new result.tape }
+pub fn some(list: &mut [i32], tape: &mut Tape, p: Literals) -> i32
+    requires bounded { Bounded tape.old }
+    requires operand { Operand tape.old.next p }
+    ensures { EmitsTest (translate_test some) p list.old tape.old result list.new tape.new }
 {
     let mut cells = p.cells;
-    let n = p.rows * p.columns;
-    or(list, tape, &mut cells[..n])
+    or(list, tape, &mut cells[..p.rows * p.columns])
 }
 
-pub fn none(list: &mut [i32], tape: Tape, p: Literals) -> Made
-    requires bounded { Bounded tape }
-    requires operand { Operand tape.next p }
-    ensures { EmitsTest (translate_test none) p list.old tape result.literal list.new result.tape }
+pub fn none(list: &mut [i32], tape: &mut Tape, p: Literals) -> i32
+    requires bounded { Bounded tape.old }
+    requires operand { Operand tape.old.next p }
+    ensures { EmitsTest (translate_test none) p list.old tape.old result list.new tape.new }
 {
-    let made = some(list, tape, p);
-    negate(made)
+    literal::opposite(some(list, tape, p))
+}
+
+// AND(p, q): where it is told no gate is made, and list and tape stay.
+fn meet(list: &mut [i32], tape: &mut Tape, p: i32, q: i32) -> i32
+    requires bounded { Bounded tape.old }
+    requires inside { Inside tape.old.next (literal_of p) }
+    requires inside_2 { Inside tape.old.next (literal_of q) }
+    ensures { EmitsTwo two.both p q list.old tape.old result list.new tape.new }
+{
+    match told_both(p, q) {
+        Some(l) => l,
+        None => both(list, tape, p, q),
+    }
 }
 
 // At most one: AND over pairs, in order, of OR(-p, -q). It is made as the opposite of OR over pairs of AND(p, q): the same gates.
-// Of a pair that is told (not 0) no gate is made: list and tape stay.
-pub fn lone(list: &mut [i32], tape: Tape, p: Literals) -> Made
-    requires bounded { Bounded tape }
-    requires operand { Operand tape.next p }
-    ensures { EmitsTest (translate_test lone) p list.old tape result.literal list.new result.tape }
+pub fn lone(list: &mut [i32], tape: &mut Tape, p: Literals) -> i32
+    requires bounded { Bounded tape.old }
+    requires operand { Operand tape.old.next p }
+    ensures { EmitsTest (translate_test lone) p list.old tape.old result list.new tape.new }
 {
     let n = p.rows * p.columns;
     let mut pairs = [-1; 2016];
-    let mut after = tape;
     let mut t: usize = 0;
-    let mut i: usize = 0;
-    let mut j: usize = 1;
-    while j < n {
-        let mut l = told_both(p.cells[i], p.cells[j]);
-        if l == 0 {
-            let made = both(list, after, p.cells[i], p.cells[j]);
-            l = made.literal;
-            after = made.tape;
-        }
-        pairs[t] = l;
-        t += 1;
-        j += 1;
-        if j == n {
-            i += 1;
-            j = i + 1;
+    for i in 0..n {
+        for j in i + 1..n {
+            pairs[t] = meet(list, tape, p.cells[i], p.cells[j]);
+            t += 1;
         }
     }
-    let met = or(list, after, &mut pairs[..t]);
-    negate(met)
+    literal::opposite(or(list, tape, &mut pairs[..t]))
 }

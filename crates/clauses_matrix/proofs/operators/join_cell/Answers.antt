@@ -1,7 +1,4 @@
-use Prim.Native.Nat.{◌+◌, ◌*◌}
-use lib.IntN.{pos}
-use lib.ListN.{get_or}
-use borrow.Author.Rules.{rules}
+use Rattle.std.proofs.Common.{◌+◌, ◌*◌, get_or, pos, rules}
 use Rattle.literal.proofs.Signs.{back}
 use Rattle.clauses_rules.specs.Builder.{each}
 use Rattle.clauses_rules.specs.Gates.{or}
@@ -9,57 +6,42 @@ use Rattle.clauses_rules.specs.Translation.{both}
 use Rattle.clauses_emission.specs.declared.Pairing.TheVariants.{Both}
 use Rattle.clauses_emission.specs.Emission.{literals_of}
 use Rattle.clauses_matrix.specs.Matrices.{row_middles}
-use Rattle.clauses_emission.proofs.Steps.{regular-pairing, regular-each, regular-or, emits-bind}
+use Rattle.clauses_emission.proofs.Steps.{regular-pairing, regular-each, regular-or, emits-bind, emits-read}
 use Rattle.clauses_matrix.proofs.Middles.{met_start, met_next, met_all, met-inputs, row_inside, column-inside}
 use Rattle.clauses_matrix.proofs.operators.join_cell.Goals as goal
 
 pub loop-k-init : goal.loop-k-init
-loop-k-init c = met_start c.args.list.now c.args.tape c.requires.bounded
+loop-k-init c = met_start c.args.list.now c.args.tape.now c.requires.bounded
 
-pub both-made-requires : goal.both-made-requires
-both-made-requires c =
-    let turn = c.before.before.before in
-    let start = turn.before.before in
-    let loop = turn.loop-k in
-    let a = start.args in
-    let grows = loop.invariant.emits.grows in record {
-      bounded = loop.invariant.emits.bounded;
-      inside = rw (back (get_or a.left.now loop.k (pos 0)) (record { sfits = c.both-arg-in-loop-k-1.given }))
-          (row_inside start.requires.row_and_column turn.loop-k-test.true grows);
-      inside_2 = rw (back (get_or a.right.now (loop.k * a.columns + a.j) (pos 0))
-          (record { sfits = c.both-arg-in-loop-k-2-1.given }))
-          (column-inside start.requires.row_and_column turn.loop-k-test.true grows);
+pub both-requires : goal.both-requires
+both-requires c =
+    let k = c.loop-k.k in
+    let a = c.args in
+    let emits = c.loop-k.invariant.emits in record {
+      bounded = emits.bounded;
+      inside = rw (back (get_or a.left.now k (pos 0)) (search rules))
+          (row_inside c.requires.row_and_column c.loop-k-test.true emits.grows);
+      inside_2 = rw (back (get_or a.right.now (k * a.columns + a.j) (pos 0)) (search rules))
+          (column-inside c.requires.row_and_column c.loop-k-test.true emits.grows);
     }
 
 pub loop-k-preserved : goal.loop-k-preserved
 loop-k-preserved c =
-    let turn = c.before.before.before.before.before.before.before in
-    let read = c.before.before.before.before in
-    let start = turn.before.before in
-    let loop = turn.loop-k in
-    let a = start.args in
-    let call = c.both-made in
-    let w = call.result.literal in
+    let k = c.loop-k.k in
+    let a = c.args in
+    let w = c.both.result in
     rw (back w (search rules))
-    (met_next start.requires.row_and_column turn.loop-k-test.true w loop.invariant
-    (rw (
-      back (get_or a.left.now loop.k (pos 0)) (record { sfits = read.both-arg-in-loop-k-1.given }),
-      back (get_or a.right.now (loop.k * a.columns + a.j) (pos 0))
-          (record { sfits = read.both-arg-in-loop-k-2-1.given }),
-    )
-    at call.ensures))
+    (met_next c.requires.row_and_column c.loop-k-test.true w c.loop-k.invariant
+    (rw (back (get_or a.left.now k (pos 0)) (search rules), back (get_or a.right.now (k * a.columns + a.j) (pos 0)) (search rules))
+    at c.both.ensures))
 
 pub or-requires : goal.or-requires
-or-requires c =
-    let inv = c.loop-k.invariant in record {
-      bounded = inv.emits.bounded;
-      inputs = met-inputs inv;
-    }
+or-requires c = record { bounded = c.loop-k.invariant.emits.bounded; inputs = met-inputs c.loop-k.invariant }
 
 pub returns : goal.returns
 returns c =
-    let end = c.before.before.before.before.before in
-    let a = end.args in
+    let a = c.args in
     let met = row_middles (literals_of a.left.now) (literals_of a.right.now) a.columns a.j in
-    emits-bind (each both met) or (regular-each both (regular-pairing Both) met) regular-or
-    (met_all end.loop-k.invariant end.loop-k-test.false) c.or.ensures
+    emits-read (search rules)
+    (emits-bind (each both met) or (regular-each both (regular-pairing Both) met) regular-or
+    (met_all c.loop-k.invariant c.loop-k-test.false) c.or.ensures)

@@ -1,11 +1,6 @@
--- `operators::join_cell` meets its contract. The loop's invariant: the middle atoms passed are worked out.
-use Prim.Native.Nat.{◌-◌}
-use lib.ListN.{length}
+-- The invariant: the middle atoms passed are worked out.
 use Rattle.clauses_matrix.proofs.Middles.{Met}
 use Rattle.clauses_matrix.proofs.operators.join_cell.Given as goal
 
 abbrev pub invariant-loop-k : goal.invariant-loop-k
-invariant-loop-k l = Met l.left l.right l.columns l.j l.k l.initial.list l.initial.after l.middles l.list l.after
-
-abbrev pub decreases-loop-k : goal.decreases-loop-k
-decreases-loop-k l = length l.left - l.k
+invariant-loop-k l = Met l.left l.right l.columns l.j l.k l.initial.list l.initial.tape l.middles l.list l.tape

@@ -1,6 +1,5 @@
--- `operators::matched_cells` meets its contract. The loop's invariant: the cells passed are worked out.
-use mathlib.Core.List.{map}
-use Prim.Native.Nat.{◌-◌, ◌≤◌}
+-- The invariant: the cells passed are worked out.
+use Rattle.std.proofs.Common.{map}
 use Rattle.relational.specs.Matrices.{upto}
 use Rattle.clauses_rules.specs.Builder.{each}
 use Rattle.clauses_emission.specs.Emission.{pairing}
@@ -10,10 +9,5 @@ use Rattle.clauses_matrix.proofs.operators.matched_cells.Given as goal
 
 abbrev pub invariant-loop-k : goal.invariant-loop-k
 invariant-loop-k l =
-    (l.k ≤ l.size)
-    × EmitsCells l.k (each (pairing l.kind) (map (pair_at l.p.cells l.q.cells (λ i. i) (λ i. i)) (upto l.k))
-    l.initial.after.next)
-    l.initial.list l.initial.after l.cells l.list l.after
-
-abbrev pub decreases-loop-k : goal.decreases-loop-k
-decreases-loop-k l = l.size - l.k
+    EmitsCells l.k (each (pairing l.kind) (map (pair_at l.p.cells l.q.cells (λ i. i) (λ i. i)) (upto l.k)) l.initial.tape.next)
+    l.initial.list l.initial.tape l.cells l.list l.tape

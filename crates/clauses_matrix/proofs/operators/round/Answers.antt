@@ -1,4 +1,3 @@
--- `operators::round` meets its contract.
 use Rattle.relational.specs.declared.Binary.TheVariants.{Join as join, Union as union}
 use Rattle.clauses_rules.specs.Translation.{translate_binary}
 use Rattle.clauses_matrix.specs.Matrices.{matrix_of}
@@ -8,7 +7,6 @@ use Rattle.clauses_matrix.proofs.operators.round.Goals as goal
 
 pub returns : goal.returns
 returns c =
-    let start = c.before.before.before.before.before.before.before.before in
-    let p = matrix_of start.args.p in
+    let p = matrix_of c.args.p in
     emits-bind (translate_binary join p p) (translate_binary union p) (regular-binary join p p) (regular-binary union p)
-    c.join-made.ensures c.matched.ensures
+    c.join-joined.ensures c.matched.ensures
