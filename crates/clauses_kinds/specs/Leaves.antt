@@ -9,7 +9,7 @@ use Rattle.relational.specs.Meaning.{Environment}
 use Rattle.relational.specs.Matrices.{upto, Place, places, Matrix, set_of, relation_of, leaf_matrix}
 use Rattle.clauses_rules.specs.Translation.{constant, literal_at}
 use Rattle.clauses_emission.specs.Emission.{AllInside, literals_of, Bounded}
-use Rattle.clauses_matrix.specs.declared.Literals.{Literals}
+use Rattle.clauses_matrix.specs.Matrices.{Literals}
 use Rattle.clauses_matrix.specs.declared.MadeMatrix.{MadeMatrix}
 use Rattle.clauses_matrix.specs.Matrices.{matrix_of, Operand}
 

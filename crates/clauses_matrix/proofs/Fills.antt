@@ -137,24 +137,8 @@ abbrev pub pair_at : List ℤ → List ℤ → (ℕ → ℕ) → (ℕ → ℕ) �
 pair_at left right i j k = (literal_of (get_or left (i k) (pos 0)), literal_of (get_or right (j k) (pos 0)))
 
 -- ---- what the cells of a matrix go into
-pub size_fits : (r c : ℕ) → r ≤ 8 → c ≤ 8 → Fits w64 (r * c)
-size_fits r c h l = record { fits = omega (arith, square h l) }
-
 pub cell_below : (r c k : ℕ) → r ≤ 8 → c ≤ 8 → k < r * c → k < 64
 cell_below r c k h l b = omega (arith, square h l)
-
--- numbers that the machine takes
-pub fits-small : (k : ℕ) → k < 64 → Fits w64 k
-fits-small k h = record { fits = omega arith }
-
-pub fits-part : (i k : ℕ) → i + k < 64 → Fits w64 i
-fits-part i k h = record { fits = omega arith }
-
-pub fits-four : (k : ℕ) → k < 64 → Fits w64 (k * 4)
-fits-four k h = record { fits = omega arith }
-
-pub fits_next : (k : ℕ) → k < 64 → Fits w64 (k + 1)
-fits_next k h = record { fits = omega arith }
 
 pub place_in : (r c i j : ℕ) → r ≤ 8 → c ≤ 8 → i < r → j < c → i * c + j < 64
 place_in r c i j h l a b = cell_below r c (i * c + j) h l (place-below r c i j a b)
@@ -171,9 +155,6 @@ inputs-front k n ws h l a = record { few = omega (arith, length-take k ws); insi
 
 pub front-inputs : (size k n : ℕ) (ws : List ℤ) → 2 ≤ n → Cells size n ws → Inputs n (take k ws)
 front-inputs size k n ws h c = inputs-front k n ws h (omega (arith, c.room)) c.inside
-
-pub front_length : (size k n : ℕ) (ws : List ℤ) → Cells size n ws → k ≤ 64 → k ≡ length (take k ws)
-front_length size k n ws c h = sym (length-take-le k ws (omega (arith, c.room)))
 
 -- ---- a set on the right of a join is a column
 few_columns : (b : Bool) (c : ℕ) → c ≤ 8 → cond b 1 c ≤ 8

@@ -27,28 +27,6 @@ place-of i c j h =
     let m : (i * c + j) % c ≡ j = mul-add-mod_self_right i c j ∙ mod-eq_of_lt h in
     rw (d, m)
 
--- the place of number k, kept beside k: its column j, and the start of its row in a matrix of n columns
-pub record AtPlace (c n k start j : ℕ) : Type 0 where
-  pub row : start ≡ k / c * n
-  pub column : j ≡ k % c
-
-pub place-first : (c n : ℕ) → AtPlace c n 0 0 0
-place-first c n = record { row = rw (zero-div c, zero-mul n); column = sym (zero-mod c) }
-
-place_at : {c n : ℕ} (i j k start : ℕ) → k ≡ i * c + j → start ≡ i * n → j < c → AtPlace c n k start j
-place_at {c} {n} i j k start e f h =
-    let p : place_of c k ≡ (i, j) = rw e (place-of i c j h) in
-    record { row = f ∙ sym (ap (λ (t : Place). t.0 * n) p); column = sym (ap (λ (t : Place). t.1) p) }
-
--- the next place: in the same row, and in the next one
-module _ {c n k start j : ℕ} (a : AtPlace c n k start j) where
-  pub place-right : j < c → (j + 1 ≡ c → ⊥) → AtPlace c n (k + 1) start (j + 1)
-  place-right h e = place_at (k / c) (j + 1) (k + 1) start (omega (arith, div-add-mod' k c, a.column)) a.row (omega (arith, h, e))
-
-  pub place_down : j + 1 ≡ c → AtPlace c n (k + 1) (start + n) 0
-  place_down h =
-      place_at (suc (k / c)) 0 (k + 1) (start + n) (omega (arith, div-add-mod' k c, a.column)) (omega (arith, a.row)) (omega arith)
-
 -- one row
 row_of : (i c s n : ℕ) → s + n ≤ c → map {B = Place} (λ j. (i, j)) (from s n) ≡ map (place_of c) (from (i * c + s) n)
 row_of i c s zero h = refl

@@ -34,7 +34,7 @@ use Rattle.clauses_emission.specs.declared.Tape.{Tape}
 use Rattle.clauses_emission.specs.Emission.{Inside, AllInside, literals_of, Bounded, Over, Emits}
 use Rattle.clauses_emission.proofs.Steps.{regular-map, emits-return, emits-bind, emits-map, emits-as}
 use Rattle.clauses_emission.proofs.Ranges.{inside-opposite, inside-absent}
-use Rattle.clauses_matrix.specs.declared.Literals.{Literals}
+use Rattle.clauses_matrix.specs.Matrices.{Literals}
 use Rattle.clauses_matrix.specs.Matrices.{matrix_of, Operand, EmitsMatrix, EmitsBinary, EmitsUnary}
 use Rattle.clauses_matrix.proofs.Regulars.{regular-binary, regular-unary, regular-comparison, regular-test, regular-connective}
 use Rattle.clauses_matrix.proofs.Regulars.{regular-quantifier}

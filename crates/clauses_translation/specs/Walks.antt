@@ -14,7 +14,7 @@ use Rattle.clauses_rules.specs.Builder.{Builder, ◌<$>◌, each}
 use Rattle.clauses_rules.specs.Translation.{translate, translate_formula}
 use Rattle.clauses_emission.specs.declared.Tape.{Tape}
 use Rattle.clauses_emission.specs.Emission.{Inside, AllInside, literals_of, Bounded, Emits}
-use Rattle.clauses_matrix.specs.declared.Literals.{Literals}
+use Rattle.clauses_matrix.specs.Matrices.{Literals}
 use Rattle.clauses_matrix.specs.Matrices.{matrix_of, Operand}
 
 -- the walk can start
