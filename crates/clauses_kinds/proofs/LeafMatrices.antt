@@ -26,8 +26,7 @@ use Rattle.cells.proofs.Layouts.{set-rows}
 use Rattle.cells.proofs.Members.{bounded-upto}
 use Rattle.clauses_rules.specs.Translation.{constant, absent, literal_at}
 use Rattle.clauses_emission.specs.Emission.{Inside, AllInside, literals_of}
-use Rattle.clauses_matrix.specs.Matrices.{Literals}
-use Rattle.clauses_matrix.specs.Matrices.{matrix_of, Cells, cells_of, Operand}
+use Rattle.clauses_matrix.specs.Matrices.{Literals, matrix_of, Cells, cells_of, Operand}
 use Rattle.clauses_emission.proofs.Ranges.{literal-of, inside-absent}
 use Rattle.clauses_kinds.specs.Leaves.{Filled, LeafIs, Constants, Diagonal, row_matrix}
 use Rattle.clauses_kinds.proofs.Lists.{filled_is, filled-cells, filled-fine}

@@ -10,8 +10,6 @@ use lib.IntN.{ℤ, pos, negsuc}
 use lib.ListN.{length, get_or, take, set, replicate, length-set, length-map, length-take, length-replicate, get_or-replicate}
 use lib.ListN.{get_or-eq_default}
 use lib.Seq.{length-take-le, take-suc-set, get_or-take, get_or-set_other}
-use mir.Syntax.{w64}
-use mir.Val.{Fits}
 use borrow.Author.Tests.{ltb-true, ltb-false}
 use Rattle.prelude.proofs.Laws.{decided}
 use Rattle.literal.specs.Literals.{Literal}

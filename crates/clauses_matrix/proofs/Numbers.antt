@@ -1,9 +1,9 @@
 -- Places in row order, by their number: the place of number k is row k / columns, column k % columns.
-use mathlib.Core.Path.{◌≡◌, refl, sym, ap, ◌∙◌}
+use mathlib.Core.Path.{◌≡◌, refl, ap, ◌∙◌}
 use mathlib.Core.List.{List, ◌∷◌, ◌++◌, map, map-append}
 use Prim.Native.Nat.{ℕ, zero, suc, ◌+◌, ◌*◌, ◌/◌, ◌%◌, ◌≤◌, ◌<◌}
 use native.Mathlib.Nat.{add-zero, zero-mul, div-eq_of_lt, mod-eq_of_lt, mul-add-div_right}
-use native.Mathlib.Nat.{mul-add-mod_self_right, div-add-mod', zero-div, zero-mod}
+use native.Mathlib.Nat.{mul-add-mod_self_right}
 use native.Mathlib.Omega.{arith}
 use Rattle.relational.specs.Matrices.{from, upto, Place, places_from, places}
 

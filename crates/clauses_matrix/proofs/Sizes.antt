@@ -1,20 +1,14 @@
 -- The size of a join.
-use mathlib.Core.Path.{◌≡◌, ap, ◌∙◌}
-use mathlib.Core.Bool.{true, false, cond}
+use mathlib.Core.Path.{◌≡◌}
 use mathlib.Core.List.{List}
-use mathlib.Core.Logic.{⊎_elim}
-use Prim.Native.Nat.{ℕ, ◌+◌, ◌*◌, ◌≤◌}
-use native.Mathlib.Nat.{mul-one, one-mul}
-use native.Mathlib.Omega.{arith}
-use lib.Dec.{eqb}
+use Prim.Native.Nat.{ℕ, ◌+◌, ◌*◌}
+use native.Mathlib.Nat.{one-mul}
 use lib.IntN.{ℤ}
-use borrow.Author.Tests.{eq-eqb, ne_eqb, eqb-true, eqb-false}
-use Rattle.prelude.proofs.Laws.{decided}
+use borrow.Author.Tests.{eq-eqb, ne_eqb}
 use Rattle.literal.specs.Literals.{Literal}
 use Rattle.relational.specs.Matrices.{Matrix, join_columns, join_size, relation_of, set_of}
 use Rattle.clauses_matrix.specs.Matrices.{Literals}
-use Rattle.clauses_matrix.specs.Matrices.{cells_of, Cells, matrix_of, Operand}
-use Rattle.clauses_matrix.proofs.Fills.{join-few}
+use Rattle.clauses_matrix.specs.Matrices.{cells_of, matrix_of}
 
 module _ (p q : Literals) (columns : ℕ) (ws : List ℤ) (same : columns ≡ join_columns (matrix_of q)) where
   pub join-relation : p.arity + q.arity ≡ 4

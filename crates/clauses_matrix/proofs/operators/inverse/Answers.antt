@@ -1,7 +1,6 @@
 use Rattle.std.proofs.Common.{◌≡◌, ℕ, ◌+◌, ◌*◌, ◌<◌, List, map, get_or, refl, ap, ◌∙◌, pos, negsuc, arith, rules}
 use Rattle.literal.specs.Literals.{Literal}
 use Rattle.literal.specs.Words.{literal_of}
-use Rattle.literal.proofs.Signs.{back}
 use Rattle.relational.specs.Matrices.{Place, cell_at, places, relation_of}
 use Rattle.relational.proofs.Places.{square}
 use Rattle.clauses_rules.specs.Builder.{return}

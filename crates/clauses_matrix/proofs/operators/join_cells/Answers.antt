@@ -1,4 +1,4 @@
-use Rattle.std.proofs.Common.{◌*◌, ◌≤◌, ◌<◌, refl, add-one, arith, rules}
+use Rattle.std.proofs.Common.{◌*◌, refl, add-one, rules}
 use Rattle.literal.proofs.Signs.{back}
 use Rattle.relational.specs.Matrices.{middles}
 use Rattle.clauses_rules.specs.Translation.{absent}

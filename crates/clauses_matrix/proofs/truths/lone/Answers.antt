@@ -1,13 +1,11 @@
-use Rattle.std.proofs.Common.{◌≡◌, ℕ, ◌+◌, ◌*◌, ◌≤◌, ◌<◌, List, length, get_or, refl, sym, ap, ◌∙◌, ℤ, pos, arith, rules}
+use Rattle.std.proofs.Common.{◌≡◌, ℕ, ◌*◌, ◌≤◌, ◌<◌, length, get_or, refl, sym, pos, arith, rules}
 use lib.Seq.{length-take-le}
 use Rattle.literal.proofs.Signs.{back}
 use Rattle.relational.specs.Matrices as matrices
 use Rattle.clauses_rules.specs.Builder.{◌>>=◌, each}
 use Rattle.clauses_rules.specs.Gates.{or}
-use Rattle.clauses_rules.specs.Translation.{absent, both}
-use Rattle.clauses_emission.specs.declared.Tape.{Tape}
+use Rattle.clauses_rules.specs.Translation.{both}
 use Rattle.clauses_emission.specs.declared.Pairing.TheVariants.{Both}
-use Rattle.clauses_emission.specs.Emission.{EmitsLiteral, EmitsTwo}
 use Rattle.clauses_emission.proofs.Ranges.{inside-grows}
 use Rattle.clauses_emission.proofs.Ors.{emits-negated}
 use Rattle.clauses_emission.proofs.Steps.{regular-each, regular-pairing, regular-or, emits-bind, emits-as}
