@@ -15,7 +15,7 @@ use Rattle.sheet_rules.specs.Reading.{accepted, reading}
 use Rattle.sheet_rules.proofs.Acceptance.{accepted-facts}
 use Rattle.relational.specs.Cells.{most_cells, cell_count}
 use Rattle.relational.specs.Matrices.{upto}
-use Rattle.cells.specs.Private.{Starts, Located}
+use Rattle.cells.specs.Private.{Starts}
 use Rattle.nodes.specs.Environments.{environment}
 use Rattle.nodes.specs.Nodes.{IsFormula}
 use Rattle.nodes.proofs.Binding.{zero-atoms}
@@ -27,39 +27,39 @@ use Rattle.clauses_emission.specs.declared.Tape.{Tape}
 use Rattle.clauses_emission.specs.Emission.{Inside, AllInside, literals_of, Writes, Appends, Room, Bounded, Within, Emits}
 use Rattle.clauses_emission.proofs.Writes.{writes_then, writes_as, writes-length}
 use Rattle.clauses_emission.proofs.Steps.{emits-as}
-use Rattle.clauses_marks.specs.Marking.{Small, Adds, Given}
+use Rattle.clauses_marks.specs.Marking.{Small, Adds}
 use Rattle.clauses_translation.specs.Walks.{Ready, WalksFormula}
 use Rattle.clauses.specs.Translating.{CellWords, Translates}
 use Rattle.clauses.proofs.CellWords.{cells_inside_ok}
 
 -- an accepted sheet, and the words of its cells
-pub record Translatable (s : List ℕ) (layout : Layout) (given : List ℤ) (starts : List ℕ) : Type 0 where
-  pub located : Located s layout starts
+pub record Translatable (s : List ℕ) (layout : Layout) (given : List ℤ) : Type 0 where
+  pub taken : reading s ≡ accepted layout
   pub few : cell_count (sheet_of s) ≤ most_cells
   pub size : length given ≡ cell_count (sheet_of s)
   pub cells : literals_of given ≡ cell_literals (sheet_of s)
 
 pub translatable : {s : List ℕ} {layout : Layout} {n : ℕ} {starts : List ℕ} {ws : List ℤ} → reading s ≡ accepted layout
     → (n ≡ cell_count (sheet_of s)) × ((n ≤ most_cells) × Starts (sheet_of s) starts) → CellWords n ws
-    → Translatable s layout (take n ws) starts
+    → Translatable s layout (take n ws)
 translatable {n = n} {ws = ws} taken c w =
     record {
-      located = record { taken = taken; cells = c.1.1 };
+      taken = taken;
       few = rw (← c.0) c.1.0;
       size = length-take-le n ws (omega (arith, w.room, c.1.0)) ∙ c.0;
       cells = w.cells ∙ ap (λ (k : ℕ). map (λ (i : ℕ). positive (2 + i)) (upto k)) c.0;
     }
 
-module _ {s : List ℕ} {layout : Layout} {given : List ℤ} {starts : List ℕ} (t : Translatable s layout given starts) where
+module _ {s : List ℕ} {layout : Layout} {given : List ℤ} (t : Translatable s layout given) where
   -- ---- what the steps ask for
   pub root_is : IsFormula (sheet_of s) (root (sheet_of s))
-  root_is = root_formula (sheet_of s) (accepted-facts s layout t.located.taken)
+  root_is = root_formula (sheet_of s) (accepted-facts s layout t.taken)
 
   given_inside : {m : ℕ} → first_gate (sheet_of s) ≤ m → AllInside m (literals_of given)
   given_inside {m} h = rw t.cells (cells_inside_ok (cell_count (sheet_of s)) m h)
 
-  pub marks-given : Given s layout given starts
-  marks-given = record { located = t.located; size = t.size; inside = given_inside (omega (arith, t.few)) }
+  pub all-inside : AllInside 16002 (literals_of given)
+  all-inside = given_inside (omega (arith, t.few))
 
   module _ {start first : Tape} {old l₁ : List ℤ} (en : start.next ≡ first_gate (sheet_of s)) (ec : start.clauses ≡ 0)
       (ew : start.words ≡ 0) (p : Appends ((positive 1 ∷ []) ∷ []) old start l₁ first) where
@@ -94,9 +94,8 @@ module _ {s : List ℕ} {layout : Layout} {given : List ℤ} {starts : List ℕ}
           words = omega (arith, marked_next, first-words, o.few_words, q.few_words);
         }
 
-        pub root-ready : Ready s layout given starts marked
+        pub root-ready : Ready given marked
         root-ready = record {
-          located = t.located;
           bounded = bounded;
           inside = given_inside
               (omega (arith, marked_next));

@@ -7,6 +7,7 @@ ghost use Rattle.clauses.specs.Answers.{fits, answer_of, count_answer, write_ans
 ghost use Rattle.clauses.specs.Translating.{Numbered, size_answer};
 
 use answer::Size;
+use cells::Sheet;
 use clauses_emission::{LIMIT, Tape};
 use refusal::Refusal;
 use sheet::read;
@@ -38,7 +39,13 @@ fn count_accepted(sheet: &[u8], layout: Layout) -> Result<Size, Refusal>
     ensures { answer_of result ≡ count_answer sheet.now }
 {
     let mut nothing = [0i32; 1];
-    let tape = translate(&mut nothing[..0], sheet, layout);
+    let tape = translate(
+        &mut nothing[..0],
+        &Sheet {
+            bytes: sheet,
+            layout,
+        },
+    );
     size_of(tape)
 }
 
@@ -65,7 +72,13 @@ fn write_counted(
     if list.len() < size.words {
         return Err(Refusal::Short);
     }
-    let tape = translate(list, sheet, layout);
+    let tape = translate(
+        list,
+        &Sheet {
+            bytes: sheet,
+            layout,
+        },
+    );
     size_of(tape)
 }
 

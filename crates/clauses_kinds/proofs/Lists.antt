@@ -1,21 +1,19 @@
 -- Lists of words, and arrays filled cell by cell.
-use mathlib.Core.Path.{◌≡◌, refl, sym, ap, ◌∙◌}
+use mathlib.Core.Path.{◌≡◌, sym, ap, ◌∙◌}
 use mathlib.Core.List.{List, ◌++◌, map}
 use Prim.Native.Nat.{ℕ, ◌+◌, ◌-◌, ◌≤◌, ◌<◌}
 use native.Mathlib.Omega.{arith}
 use native.Mathlib.Decide.{ℕ_discrete, dec_lt}
-use lib.Dec.{eqb}
 use lib.IntN.{ℤ, pos, negsuc}
 use lib.ListN.{length, get_or, set, take, drop, replicate, length-set, length-map, get_or-replicate, length-replicate}
 use lib.ListN.{get_or-eq_default, length-append, get_or-append}
 use lib.Seq.{get_or-set_same, get_or-set_other, get_or-take, length-take-le, ext_get_or}
-use borrow.Author.Tests.{eq-eqb, ne_eqb}
 use Rattle.std.proofs.lemmas.List.{drop-replicate, get_or-append_right}
 use Rattle.literal.specs.Literals.{Literal}
 use Rattle.literal.specs.Words.{literal_of}
 use Rattle.relational.specs.Matrices.{from, upto}
 use Rattle.relational.proofs.Places.{upto-at, length-map-from, from_at}
-use Rattle.clauses_rules.specs.Translation.{constant, absent}
+use Rattle.clauses_rules.specs.Translation.{absent}
 use Rattle.clauses_emission.specs.Emission.{Inside, literals_of}
 use Rattle.clauses_matrix.specs.Matrices.{Cells, cells_of}
 use Rattle.clauses_emission.proofs.Ors.{length-literals}
@@ -56,6 +54,16 @@ module _ (f : ℕ → Literal) where
             get_or-append_right ws rest n i (pos 0) e p ∙ get_or-replicate (64 - n) (i - n) (negsuc 0) (pos 0) (omega arith);
       })
 
+  -- the words that follow are -1s
+  pub filled-wider : {k n : ℕ} {ws : List ℤ} → Filled f k ws → k ≤ n → n ≤ 64 → ((i : ℕ) → k ≤ i → i < n → f i ≡ absent)
+      → Filled f n ws
+  filled-wider {k} {n} {ws} h l m off =
+      record { room = h.room; done = λ i p. at i p (dec_lt i k); rest = λ i p q. h.rest i (omega arith) q }
+    where
+      at : (i : ℕ) → i < n → Dec (i < k) → literal_of (get_or ws i (pos 0)) ≡ f i
+      at i p (yes q) = h.done i q
+      at i p (no q) = ap literal_of (h.rest i (omega arith) (omega arith)) ∙ sym (off i (omega arith) p)
+
   pub filled-cell : {n : ℕ} {ws : List ℤ} → Filled f n ws → n ≤ 64 → (i : ℕ) → i < n → get_or (cells_of n ws) i absent ≡ f i
   filled-cell {n} {ws} h l i p =
       let q : length (take n ws) ≡ n = length-take-le n ws (omega (arith, h.room)) in
@@ -88,35 +96,6 @@ module _ (f : ℕ → Literal) where
       at i (yes p) (yes q) = rw (literal-at ws i (omega (arith, h.room)), h.done i q) (inside i q)
       at i (yes p) (no q) = rw (literal-at ws i (omega (arith, h.room)), h.rest i (omega arith) p) (inside-absent m two)
       at i (no p) d = rw (← literal-of ws i, get_or-eq_default ws (negsuc 0) {n = i} (omega (arith, h.room))) (inside-absent m two)
-
--- one literal of true
-module _ (n a : ℕ) (few : n ≤ 8) where
-  pub filled_one : a < n → Filled (λ i. constant (eqb i a)) n (set (replicate 64 (negsuc 0)) a (pos 1))
-  filled_one h =
-      record {
-        room = length-set (replicate 64 (negsuc 0)) a (pos 1) ∙ length-replicate 64 (negsuc 0);
-        done = λ i p. at i p (ℕ_discrete i a);
-        rest = λ i p q.
-            get_or-set_other (replicate 64 (negsuc 0)) a i (pos 1) (pos 0) (λ z. absurd (omega arith))
-            ∙ get_or-replicate 64 i (negsuc 0) (pos 0) q;
-      }
-    where
-      at : (i : ℕ) → i < n → Dec (i ≡ a) → literal_of (get_or (set (replicate 64 (negsuc 0)) a (pos 1)) i (pos 0)) ≡ constant (eqb i a)
-      at i p (yes z) =
-          rw (z, eq-eqb a a refl)
-          (ap literal_of (get_or-set_same (replicate 64 (negsuc 0)) a (pos 1) (pos 0) (omega (arith, length-replicate 64 (negsuc 0)))))
-      at i p (no z) =
-          rw (ne_eqb i a z)
-          (ap literal_of (get_or-set_other (replicate 64 (negsuc 0)) a i (pos 1) (pos 0) z
-          ∙ get_or-replicate 64 i (negsuc 0) (pos 0) (omega arith)))
-
-  pub filled_no : n ≤ a → Filled (λ i. constant (eqb i a)) n (replicate 64 (negsuc 0))
-  filled_no h = record {
-    room = length-replicate 64 (negsuc 0);
-    done = λ i p.
-        rw (ne_eqb i a (λ z. omega arith)) (ap literal_of (get_or-replicate 64 i (negsuc 0) (pos 0) (omega arith)));
-    rest = λ i p q. get_or-replicate 64 i (negsuc 0) (pos 0) q;
-  }
 
 -- a part of the literals, copied
 module _ (words : List ℤ) {n : ℕ} (cells : List Literal) (first : ℕ)

@@ -9,7 +9,10 @@ use native.Mathlib.Omega.{arith}
 use lib.IntN.{ℤ, pos}
 use lib.ListN.{length, get_or, take, drop}
 use lib.Seq.{drop-cons}
-use Rattle.sheet_rules.specs.Blocks.{Sheet, sort_count, scope, is_bounded, relation_count}
+use Rattle.sheet_rules.specs.declared.Layout.{Layout}
+use Rattle.sheet_rules.specs.Blocks.{Sheet, sheet_of, sort_count, scope, is_bounded, relation_count}
+use Rattle.sheet_rules.specs.Reading.{accepted, reading}
+use Rattle.sheet_rules.proofs.Acceptance.{accepted-facts}
 use Rattle.relational.specs.Cells.{row_count, row_length, members_of, first_member, first_cell, cell_count}
 use Rattle.relational.specs.Matrices.{from}
 use Rattle.relational.proofs.Scopes.{bounded-there}
@@ -52,3 +55,7 @@ module _ (sheet : Sheet) where
     where
       rows-below : (m n i : ℕ) → i < m → i * n + n ≤ m * n
       rows-below m n i h = omega (arith, mul-le-mul_right n h)
+
+-- an accepted sheet has few relations
+pub low-relation : (s : List ℕ) (layout : Layout) (r : ℕ) → reading s ≡ accepted layout → r < relation_count (sheet_of s) → r < 256
+low-relation s layout r taken h = omega (arith, (accepted-facts s layout taken).counts.few_relations)

@@ -3,7 +3,8 @@ ghost use Rattle.std.specs.Prelude.{◌≡◌, true, map, ◌+◌, ◌*◌, ◌�
 ghost use Rattle.literal.specs.Words.{literal_of};
 ghost use Rattle.sheet_rules.specs.Blocks as spec;
 ghost use Rattle.sheet_rules.specs.Blocks.{relation_count, sheet_of};
-ghost use Rattle.relational.specs.Cells.{most_cells, cell_count, cells_of, first_cell, first_member, member_cell, row_count};
+ghost use Rattle.relational.specs.Cells.{most_cells, cell_count, cells_of, row_count};
+ghost use Rattle.relational.specs.Cells.{first_cell, first_member, member_cell};
 ghost use Rattle.relational.specs.Matrices.{from};
 ghost use Rattle.cells.specs.Private.{Starts};
 ghost use Rattle.clauses_rules.specs.Translation.{literal_at};

@@ -89,7 +89,3 @@ module _ (s : List ℕ) (layout : Layout) (taken : reading s ≡ accepted layout
         members = row-members;
         some = record { some = rw row-long (accepted-rows s layout taken r there) };
       }
-
--- its relations are few
-pub low-relation : (s : List ℕ) (layout : Layout) (r : ℕ) → reading s ≡ accepted layout → r < relation_count (sheet_of s) → r < 256
-low-relation s layout r taken h = omega (arith, (accepted-facts s layout taken).counts.few_relations)

@@ -52,7 +52,8 @@ fn cell_clauses(
     requires small { Small 80000 tape }
     requires inside { Inside 16002 (literal_of cell) × ((r < 256) × ((i < 8) × (j < 8))) }
     ensures { Adds 6
-        (column_clauses (sheet_of source.now.sheet.bytes.now) (literals_of source.now.given.now) (literal_of cell) r i j)
+        (column_clauses (sheet_of source.now.sheet.bytes.now) (literals_of source.now.given.now)
+        (literal_of cell) r i j)
         list.old tape list.new result }
 {
     let first = source.sheet.first_sort(r);

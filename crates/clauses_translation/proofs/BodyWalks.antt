@@ -1,10 +1,9 @@
 -- The walks of a binder's body, atom by atom.
-use mathlib.Core.Path.{◌≡◌, refl}
+use mathlib.Core.Path.{◌≡◌}
 use mathlib.Core.List.{List, map, map-id}
 use Prim.Native.Nat.{ℕ, ◌+◌, ◌≤◌, ◌<◌}
 use native.Mathlib.Nat.{one-mul}
 use native.Mathlib.Numerals.{add-one}
-use native.Mathlib.Omega.{arith}
 use lib.IntN.{ℤ, negsuc}
 use lib.ListN.{set, replicate}
 use Rattle.literal.specs.Literals.{Literal}
@@ -21,6 +20,8 @@ use Rattle.clauses_emission.specs.Emission.{literals_of, Bounded, EmitsLiteral}
 use Rattle.clauses_emission.proofs.Steps.{emits-map}
 use Rattle.clauses_matrix.specs.Matrices.{Cells, cells_of, EmitsCells}
 use Rattle.clauses_matrix.proofs.Fills.{cells-start, cells-next}
+use Rattle.clauses_kinds.specs.Leaves.{row_matrix}
+use Rattle.clauses_kinds.proofs.LeafMatrices.{row-fine}
 use Rattle.clauses_translation.specs.Walks.{Walks, WalksFormula, WalksBodies}
 use Rattle.clauses_translation.proofs.Regulars.{regular-formula}
 
@@ -53,7 +54,7 @@ module _ (sheet : Sheet) (given : List ℤ) (env : List ℕ) (v : ℕ) (old : Li
         })
 
     pub done_all : {n : ℕ} → n ≡ scope sheet (sort_of sheet x) → k ≡ n → n ≤ 8
-        → WalksBodies sheet given env v old before x (record { arity = 1; rows = 1; columns = n; cells = words }) mid middle
+        → WalksBodies sheet given env v old before x (row_matrix n words) mid middle
     done_all {n} en ek small =
         record {
           walks = λ f t.
@@ -62,12 +63,5 @@ module _ (sheet : Sheet) (given : List ℤ) (env : List ℕ) (v : ℕ) (old : Li
               let q = rw (map-id (upto n)) at p in
               rw (← en)
               (emits-map (set_of n) (each (body_at f) (upto n)) q (rw (one-mul n))
-              (record {
-                arity_low = omega arith;
-                arity_high = omega arith;
-                set = λ e. refl;
-                rows = omega arith;
-                columns = small;
-                cells = rw (one-mul n) p.fine;
-              }));
+              (row-fine small p.fine));
         }

@@ -4,7 +4,6 @@ use mathlib.Core.List.{List}
 use Prim.Native.Nat.{ℕ, ◌≤◌}
 use lib.IntN.{ℤ}
 use lib.ListN.{length}
-use Rattle.sheet_rules.specs.declared.Layout.{Layout}
 use Rattle.sheet_rules.specs.Blocks.{Sheet}
 use Rattle.relational.specs.Trees.{Tree, symbol_of}
 use Rattle.relational.specs.declared.Symbol.{Symbol}
@@ -33,11 +32,10 @@ module _ {T A : Type 0} {made : T → Tree} {translation : T → Builder A} {she
   finished = let e = w.walks i.it i.is in (e.bounded, e.fine)
 
   -- the tape that it leaves serves the next
-  pub ready-after : {s : List ℕ} {layout : Layout} {given : List ℤ} {starts : List ℕ} → Ready s layout given starts before
-      → Ready s layout given starts after
+  pub ready-after : {given : List ℤ} → Ready given before → Ready given after
   ready-after {given = given} r =
       let e = w.walks i.it i.is in
-      record { located = r.located; bounded = e.bounded; inside = all-grows (literals_of given) e.grows r.inside }
+      record { bounded = e.bounded; inside = all-grows (literals_of given) e.grows r.inside }
 
   -- what was fine for the walk before it still is
   pub both-finished : {G : ℕ → Type 0} → ((n m : ℕ) → n ≤ m → G n → G m) → G before.next

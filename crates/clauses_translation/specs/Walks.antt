@@ -2,12 +2,10 @@
 -- No public contract reaches this file: nothing here needs belief.
 use Rattle.std.specs.Prelude.{◌≡◌, List, ℕ, ℤ}
 use Rattle.literal.specs.Literals.{Literal}
-use Rattle.sheet_rules.specs.declared.Layout.{Layout}
 use Rattle.sheet_rules.specs.Blocks.{Sheet, scope, sort_of}
 use Rattle.relational.specs.Trees.{Expression, Formula, Tree, expression, formula}
 use Rattle.relational.specs.Meaning.{Environment, bind}
 use Rattle.relational.specs.Matrices.{upto, Matrix, set_of}
-use Rattle.cells.specs.Private.{Located}
 use Rattle.nodes.specs.Environments.{environment}
 use Rattle.nodes.specs.Nodes.{tree_at}
 use Rattle.clauses_rules.specs.Builder.{Builder, ◌<$>◌, each}
@@ -17,9 +15,8 @@ use Rattle.clauses_emission.specs.Emission.{Inside, AllInside, literals_of, Boun
 use Rattle.clauses_matrix.specs.Matrices.{Literals}
 use Rattle.clauses_matrix.specs.Matrices.{matrix_of, Operand}
 
--- the walk can start
-pub record Ready (sheet : List ℕ) (layout : Layout) (given : List ℤ) (starts : List ℕ) (tape : Tape) : Type 0 where
-  pub located : Located sheet layout starts
+-- the walk can start over the literals of the cells
+pub record Ready (given : List ℤ) (tape : Tape) : Type 0 where
   pub bounded : Bounded tape
   pub inside : AllInside tape.next (literals_of given)
 

@@ -11,18 +11,12 @@ use Rattle.literal.specs.Words.{literal_of}
 use Rattle.literal.proofs.Signs.{read, back}
 use Rattle.clauses_rules.specs.Gates.{Clause}
 use Rattle.clauses_emission.proofs.Ranges.{opposite-read}
-use Rattle.clauses_marks.proofs.Adding.{adds_none, adds-as, adds-most, adds-small, small-room, adds_then, adds_one}
+use Rattle.clauses_marks.proofs.Adding.{adds_none, adds-as, adds-most, adds_then, adds_one}
 use Rattle.clauses_marks.proofs.Rows.{with-next, member-inside}
 use Rattle.clauses_marks.proofs.pairs_with.Goals as goal
 
 pub loop-q-init : goal.loop-q-init
 loop-q-init c = adds_none c.args.list.now c.args.tape
-
-pub emit_clause-after-requires : goal.emit_clause-after-requires
-emit_clause-after-requires c =
-    let loop = c.loop-q in
-    small-room _ (omega arith)
-    (adds-small loop.invariant c.requires.small (omega (arith, c.loop-q-test.true, c.requires.members.few)))
 
 pub loop-q-preserved : goal.loop-q-preserved
 loop-q-preserved c =

@@ -1,5 +1,6 @@
 use mathlib.Core.Path.{refl}
-use Rattle.clauses_marks.proofs.Relations.{series-start, series-next, low-relation}
+use Rattle.clauses_kinds.proofs.Sources.{low-relation}
+use Rattle.clauses_marks.proofs.Relations.{series-start, series-next}
 use Rattle.clauses_marks.proofs.relation_marks.Goals as goal
 
 pub row_count-i-end-requires : goal.row_count-i-end-requires

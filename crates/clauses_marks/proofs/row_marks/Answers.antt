@@ -4,27 +4,24 @@ use native.Mathlib.Omega.{arith}
 use Rattle.sheet_rules.specs.Blocks.{sheet_of, multiplicity}
 use Rattle.clauses_rules.specs.Whole.{row_members, row_literals}
 use Rattle.clauses_emission.specs.Emission.{literals_of}
-use Rattle.clauses_marks.proofs.Adding.{adds_none, adds-as, adds-most, adds-small, adds_then}
-use Rattle.clauses_marks.proofs.Relations.{low-relation, row-of, row-members, row_same}
-use Rattle.clauses_marks.proofs.Rows.{free-row, lone_row, one-row}
+use Rattle.clauses_kinds.proofs.Sources.{low-relation}
+use Rattle.clauses_marks.proofs.Adding.{adds_none, adds-as, adds-most, adds_then}
+use Rattle.clauses_marks.proofs.Relations.{row-of, row-members, row_same}
+use Rattle.clauses_marks.proofs.Rows.{free-row, one-row}
 use Rattle.clauses_marks.proofs.row_marks.Goals as goal
 
 pub multiplicity-mark-requires : goal.multiplicity-mark-requires
 multiplicity-mark-requires c = low-relation _ _ c.args.r c.args.source.now.sheet.taken c.requires.r_bound
 
-pub row_pairs-after-requires : goal.row_pairs-after-requires
-row_pairs-after-requires c =
-    let s = c.args.source.now in record {
-      small = record { clauses = omega (arith, c.requires.small.clauses); words = omega (arith, c.requires.small.words) };
-      members = row-members _ _ s.sheet.taken _ s.inside c.args.r c.args.i c.requires.r_bound _ c.row-row.ensures;
-    }
+pub row_pairs-after-requires-clause-members : goal.row_pairs-after-requires-clause-members
+row_pairs-after-requires-clause-members c =
+    let s = c.args.source.now in
+    row-members _ _ s.sheet.taken _ s.inside c.args.r c.args.i c.requires.r_bound _ c.row-row.ensures
 
-pub row_clause-requires : goal.row_clause-requires
-row_clause-requires c =
-    let s = c.args.source.now in record {
-      small = adds-small c.row_pairs-after.ensures c.requires.small (omega arith);
-      row_of = row-of _ _ s.sheet.taken _ s.inside c.args.r c.args.i c.requires.r_bound _ c.row-row.ensures c.requires.i_bound;
-    }
+pub row_clause-requires-clause-row_of : goal.row_clause-requires-clause-row_of
+row_clause-requires-clause-row_of c =
+    let s = c.args.source.now in
+    row-of _ _ s.sheet.taken _ s.inside c.args.r c.args.i c.requires.r_bound _ c.row-row.ensures c.requires.i_bound
 
 pub returns-then-mark-eq0 : goal.returns-then-mark-eq0
 returns-then-mark-eq0 c =
@@ -35,18 +32,6 @@ returns-then-mark-eq0 c =
     (adds-as (adds_none a.list.now a.tape)
     (free-row (row_members sheet cells a.r a.i) (row_literals sheet cells a.r a.i) (multiplicity sheet a.r)
     (sym c.multiplicity-mark.ensures ∙ c.if-mark-eq0.true)))
-    (omega arith)
-
-pub returns-then-mark-eq1 : goal.returns-then-mark-eq1
-returns-then-mark-eq1 c =
-    let a = c.args in
-    let sheet = sheet_of a.source.now.sheet.bytes.now in
-    let cells = literals_of a.source.now.given.now in
-    adds-most
-    (adds-as c.row_pairs-after.ensures
-    (lone_row (row_members sheet cells a.r a.i) (literals_of c.row-row.result.now) (multiplicity sheet a.r)
-    (sym c.multiplicity-mark.ensures ∙ c.if-mark-eq1.true)
-    ∙ row_same (multiplicity sheet a.r) (row_members sheet cells a.r a.i) c.row-row.ensures))
     (omega arith)
 
 pub returns : goal.returns

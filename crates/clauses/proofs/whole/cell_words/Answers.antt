@@ -9,6 +9,6 @@ pub loop-i-preserved : goal.loop-i-preserved
 loop-i-preserved c =
     let i = c.loop-i.i in
     let h : i < most_cells = omega (arith, c.requires, c.loop-i-test.true) in
-    let w = c.positive-l.result in
-    let more = words_more w c.loop-i.invariant.1 h (word-is i w h c.positive-l.ensures) in
-    (omega arith, rw (back w (record { sfits = c.positive-l.type_inv })) more)
+    let w = c.positive.result in
+    let more = words_more w c.loop-i.invariant h (word-is i w h c.positive.ensures) in
+    rw (back w (record { sfits = c.positive.type_inv })) more

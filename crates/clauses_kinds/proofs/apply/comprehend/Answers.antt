@@ -8,13 +8,8 @@ use Rattle.clauses_emission.proofs.Steps.{emits-as}
 use Rattle.clauses_matrix.specs.Matrices.{matrix_of}
 use Rattle.clauses_kinds.proofs.apply.comprehend.Goals as goal
 
-pub matched-requires : goal.matched-requires
-matched-requires c =
-    let b = c.requires in record {
-      bounded = b.bounded;
-      operand = (c.range.ensures (λ x. 0)).fine _ b.inside;
-      operand_2 = b.fine;
-    }
+pub matched-requires-clause-operand : goal.matched-requires-clause-operand
+matched-requires-clause-operand c = (c.range.ensures (λ x. 0)).fine _ c.requires.inside
 
 pub returns : goal.returns
 returns c env =

@@ -8,13 +8,8 @@ use Rattle.clauses_emission.proofs.Steps.{emits-as, emits-read}
 use Rattle.clauses_matrix.specs.Matrices.{matrix_of}
 use Rattle.clauses_kinds.proofs.apply.quantify_over.Goals as goal
 
-pub quantify-requires : goal.quantify-requires
-quantify-requires c =
-    let b = c.requires in record {
-      bounded = b.bounded;
-      operand = (c.range.ensures (λ x. 0)).fine _ b.inside;
-      operand_2 = b.fine;
-    }
+pub quantify-requires-clause-operand : goal.quantify-requires-clause-operand
+quantify-requires-clause-operand c = (c.range.ensures (λ x. 0)).fine _ c.requires.inside
 
 pub returns : goal.returns
 returns c env =

@@ -1,20 +1,20 @@
 use mathlib.Core.Path.{refl}
-use native.Mathlib.Omega.{arith}
 use Rattle.sheet_rules.proofs.Acceptance.{accepted-facts}
 use Rattle.relational.proofs.Places.{square}
 use Rattle.clauses_emission.specs.Emission.{literals_of}
 use Rattle.clauses_kinds.proofs.LeafMatrices.{relation-from}
 use Rattle.clauses_kinds.proofs.Lists.{part-length, filled-part}
+use Rattle.clauses_kinds.proofs.Sources.{low-relation}
 use Rattle.clauses_kinds.proofs.leaves.relation.Goals as goal
 
 pub arity-requires : goal.arity-requires
-arity-requires c = omega (arith, (accepted-facts _ _ c.args.source.now.sheet.taken).counts.few_relations)
+arity-requires c = low-relation _ _ c.args.r c.args.source.now.sheet.taken c.requires
 
 pub row_count-requires : goal.row_count-requires
-row_count-requires c = omega (arith, (accepted-facts _ _ c.args.source.now.sheet.taken).counts.few_relations)
+row_count-requires c = low-relation _ _ c.args.r c.args.source.now.sheet.taken c.requires
 
 pub row_length-requires : goal.row_length-requires
-row_length-requires c = omega (arith, (accepted-facts _ _ c.args.source.now.sheet.taken).counts.few_relations)
+row_length-requires c = low-relation _ _ c.args.r c.args.source.now.sheet.taken c.requires
 
 pub copied-requires : goal.copied-requires
 copied-requires c =

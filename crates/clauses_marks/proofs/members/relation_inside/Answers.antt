@@ -11,9 +11,10 @@ use Rattle.cells.proofs.Members.{full-first, full-second}
 use Rattle.clauses_rules.specs.Gates.{Clause}
 use Rattle.clauses_rules.specs.Whole.{series, cell_members, cell_clauses}
 use Rattle.clauses_emission.specs.Emission.{literals_of}
+use Rattle.clauses_kinds.proofs.Sources.{low-relation}
 use Rattle.clauses_marks.specs.Marking.{row_inside, relation_inside}
 use Rattle.clauses_marks.proofs.Adding.{adds_none, adds-as, adds-most}
-use Rattle.clauses_marks.proofs.Relations.{series-start, series-next, low-relation}
+use Rattle.clauses_marks.proofs.Relations.{series-start, series-next}
 use Rattle.clauses_marks.proofs.members.relation_inside.Goals as goal
 
 series-none : (n : ℕ) (f : ℕ → List Clause) → ((i : ℕ) → f i ≡ []) → series n f ≡ []

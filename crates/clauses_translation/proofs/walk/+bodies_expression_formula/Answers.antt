@@ -5,12 +5,12 @@ use mathlib.Core.Path.{◌≡◌}
 use mathlib.Core.List.{List}
 use Prim.Native.Nat.{ℕ}
 use native.Mathlib.Omega.{arith}
-use lib.IntN.{ℤ}
 use mir.Syntax.{w32}
 use mir.Val.{SFits}
 use Rattle.literal.proofs.Signs.{back}
 use Rattle.sheet_rules.specs.declared.Layout.{Layout}
 use Rattle.sheet_rules.specs.Blocks.{sheet_of}
+use Rattle.sheet_rules.specs.Reading.{accepted, reading}
 use Rattle.sheet_rules.proofs.Acceptance.{accepted-facts}
 use Rattle.nodes.specs.declared.forms.Node.{Node}
 use Rattle.nodes.specs.Environments.{environment}
@@ -18,10 +18,8 @@ use Rattle.nodes.specs.Nodes.{node_at, IsExpression, IsFormula}
 use Rattle.nodes.proofs.Views.{Reached, expression-low, formula-low}
 use Rattle.nodes.proofs.ExpressionViews.{at_leaf, at-binary, at-unary, at-comprehension}
 use Rattle.nodes.proofs.FormulaViews.{at-comparison, at_test, at-negation, at-connective, at-quantifier}
-use Rattle.clauses_emission.specs.declared.Tape.{Tape}
 use Rattle.clauses_emission.proofs.Ranges.{inside-grows}
 use Rattle.clauses_matrix.proofs.Fills.{operand-grow}
-use Rattle.clauses_translation.specs.Walks.{Ready}
 use Rattle.clauses_translation.proofs.Walking.{finished, ready-after, both-finished}
 use Rattle.clauses_translation.proofs.NodeWalks.{expression-over, leaf-walks, binary-walks, unary-walks}
 use Rattle.clauses_translation.proofs.NodeWalks.{comprehension-walks, formula-over, comparison-walks, test-walks}
@@ -30,72 +28,70 @@ use Rattle.clauses_translation.proofs.BodyWalks.{done_none, done_more, done_all}
 use Rattle.clauses_translation.proofs.walk.+bodies_expression_formula.Goals as goal
 
 -- the node that the walk has read
-module _ {s : List ℕ} {layout : Layout} {given : List ℤ} {starts : List ℕ} {tape : Tape}
-    (r : Ready s layout given starts tape)
-    {v : ℕ} {node : Node} (e : node ≡ node_at (sheet_of s).nodes v) where
+module _ (s : List ℕ) (layout : Layout) (taken : reading s ≡ accepted layout) {v : ℕ} {node : Node}
+    (e : node ≡ node_at (sheet_of s).nodes v) where
   expression_node : IsExpression (sheet_of s) v → Reached (sheet_of s) v node IsExpression
-  expression_node i = record { facts = accepted-facts _ _ r.located.taken; read = e; tree = i }
+  expression_node i = record { facts = accepted-facts s layout taken; read = e; tree = i }
 
   formula_node : IsFormula (sheet_of s) v → Reached (sheet_of s) v node IsFormula
-  formula_node i = record { facts = accepted-facts _ _ r.located.taken; read = e; tree = i }
+  formula_node i = record { facts = accepted-facts s layout taken; read = e; tree = i }
 
 pub bodies-loop-i-init : goal.bodies-loop-i-init
-bodies-loop-i-init t c = (omega arith, done_none _ _ _ _ _ _ _ c.requires.ready.bounded)
+bodies-loop-i-init t c = done_none _ _ _ _ _ _ _ c.requires.ready.bounded
 
 pub bodies-formula-made-requires : goal.bodies-formula-made-requires
 bodies-formula-made-requires t c =
     let r = c.requires in
-    (omega (arith, c.decreases), (ready-after c.loop-i.invariant.1.walk r.formula r.ready, r.formula))
+    (omega (arith, c.decreases), (ready-after c.loop-i.invariant.walk r.formula r.ready, r.formula))
 
 pub bodies-loop-i-preserved : goal.bodies-loop-i-preserved
 bodies-loop-i-preserved t c =
-    let l : SFits w32 c.formula-made.result.literal = search rules in (
-      omega arith,
-      done_more _ _ _ _ _ _ _ c.loop-i.invariant.1 c.bind-inner.result c.formula-made.ensures c.bind-inner.ensures
-          (omega (arith, c.scope_of_variable-columns.ensures.1, c.loop-i-test.true)) (back _ l),
-    )
+    let l : SFits w32 c.formula-made.result.literal = search rules in
+    done_more _ _ _ _ _ _ _ c.loop-i.invariant c.bind.result c.formula-made.ensures c.bind.ensures
+    (omega (arith, c.scope_of_variable-columns.ensures.1, c.loop-i-test.true)) (back _ l)
 
 pub bodies-returns : goal.bodies-returns
 bodies-returns t c =
     let n = c.scope_of_variable-columns.ensures in
-    done_all _ _ _ _ _ _ _ c.loop-i.invariant.1 n.0 (omega (arith, c.loop-i.invariant.0, c.loop-i-test.false)) n.1
+    rw c.set.ensures
+    (done_all _ _ _ _ _ _ _ c.loop-i.invariant n.0 (omega (arith, c.loop-i.auto.i-end, c.loop-i-test.false)) n.1)
 
 pub expression-returns-then-tape-gt-LIMIT : goal.expression-returns-then-tape-gt-LIMIT
 expression-returns-then-tape-gt-LIMIT t c =
-    expression-over c.args.given.now c.args.env c.requires.ready.bounded c.if-tape-gt-LIMIT.true
+    expression-over c.args.source.now.given.now c.args.env c.requires.ready.bounded c.if-tape-gt-LIMIT.true
     c.nothing-matrix.ensures
 
 pub formula-returns-then-tape-gt-LIMIT : goal.formula-returns-then-tape-gt-LIMIT
 formula-returns-then-tape-gt-LIMIT t c =
-    formula-over c.args.given.now c.args.env c.requires.ready.bounded c.if-tape-gt-LIMIT.true
+    formula-over c.args.source.now.given.now c.args.env c.requires.ready.bounded c.if-tape-gt-LIMIT.true
 
-pub expression-read_node-node-requires-clause-v_bound : goal.expression-read_node-node-requires-clause-v_bound
-expression-read_node-node-requires-clause-v_bound t c =
-    expression-low (accepted-facts _ _ c.requires.ready.located.taken) c.requires.expression
+pub expression-read_node-node-requires : goal.expression-read_node-node-requires
+expression-read_node-node-requires t c =
+    expression-low (accepted-facts _ _ c.args.source.now.sheet.taken) c.requires.expression
 
-pub formula-read_node-node-requires-clause-v_bound : goal.formula-read_node-node-requires-clause-v_bound
-formula-read_node-node-requires-clause-v_bound t c =
-    formula-low (accepted-facts _ _ c.requires.ready.located.taken) c.requires.formula
+pub formula-read_node-node-requires : goal.formula-read_node-node-requires
+formula-read_node-node-requires t c =
+    formula-low (accepted-facts _ _ c.args.source.now.sheet.taken) c.requires.formula
 
-pub expression-leaf-matrix-requires-clause-a_bound : goal.expression-leaf-matrix-requires-clause-a_bound
-expression-leaf-matrix-requires-clause-a_bound t c =
-    (at_leaf (expression_node c.requires.ready c.read_node-node.ensures.0 c.requires.expression) c.in-Leaf.is).names
+pub expression-leaf-matrix-requires : goal.expression-leaf-matrix-requires
+expression-leaf-matrix-requires t c =
+    (at_leaf (expression_node _ _ c.args.source.now.sheet.taken c.read_node-node.ensures.0 c.requires.expression) c.in-Leaf.is).names
 
 pub expression-expression-p-requires : goal.expression-expression-p-requires
 expression-expression-p-requires t c =
-    let b = at-binary (expression_node c.requires.ready c.read_node-node.ensures.0 c.requires.expression)
+    let b = at-binary (expression_node _ _ c.args.source.now.sheet.taken c.read_node-node.ensures.0 c.requires.expression)
     c.in-Binary.is in
     (omega (arith, b.lower_a, c.decreases), (c.requires.ready, b.left))
 
 pub expression-expression-q-requires : goal.expression-expression-q-requires
 expression-expression-q-requires t c =
-    let b = at-binary (expression_node c.requires.ready c.read_node-node.ensures.0 c.requires.expression)
+    let b = at-binary (expression_node _ _ c.args.source.now.sheet.taken c.read_node-node.ensures.0 c.requires.expression)
     c.in-Binary.is in
     (omega (arith, b.lower_b, c.decreases), (ready-after c.expression-p.ensures b.left c.requires.ready, b.right))
 
 pub expression-binary-requires : goal.expression-binary-requires
 expression-binary-requires t c =
-    let b = at-binary (expression_node c.requires.ready c.read_node-node.ensures.0 c.requires.expression)
+    let b = at-binary (expression_node _ _ c.args.source.now.sheet.taken c.read_node-node.ensures.0 c.requires.expression)
     c.in-Binary.is in
     let e = both-finished c.expression-q.ensures b.right (λ _ _. operand-grow)
     (finished c.expression-p.ensures b.left).1 in
@@ -103,68 +99,68 @@ expression-binary-requires t c =
 
 pub expression-expression-p-requires-in-Unary : goal.expression-expression-p-requires-in-Unary
 expression-expression-p-requires-in-Unary t c =
-    let b = at-unary (expression_node c.requires.ready c.read_node-node.ensures.0 c.requires.expression) c.in-Unary.is
+    let b = at-unary (expression_node _ _ c.args.source.now.sheet.taken c.read_node-node.ensures.0 c.requires.expression) c.in-Unary.is
     in
     (omega (arith, b.lower_a, c.decreases), (c.requires.ready, b.left))
 
 pub expression-unary-requires : goal.expression-unary-requires
 expression-unary-requires t c =
     let e = finished c.expression-p-in-Unary.ensures
-    (at-unary (expression_node c.requires.ready c.read_node-node.ensures.0 c.requires.expression) c.in-Unary.is).left in
+    (at-unary (expression_node _ _ c.args.source.now.sheet.taken c.read_node-node.ensures.0 c.requires.expression) c.in-Unary.is).left in
     record { bounded = e.0; operand = e.1 }
 
 pub expression-bodies-row-requires : goal.expression-bodies-row-requires
 expression-bodies-row-requires t c =
-    let b = at-comprehension (expression_node c.requires.ready c.read_node-node.ensures.0 c.requires.expression)
+    let b = at-comprehension (expression_node _ _ c.args.source.now.sheet.taken c.read_node-node.ensures.0 c.requires.expression)
     c.in-Comprehension.is in
     (omega (arith, b.lower_b, c.decreases), (c.requires.ready, (b.body, b.names)))
 
-pub expression-comprehend-requires-clause-bodies : goal.expression-comprehend-requires-clause-bodies
-expression-comprehend-requires-clause-bodies t c =
-    let b = at-comprehension (expression_node c.requires.ready c.read_node-node.ensures.0 c.requires.expression)
+pub expression-comprehend-requires : goal.expression-comprehend-requires
+expression-comprehend-requires t c =
+    let b = at-comprehension (expression_node _ _ c.args.source.now.sheet.taken c.read_node-node.ensures.0 c.requires.expression)
     c.in-Comprehension.is in
     let r = ready-after c.bodies-row.ensures b.body c.requires.ready in
     record { bounded = r.bounded; fine = (finished c.bodies-row.ensures b.body).1; inside = r.inside }
 
 pub expression-returns-in-Leaf : goal.expression-returns-in-Leaf
 expression-returns-in-Leaf t c =
-    leaf-walks c.args.given.now c.args.env (expression_node c.requires.ready c.read_node-node.ensures.0
+    leaf-walks c.args.source.now.given.now c.args.env (expression_node _ _ c.args.source.now.sheet.taken c.read_node-node.ensures.0
     c.requires.expression) c.in-Leaf.is
     c.requires.ready.bounded c.requires.ready.inside c.leaf-matrix.ensures
 
 pub expression-returns-in-Binary : goal.expression-returns-in-Binary
 expression-returns-in-Binary t c =
-    binary-walks c.args.given.now c.args.env (expression_node c.requires.ready c.read_node-node.ensures.0
+    binary-walks c.args.source.now.given.now c.args.env (expression_node _ _ c.args.source.now.sheet.taken c.read_node-node.ensures.0
     c.requires.expression) c.in-Binary.is
     c.expression-p.ensures c.expression-q.ensures c.binary.ensures
 
 pub expression-returns-in-Unary : goal.expression-returns-in-Unary
 expression-returns-in-Unary t c =
-    unary-walks c.args.given.now c.args.env (expression_node c.requires.ready c.read_node-node.ensures.0
+    unary-walks c.args.source.now.given.now c.args.env (expression_node _ _ c.args.source.now.sheet.taken c.read_node-node.ensures.0
     c.requires.expression) c.in-Unary.is
     c.expression-p-in-Unary.ensures c.unary.ensures
 
 pub expression-returns-in-Comprehension : goal.expression-returns-in-Comprehension
 expression-returns-in-Comprehension t c =
-    comprehension-walks c.args.given.now c.args.env
-    (expression_node c.requires.ready c.read_node-node.ensures.0 c.requires.expression) c.in-Comprehension.is
+    comprehension-walks c.args.source.now.given.now c.args.env
+    (expression_node _ _ c.args.source.now.sheet.taken c.read_node-node.ensures.0 c.requires.expression) c.in-Comprehension.is
     c.bodies-row.ensures (c.comprehend.ensures (environment c.args.env))
 
 pub formula-expression-p-requires : goal.formula-expression-p-requires
 formula-expression-p-requires t c =
-    let b = at-comparison (formula_node c.requires.ready c.read_node-node.ensures.0 c.requires.formula)
+    let b = at-comparison (formula_node _ _ c.args.source.now.sheet.taken c.read_node-node.ensures.0 c.requires.formula)
     c.in-Comparison.is in
     (omega (arith, b.lower_a, c.decreases), (c.requires.ready, b.left))
 
 pub formula-expression-q-requires : goal.formula-expression-q-requires
 formula-expression-q-requires t c =
-    let b = at-comparison (formula_node c.requires.ready c.read_node-node.ensures.0 c.requires.formula)
+    let b = at-comparison (formula_node _ _ c.args.source.now.sheet.taken c.read_node-node.ensures.0 c.requires.formula)
     c.in-Comparison.is in
     (omega (arith, b.lower_b, c.decreases), (ready-after c.expression-p.ensures b.left c.requires.ready, b.right))
 
 pub formula-compare-requires : goal.formula-compare-requires
 formula-compare-requires t c =
-    let b = at-comparison (formula_node c.requires.ready c.read_node-node.ensures.0 c.requires.formula)
+    let b = at-comparison (formula_node _ _ c.args.source.now.sheet.taken c.read_node-node.ensures.0 c.requires.formula)
     c.in-Comparison.is in
     let e = both-finished c.expression-q.ensures b.right (λ _ _. operand-grow)
     (finished c.expression-p.ensures b.left).1 in
@@ -172,85 +168,85 @@ formula-compare-requires t c =
 
 pub formula-expression-p-requires-in-Test : goal.formula-expression-p-requires-in-Test
 formula-expression-p-requires-in-Test t c =
-    let b = at_test (formula_node c.requires.ready c.read_node-node.ensures.0 c.requires.formula) c.in-Test.is in
+    let b = at_test (formula_node _ _ c.args.source.now.sheet.taken c.read_node-node.ensures.0 c.requires.formula) c.in-Test.is in
     (omega (arith, b.lower_a, c.decreases), (c.requires.ready, b.left))
 
 pub formula-test-requires : goal.formula-test-requires
 formula-test-requires t c =
     let e = finished c.expression-p-in-Test.ensures
-    (at_test (formula_node c.requires.ready c.read_node-node.ensures.0 c.requires.formula) c.in-Test.is).left in
+    (at_test (formula_node _ _ c.args.source.now.sheet.taken c.read_node-node.ensures.0 c.requires.formula) c.in-Test.is).left in
     record { bounded = e.0; operand = e.1 }
 
 pub formula-formula-requires : goal.formula-formula-requires
 formula-formula-requires t c =
-    let b = at-negation (formula_node c.requires.ready c.read_node-node.ensures.0 c.requires.formula) c.in-Negation.is
+    let b = at-negation (formula_node _ _ c.args.source.now.sheet.taken c.read_node-node.ensures.0 c.requires.formula) c.in-Negation.is
     in
     (omega (arith, b.lower_a, c.decreases), (c.requires.ready, b.left))
 
 pub formula-negate-requires : goal.formula-negate-requires
 formula-negate-requires t c =
     let e = finished c.formula.ensures (at-negation
-    (formula_node c.requires.ready c.read_node-node.ensures.0 c.requires.formula) c.in-Negation.is).left in
+    (formula_node _ _ c.args.source.now.sheet.taken c.read_node-node.ensures.0 c.requires.formula) c.in-Negation.is).left in
     record { bounded = e.0; inside = e.1 }
 
 pub formula-formula-p-requires : goal.formula-formula-p-requires
 formula-formula-p-requires t c =
-    let b = at-connective (formula_node c.requires.ready c.read_node-node.ensures.0 c.requires.formula)
+    let b = at-connective (formula_node _ _ c.args.source.now.sheet.taken c.read_node-node.ensures.0 c.requires.formula)
     c.in-Connective.is in
     (omega (arith, b.lower_a, c.decreases), (c.requires.ready, b.left))
 
 pub formula-formula-q-requires : goal.formula-formula-q-requires
 formula-formula-q-requires t c =
-    let b = at-connective (formula_node c.requires.ready c.read_node-node.ensures.0 c.requires.formula)
+    let b = at-connective (formula_node _ _ c.args.source.now.sheet.taken c.read_node-node.ensures.0 c.requires.formula)
     c.in-Connective.is in
     (omega (arith, b.lower_b, c.decreases), (ready-after c.formula-p.ensures b.left c.requires.ready, b.right))
 
 pub formula-connect-requires : goal.formula-connect-requires
 formula-connect-requires t c =
-    let b = at-connective (formula_node c.requires.ready c.read_node-node.ensures.0 c.requires.formula)
+    let b = at-connective (formula_node _ _ c.args.source.now.sheet.taken c.read_node-node.ensures.0 c.requires.formula)
     c.in-Connective.is in
     let e = both-finished c.formula-q.ensures b.right (λ _ _. inside-grows) (finished c.formula-p.ensures b.left).1 in
     record { bounded = e.0; inside = e.1.0; inside_2 = e.1.1 }
 
 pub formula-bodies-row-requires : goal.formula-bodies-row-requires
 formula-bodies-row-requires t c =
-    let b = at-quantifier (formula_node c.requires.ready c.read_node-node.ensures.0 c.requires.formula)
+    let b = at-quantifier (formula_node _ _ c.args.source.now.sheet.taken c.read_node-node.ensures.0 c.requires.formula)
     c.in-Quantifier.is in
     (omega (arith, b.lower_b, c.decreases), (c.requires.ready, (b.body, b.names)))
 
-pub formula-quantify_over-requires-clause-bodies : goal.formula-quantify_over-requires-clause-bodies
-formula-quantify_over-requires-clause-bodies t c =
-    let b = at-quantifier (formula_node c.requires.ready c.read_node-node.ensures.0 c.requires.formula)
+pub formula-quantify_over-requires : goal.formula-quantify_over-requires
+formula-quantify_over-requires t c =
+    let b = at-quantifier (formula_node _ _ c.args.source.now.sheet.taken c.read_node-node.ensures.0 c.requires.formula)
     c.in-Quantifier.is in
     let r = ready-after c.bodies-row.ensures b.body c.requires.ready in
     record { bounded = r.bounded; fine = (finished c.bodies-row.ensures b.body).1; inside = r.inside }
 
 pub formula-returns-in-Comparison : goal.formula-returns-in-Comparison
 formula-returns-in-Comparison t c =
-    comparison-walks c.args.given.now c.args.env
-    (formula_node c.requires.ready c.read_node-node.ensures.0 c.requires.formula) c.in-Comparison.is
+    comparison-walks c.args.source.now.given.now c.args.env
+    (formula_node _ _ c.args.source.now.sheet.taken c.read_node-node.ensures.0 c.requires.formula) c.in-Comparison.is
     c.expression-p.ensures c.expression-q.ensures c.compare.ensures
 
 pub formula-returns-in-Test : goal.formula-returns-in-Test
 formula-returns-in-Test t c =
-    test-walks c.args.given.now c.args.env (formula_node c.requires.ready c.read_node-node.ensures.0
+    test-walks c.args.source.now.given.now c.args.env (formula_node _ _ c.args.source.now.sheet.taken c.read_node-node.ensures.0
     c.requires.formula) c.in-Test.is
     c.expression-p-in-Test.ensures c.test.ensures
 
 pub formula-returns-in-Negation : goal.formula-returns-in-Negation
 formula-returns-in-Negation t c =
-    negation-walks c.args.given.now c.args.env
-    (formula_node c.requires.ready c.read_node-node.ensures.0 c.requires.formula) c.in-Negation.is
+    negation-walks c.args.source.now.given.now c.args.env
+    (formula_node _ _ c.args.source.now.sheet.taken c.read_node-node.ensures.0 c.requires.formula) c.in-Negation.is
     c.formula.ensures c.negate.ensures.0 c.negate.ensures.1
 
 pub formula-returns-in-Connective : goal.formula-returns-in-Connective
 formula-returns-in-Connective t c =
-    connective-walks c.args.given.now c.args.env
-    (formula_node c.requires.ready c.read_node-node.ensures.0 c.requires.formula) c.in-Connective.is
+    connective-walks c.args.source.now.given.now c.args.env
+    (formula_node _ _ c.args.source.now.sheet.taken c.read_node-node.ensures.0 c.requires.formula) c.in-Connective.is
     c.formula-p.ensures c.formula-q.ensures c.connect.ensures
 
 pub formula-returns-in-Quantifier : goal.formula-returns-in-Quantifier
 formula-returns-in-Quantifier t c =
-    quantifier-walks c.args.given.now c.args.env
-    (formula_node c.requires.ready c.read_node-node.ensures.0 c.requires.formula) c.in-Quantifier.is
+    quantifier-walks c.args.source.now.given.now c.args.env
+    (formula_node _ _ c.args.source.now.sheet.taken c.read_node-node.ensures.0 c.requires.formula) c.in-Quantifier.is
     c.bodies-row.ensures (c.quantify_over.ensures (environment c.args.env))

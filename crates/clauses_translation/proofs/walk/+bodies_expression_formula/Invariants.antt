@@ -1,6 +1,6 @@
 -- The walk meets its contracts: at each node the operands' walks and the operator's own step put together (NodeWalks,
 -- BodyWalks). The measure is twice the node number, and one more for the walks of a binder's body.
-use Rattle.std.proofs.Common.{◌-◌, ◌+◌, ◌*◌, ◌≤◌}
+use Rattle.std.proofs.Common.{◌+◌, ◌*◌}
 use Rattle.sheet_rules.specs.Blocks.{sheet_of}
 use Rattle.clauses_translation.proofs.BodyWalks.{Done}
 use Rattle.clauses_translation.proofs.walk.+bodies_expression_formula.Given as goal
@@ -16,8 +16,4 @@ decreases-formula l = 2 * l.at
 
 abbrev pub invariant-bodies-loop-i : goal.invariant-bodies-loop-i
 invariant-bodies-loop-i l =
-    (l.i ≤ l.columns)
-    × Done (sheet_of l.sheet) l.given l.env l.at l.initial.list l.initial.after l.x l.i l.cells l.list l.after
-
-abbrev pub decreases-bodies-loop-i : goal.decreases-bodies-loop-i
-decreases-bodies-loop-i l = l.columns - l.i
+    Done (sheet_of l.source.sheet.bytes.now) l.source.given.now l.env l.at l.initial.list l.initial.after l.x l.i l.cells l.list l.after

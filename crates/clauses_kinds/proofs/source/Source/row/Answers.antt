@@ -6,12 +6,11 @@ use Rattle.sheet_rules.proofs.Acceptance.{accepted-facts}
 use Rattle.relational.specs.Cells.{cell}
 use Rattle.relational.proofs.Places.{square}
 use Rattle.cells.proofs.Layouts.{rows-most}
-use Rattle.clauses_kinds.proofs.Sources.{row-ends}
+use Rattle.clauses_kinds.proofs.Sources.{row-ends, low-relation}
 use Rattle.clauses_kinds.proofs.source.Source.row.Goals as goal
 
 pub row_length-n-requires : goal.row_length-n-requires
-row_length-n-requires c =
-    omega (arith, c.requires.r_bound, (accepted-facts _ _ c.args.self.now.sheet.taken).counts.few_relations)
+row_length-n-requires c = low-relation _ _ c.args.r c.args.self.now.sheet.taken c.requires.r_bound
 
 pub overflow_mul-i : goal.overflow_mul-i
 overflow_mul-i c =
