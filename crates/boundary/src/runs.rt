@@ -29,24 +29,11 @@ fn search_numbers(answer: Result<Ended, Refusal>) -> SearchAnswer
     ensures { result ≡ search_numbers (searched.answer_of answer) }
 {
     match answer {
-        Ok(
-            Ended {
-                end: End::Found,
-                steps,
-            },
-        ) => end_numbers(1, steps),
-        Ok(
-            Ended {
-                end: End::None,
-                steps,
-            },
-        ) => end_numbers(2, steps),
-        Ok(
-            Ended {
-                end: End::Spent,
-                steps,
-            },
-        ) => end_numbers(3, steps),
+        Ok(ended) => match ended.end {
+            End::Found => end_numbers(1, ended.steps),
+            End::None => end_numbers(2, ended.steps),
+            End::Spent => end_numbers(3, ended.steps),
+        },
         Err(r) => SearchAnswer {
             refusal: refusal::number(r),
             end: 0,

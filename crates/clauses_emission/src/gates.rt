@@ -155,6 +155,7 @@ pub fn same(list: &mut [i32], tape: &mut Tape, p: i32, q: i32) -> i32
 }
 
 // One of these.
+// Kept: with a function in its place, each contract over cells would have to ask for its law, which `pairing` says once.
 pub fn pair(list: &mut [i32], tape: &mut Tape, kind: Pairing, p: i32, q: i32) -> i32
     requires bounded { Bounded tape.old }
     requires inside { Inside tape.old.next (literal_of p) }

@@ -1,7 +1,6 @@
 pub mod Numbers
 pub mod Fills
 pub mod Regulars
-pub mod Sizes
 pub mod Pairs
 pub mod Middles
 pub mod Rows

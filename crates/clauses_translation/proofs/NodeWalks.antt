@@ -5,7 +5,6 @@ use Prim.Native.Nat.{ℕ, ◌≤◌}
 use lib.IntN.{ℤ}
 use Rattle.literal.specs.Literals.{Literal, opposite}
 use Rattle.sheet_rules.specs.Blocks.{Sheet, scope, sort_of}
-use Rattle.relational.specs.Trees.{symbol_of}
 use Rattle.relational.specs.declared.Leaf.{Leaf}
 use Rattle.relational.specs.declared.Binary.{Binary}
 use Rattle.relational.specs.declared.Unary.{Unary}
@@ -17,11 +16,10 @@ use Rattle.relational.specs.declared.Binary.TheVariants.{Intersection as interse
 use Rattle.relational.specs.declared.Symbol.TheVariants.{Leaf as leaf-symbol, Binary as binary-symbol}
 use Rattle.relational.specs.declared.Symbol.TheVariants.{Unary as unary-symbol, Comparison as comparison-symbol}
 use Rattle.relational.specs.declared.Symbol.TheVariants.{Test as test-symbol, Connective as connective-symbol}
-use Rattle.relational.specs.declared.Symbol.TheVariants.{Quantifier as quantifier-symbol}
+use Rattle.relational.specs.declared.Symbol.TheVariants.{Quantifier as quantifier-symbol, Comprehension as comprehension-symbol}
+use Rattle.relational.specs.declared.Symbol.TheVariants.{Negation as negation-symbol}
 use Rattle.relational.specs.Matrices.{set_of}
 use Rattle.nodes.specs.declared.forms.Node.{Node}
-use Rattle.nodes.specs.declared.forms.ExpressionForm.TheVariants as form
-use Rattle.nodes.specs.declared.forms.FormulaForm.TheVariants as claim
 use Rattle.nodes.specs.Environments.{environment}
 use Rattle.nodes.specs.Nodes.{IsExpression, IsFormula}
 use Rattle.nodes.proofs.Views.{Reached}
@@ -59,21 +57,20 @@ module _ {sheet : Sheet} (given : List ℤ) (env : List ℕ) {v : ℕ} {list : L
 -- ---- expressions
 module _ {sheet : Sheet} (given : List ℤ) (env : List ℕ) {v : ℕ} {node : Node} {old : List ℤ} {before : Tape}
     (h : Reached sheet v node IsExpression) where
-  pub leaf-walks : {m : Literals} → node.expression ≡ form.Leaf → Bounded before → AllInside before.next (literals_of given)
-      → ((l : Leaf) → symbol_of node.kind ≡ leaf-symbol l → LeafIs sheet given l node.a (environment env) m)
+  pub leaf-walks : {m : Literals} {l : Leaf} → node.symbol ≡ leaf-symbol l → Bounded before → AllInside before.next (literals_of given)
+      → LeafIs sheet given l node.a (environment env) m
       → WalksExpression sheet given env v old before m old before
   unfolding translate
   leaf-walks p bounded inside c =
       record {
         walks = λ e t.
-            let l = at_leaf (again h e t) p in
-            let i = c l.it l.symbol in
-            rw l.is (emits-as refl (sym i.matrix) (emits-return _ old before bounded (i.fine before.next inside)));
+            rw (at_leaf (again h e t) p).is
+            (emits-as refl (sym c.matrix) (emits-return _ old before bounded (c.fine before.next inside)));
       }
 
-  pub binary-walks : {mid new out : List ℤ} {middle after end : Tape} {m q z : Literals} → node.expression ≡ form.Binary
+  pub binary-walks : {mid new out : List ℤ} {middle after end : Tape} {m q z : Literals} {o : Binary} → node.symbol ≡ binary-symbol o
       → WalksExpression sheet given env node.a old before m mid middle → WalksExpression sheet given env node.b mid middle q new after
-      → ((o : Binary) → symbol_of node.kind ≡ binary-symbol o → EmitsBinary (translate_binary o) m q new after z out end)
+      → (EmitsBinary (translate_binary o) m q new after z out end)
       → WalksExpression sheet given env v old before z out end
   unfolding translate
   binary-walks p =
@@ -81,9 +78,9 @@ module _ {sheet : Sheet} (given : List ℤ) (env : List ℕ) {v : ℕ} {node : N
       (λ e. regular-expression sheet (literals_of given) e (environment env)) translate_binary (λ o e f. refl) regular-binary
       λ e t. at-binary (again h e t) p
 
-  pub unary-walks : {new out : List ℤ} {after end : Tape} {m z : Literals} → node.expression ≡ form.Unary
+  pub unary-walks : {new out : List ℤ} {after end : Tape} {m z : Literals} {o : Unary} → node.symbol ≡ unary-symbol o
       → WalksExpression sheet given env node.a old before m new after
-      → ((o : Unary) → symbol_of node.kind ≡ unary-symbol o → EmitsUnary (translate_unary o) m new after z out end)
+      → (EmitsUnary (translate_unary o) m new after z out end)
       → WalksExpression sheet given env v old before z out end
   unfolding translate
   unary-walks p =
@@ -92,7 +89,7 @@ module _ {sheet : Sheet} (given : List ℤ) (env : List ℕ) {v : ℕ} {node : N
       λ e t. at-unary (again h e t) p
 
   pub comprehension-walks : {new out : List ℤ} {after end : Tape} {m z : Literals}
-      → node.expression ≡ form.Comprehension
+      → node.symbol ≡ comprehension-symbol
       → WalksBodies sheet given env node.b old before node.a m new after
       → EmitsMatrix (translate_binary intersection (range sheet (literals_of given) node.a (environment env))
       (matrix_of m) after.next)
@@ -114,10 +111,9 @@ module _ {sheet : Sheet} (given : List ℤ) (env : List ℕ) {v : ℕ} {node : N
 -- ---- formulas
 module _ {sheet : Sheet} (given : List ℤ) (env : List ℕ) {v : ℕ} {node : Node} {old : List ℤ} {before : Tape}
     (h : Reached sheet v node IsFormula) where
-  pub comparison-walks : {mid new out : List ℤ} {middle after end : Tape} {m q : Literals} {z : Literal} → node.formula ≡ claim.Comparison
+  pub comparison-walks : {mid new out : List ℤ} {middle after end : Tape} {m q : Literals} {z : Literal} {o : Comparison} → node.symbol ≡ comparison-symbol o
       → WalksExpression sheet given env node.a old before m mid middle → WalksExpression sheet given env node.b mid middle q new after
-      → ((o : Comparison) → symbol_of node.kind ≡ comparison-symbol o
-      → Emits (translate_comparison o (matrix_of m) (matrix_of q) after.next) new after z out end (λ n. Inside n z))
+      → (Emits (translate_comparison o (matrix_of m) (matrix_of q) after.next) new after z out end (λ n. Inside n z))
       → WalksFormula sheet given env v old before z out end
   unfolding translate
   comparison-walks p =
@@ -125,10 +121,9 @@ module _ {sheet : Sheet} (given : List ℤ) (env : List ℕ) {v : ℕ} {node : N
       (λ e. regular-expression sheet (literals_of given) e (environment env)) translate_comparison (λ o e f. refl) regular-comparison
       λ f t. at-comparison (again h f t) p
 
-  pub test-walks : {new out : List ℤ} {after end : Tape} {m : Literals} {z : Literal} → node.formula ≡ claim.Test
+  pub test-walks : {new out : List ℤ} {after end : Tape} {m : Literals} {z : Literal} {o : Test} → node.symbol ≡ test-symbol o
       → WalksExpression sheet given env node.a old before m new after
-      → ((o : Test) → symbol_of node.kind ≡ test-symbol o
-      → Emits (translate_test o (matrix_of m).cells after.next) new after z out end (λ n. Inside n z))
+      → (Emits (translate_test o (matrix_of m).cells after.next) new after z out end (λ n. Inside n z))
       → WalksFormula sheet given env v old before z out end
   unfolding translate
   test-walks p =
@@ -136,7 +131,7 @@ module _ {sheet : Sheet} (given : List ℤ) (env : List ℕ) {v : ℕ} {node : N
       (λ e. regular-expression sheet (literals_of given) e (environment env)) (λ o m. translate_test o m.cells) (λ o e. refl)
       (λ o m. regular-test o m.cells) λ f t. at_test (again h f t) p
 
-  pub negation-walks : {new : List ℤ} {after end : Tape} {l z : Literal} → node.formula ≡ claim.Negation
+  pub negation-walks : {new : List ℤ} {after end : Tape} {l z : Literal} → node.symbol ≡ negation-symbol
       → WalksFormula sheet given env node.a old before l new after → end ≡ after → z ≡ opposite l
       → WalksFormula sheet given env v old before z new end
   unfolding translate
@@ -150,10 +145,9 @@ module _ {sheet : Sheet} (given : List ℤ) (env : List ℕ) {v : ℕ} {node : N
             (rw e (inside-opposite l i.fine)));
       }
 
-  pub connective-walks : {mid new out : List ℤ} {middle after end : Tape} {m q z : Literal} → node.formula ≡ claim.Connective
+  pub connective-walks : {mid new out : List ℤ} {middle after end : Tape} {m q z : Literal} {o : Connective} → node.symbol ≡ connective-symbol o
       → WalksFormula sheet given env node.a old before m mid middle → WalksFormula sheet given env node.b mid middle q new after
-      → ((o : Connective) → symbol_of node.kind ≡ connective-symbol o
-      → Emits (translate_connective o (m, q) after.next) new after z out end (λ n. Inside n z))
+      → (Emits (translate_connective o (m, q) after.next) new after z out end (λ n. Inside n z))
       → WalksFormula sheet given env v old before z out end
   unfolding translate
   connective-walks p =
@@ -162,15 +156,14 @@ module _ {sheet : Sheet} (given : List ℤ) (env : List ℕ) {v : ℕ} {node : N
       (λ f. regular-formula sheet (literals_of given) f (environment env)) (λ o x y. translate_connective o (x, y)) (λ o e f. refl)
       (λ o x y. regular-connective o (x, y)) λ f t. at-connective (again h f t) p
 
-  pub quantifier-walks : {new out : List ℤ} {after end : Tape} {m : Literals} {z : Literal} → node.formula ≡ claim.Quantifier
+  pub quantifier-walks : {new out : List ℤ} {after end : Tape} {m : Literals} {z : Literal} {o : Quantifier} → node.symbol ≡ quantifier-symbol o
       → WalksBodies sheet given env node.b old before node.a m new after
-      → ((o : Quantifier) → symbol_of node.kind ≡ quantifier-symbol o
-      → Emits (translate_quantifier o (range sheet (literals_of given) node.a (environment env)) (matrix_of m)
+      → (Emits (translate_quantifier o (range sheet (literals_of given) node.a (environment env)) (matrix_of m)
       after.next)
       new after z out end (λ n. Inside n z))
       → WalksFormula sheet given env v old before z out end
   unfolding translate
-  quantifier-walks p w c =
+  quantifier-walks {o = o} p w c =
       record {
         walks = λ f t.
             let b = at-quantifier (again h f t) p in
@@ -179,6 +172,6 @@ module _ {sheet : Sheet} (given : List ℤ) (env : List ℕ) {v : ℕ} {node : N
             let rs = regular-map (set_of n) s (regular-bodies sheet (literals_of given) b.body.it (environment env) node.a) in
             let atoms = range sheet (literals_of given) node.a (environment env) in
             rw b.is
-            (emits-bind (set_of n <$> s) (translate_quantifier b.it atoms) rs (regular-quantifier b.it atoms)
-            (w.walks b.body.it b.body.is) (c b.it b.symbol));
+            (emits-bind (set_of n <$> s) (translate_quantifier o atoms) rs (regular-quantifier o atoms)
+            (w.walks b.body.it b.body.is) c);
       }

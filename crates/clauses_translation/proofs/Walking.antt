@@ -5,8 +5,7 @@ use Prim.Native.Nat.{ℕ, ◌≤◌}
 use lib.IntN.{ℤ}
 use lib.ListN.{length}
 use Rattle.sheet_rules.specs.Blocks.{Sheet}
-use Rattle.relational.specs.Trees.{Tree, symbol_of}
-use Rattle.relational.specs.declared.Symbol.{Symbol}
+use Rattle.relational.specs.Trees.{Tree}
 use Rattle.nodes.specs.declared.forms.Node.{Node}
 use Rattle.nodes.specs.Nodes.{tree_at, IsTree}
 use Rattle.nodes.proofs.Views.{Reached, TwoAt, OneAt}
@@ -50,30 +49,27 @@ walk-over translation {list = list} {tape = tape} {x = x} regular b o f =
     record { walks = λ t h. given-up (translation t) x list tape (regular t) b o f }
 
 -- ---- the operands' walks, then the operator's step
-module _ {O S T A B : Type 0} {symbolic : O → Symbol} {made : S → Tree} {to : T → Tree} {sheet : Sheet} {v : ℕ} {node : Node}
+module _ {O S T A B : Type 0} {made : S → Tree} {to : T → Tree} {sheet : Sheet} {v : ℕ} {node : Node} {o : O}
     (operand : S → Builder A) (whole : T → Builder B) (regular : (s : S) → Regular (operand s)) {old new out : List ℤ}
     {before after end : Tape} {x : A} {z : B} {F H : ℕ → Type 0} where
   pub one-walks : {build : O → S → T} (step : O → A → Builder B)
       → ((o : O) (s : S) → whole (build o s) ≡ (operand s >>= step o)) → ((o : O) (p : A) → Regular (step o p))
-      → ((t : T) → tree_at sheet v ≡ to t → OneAt sheet v node symbolic made build t)
-      → Walks made operand sheet node.a old before x new after F
-      → ((o : O) → symbol_of node.kind ≡ symbolic o → Emits (step o x after.next) new after z out end H)
+      → ((t : T) → tree_at sheet v ≡ to t → OneAt sheet v node made build o t)
+      → Walks made operand sheet node.a old before x new after F → Emits (step o x after.next) new after z out end H
       → Walks to whole sheet v old before z out end H
   one-walks step same rs view w c =
       record {
         walks = λ t h.
             let b = view t h in
-            rw (b.is, same b.it b.left.it)
-            (emits-bind (operand b.left.it) (step b.it) (regular b.left.it) (rs b.it) (w.walks b.left.it b.left.is)
-            (c b.it b.symbol));
+            rw (b.is, same o b.left.it)
+            (emits-bind (operand b.left.it) (step o) (regular b.left.it) (rs o) (w.walks b.left.it b.left.is) c);
       }
 
   pub two-walks : {mid : List ℤ} {middle : Tape} {y : A} {G : ℕ → Type 0} {build : O → S → S → T} (step : O → A → A → Builder B)
       → ((o : O) (s t : S) → whole (build o s t) ≡ (operand s >>= λ p. operand t >>= λ q. step o p q))
-      → ((o : O) (p q : A) → Regular (step o p q)) → ((t : T) → tree_at sheet v ≡ to t → TwoAt sheet v node symbolic made build t)
+      → ((o : O) (p q : A) → Regular (step o p q)) → ((t : T) → tree_at sheet v ≡ to t → TwoAt sheet v node made build o t)
       → Walks made operand sheet node.a old before x mid middle F → Walks made operand sheet node.b mid middle y new after G
-      → ((o : O) → symbol_of node.kind ≡ symbolic o → Emits (step o x y after.next) new after z out end H)
-      → Walks to whole sheet v old before z out end H
+      → Emits (step o x y after.next) new after z out end H → Walks to whole sheet v old before z out end H
   two-walks step same rs view w u c =
       record {
         walks = λ t h.
@@ -81,9 +77,8 @@ module _ {O S T A B : Type 0} {symbolic : O → Symbol} {made : S → Tree} {to 
             let p = operand b.left.it in
             let q = operand b.right.it in
             let rq = regular b.right.it in
-            rw (b.is, same b.it b.left.it b.right.it)
-            (emits-bind p (λ l. q >>= λ r. step b.it l r) (regular b.left.it)
-            (λ l. regular-bind q (λ r. step b.it l r) rq λ r. rs b.it l r) (w.walks b.left.it b.left.is)
-            (emits-bind q (λ r. step b.it x r) rq (λ r. rs b.it x r) (u.walks b.right.it b.right.is)
-            (c b.it b.symbol)));
+            rw (b.is, same o b.left.it b.right.it)
+            (emits-bind p (λ l. q >>= λ r. step o l r) (regular b.left.it)
+            (λ l. regular-bind q (λ r. step o l r) rq λ r. rs o l r) (w.walks b.left.it b.left.is)
+            (emits-bind q (λ r. step o x r) rq (λ r. rs o x r) (u.walks b.right.it b.right.is) c));
       }

@@ -13,7 +13,8 @@ use clauses_kinds::leaves::{leaf, nothing, set};
 use clauses_kinds::source::Source;
 use clauses_matrix::MadeMatrix;
 use nodes::environments::bind;
-use nodes::forms::{ExpressionForm, FormulaForm, Node, read_node};
+use nodes::forms::{Node, read_node};
+use relational::Symbol;
 
 // A node as an expression: its matrix.
 #[cycle(bodies_expression_formula)]
@@ -34,25 +35,26 @@ fn expression(
         return MadeMatrix { matrix, tape };
     }
     let node = read_node(&source.sheet, at);
-    let Node { kind, a, b, .. } = node;
-    match node.expression {
-        ExpressionForm::Leaf => {
-            let matrix = leaf(source, env, kind, a);
-            MadeMatrix { matrix, tape }
-        }
-        ExpressionForm::Binary => {
+    let Node { a, b, .. } = node;
+    match node.symbol {
+        Symbol::Leaf(operator) => MadeMatrix {
+            matrix: leaf(source, env, operator, a),
+            tape,
+        },
+        Symbol::Binary(operator) => {
             let p = expression(list, tape, source, env, a);
             let q = expression(list, p.tape, source, env, b);
-            binary(list, kind, p, q)
+            binary(list, operator, p, q)
         }
-        ExpressionForm::Unary => {
+        Symbol::Unary(operator) => {
             let p = expression(list, tape, source, env, a);
-            unary(list, kind, p)
+            unary(list, operator, p)
         }
-        ExpressionForm::Comprehension => {
+        Symbol::Comprehension => {
             let row = bodies(list, tape, source, env, b, a);
             comprehend(list, source, a, row)
         }
+        _ => unreachable!(),
     }
 }
 
@@ -68,27 +70,28 @@ pub fn formula(list: &mut [i32], tape: Tape, source: &Source, env: [usize; 4], a
         return Made { literal: -1, tape };
     }
     let node = read_node(&source.sheet, at);
-    let Node { kind, a, b, .. } = node;
-    match node.formula {
-        FormulaForm::Comparison => {
+    let Node { a, b, .. } = node;
+    match node.symbol {
+        Symbol::Comparison(operator) => {
             let p = expression(list, tape, source, env, a);
             let q = expression(list, p.tape, source, env, b);
-            compare(list, kind, p, q)
+            compare(list, operator, p, q)
         }
-        FormulaForm::Test => {
+        Symbol::Test(operator) => {
             let p = expression(list, tape, source, env, a);
-            test(list, kind, p)
+            test(list, operator, p)
         }
-        FormulaForm::Negation => negate(formula(list, tape, source, env, a)),
-        FormulaForm::Connective => {
+        Symbol::Negation => negate(formula(list, tape, source, env, a)),
+        Symbol::Connective(operator) => {
             let p = formula(list, tape, source, env, a);
             let q = formula(list, p.tape, source, env, b);
-            connect(list, kind, p, q)
+            connect(list, operator, p, q)
         }
-        FormulaForm::Quantifier => {
+        Symbol::Quantifier(operator) => {
             let row = bodies(list, tape, source, env, b, a);
-            quantify_over(list, source, kind, a, row)
+            quantify_over(list, source, operator, a, row)
         }
+        _ => unreachable!(),
     }
 }
 

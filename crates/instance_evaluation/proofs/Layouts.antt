@@ -2,7 +2,7 @@
 use mathlib.Core.Path.{◌≡◌, refl, sym, ◌∙◌}
 use mathlib.Core.Logic.{◌⊎◌, inl, inr}
 use mathlib.Core.List.{List}
-use Prim.Native.Nat.{ℕ, ◌+◌, ◌*◌, ◌≤◌, ◌<◌}
+use Prim.Native.Nat.{ℕ, ◌*◌, ◌≤◌, ◌<◌}
 use native.Mathlib.Nat.{mul-le-mul}
 use native.Mathlib.Omega.{arith}
 use lib.ListN.{get_or}
@@ -29,17 +29,12 @@ module _ (sheet : Sheet) (r : ℕ) where
       → sized arity rows columns (flags_from instance first (rows * columns)) ≡ value_leaf sheet instance relation r env
   relation-leaf instance env ef ea er ec = λ i. sized (ea i) (er i) (ec i) (flags_from instance (ef i) (er i * ec i))
 
-  -- row i of it: where it starts, and its cells read as a set
-  pub row-start : (i : ℕ) {first columns : ℕ} → first ≡ first_cell sheet r → columns ≡ row_length sheet r
-      → first + i * columns ≡ cell sheet r i 0
-  row-start i ef ec = rw (ef, ec) (omega arith)
-
-  pub row-cells : (instance : List ℕ) (i : ℕ) {first columns : ℕ} → first ≡ first_cell sheet r → columns ≡ row_length sheet r
-      → flags_from instance (first + i * columns) (1 * columns) ≡ row_cells sheet instance r i
+  -- row i of it, read as a set
+  pub row-cells : (instance : List ℕ) (i : ℕ) {first columns : ℕ} → first ≡ cell sheet r i 0 → columns ≡ row_length sheet r
+      → flags_from instance first (1 * columns) ≡ row_cells sheet instance r i
   row-cells instance i {first} {columns} ef ec =
-      let place : first + i * columns ≡ cell sheet r i 0 = row-start i ef ec in
       let one : 1 * columns ≡ row_length sheet r = rw ec (omega arith) in
-      λ j. flags_from instance (place j) (one j)
+      λ j. flags_from instance (ef j) (one j)
 
 -- ---- a relation that is there, and its first cell
 module _ (i : Instance) where

@@ -1,2 +1,3 @@
 mod Steps
 mod Layouts
+mod Turns

@@ -3,8 +3,9 @@
 // The steps stand in the order of section 2.2 of source document 001, headed by the numbers of its parts.
 #![tactic(auto)]
 
-ghost use Rattle.std.specs.Prelude.{◌≡◌};
-ghost use Rattle.sheet_rules.specs.Blocks.{sheet_of};
+ghost use Rattle.std.specs.Prelude.{◌≡◌, ◌<◌, ◌≤◌};
+ghost use Rattle.sheet_rules.specs.Blocks.{sheet_of, relation_count};
+ghost use Rattle.relational.specs.Cells.{row_count, cell};
 ghost use Rattle.cells.specs.Private.{Starts};
 ghost use Rattle.relational.specs.Evaluation as spec;
 
@@ -27,6 +28,15 @@ pub struct Instance<'a> {
 }
 
 impl<'a> Instance<'a> {
+    // The first cell of row i of relation r.
+    pub(crate) fn row_start(&self, r: usize, i: usize) -> usize
+        requires r_bound { r < relation_count (sheet_of self.now.sheet.bytes.now) }
+        requires i_bound { i < row_count (sheet_of self.now.sheet.bytes.now) r }
+        ensures { (result ≡ cell (sheet_of self.now.sheet.bytes.now) r i 0) × (result ≤ 1080) }
+    {
+        self.starts[r] + i * self.sheet.row_length(r)
+    }
+
     // Whether the cells are of members, the marks hold and the root is true.
     pub fn holds(&self) -> bool
         ensures { result ≡ spec.holds (sheet_of self.now.sheet.bytes.now) self.now.cells.now }

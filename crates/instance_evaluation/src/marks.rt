@@ -25,8 +25,13 @@ impl<'a> Instance<'a> {
         requires i_bound { i < row_count (sheet_of self.now.sheet.bytes.now) r }
         ensures { result ≡ row_marked (sheet_of self.now.sheet.bytes.now) self.now.cells.now r i }
     {
-        let columns = self.sheet.row_length(r);
-        let row = given(self.cells, self.starts[r] + i * columns, 1, 1, columns);
+        let row = given(
+            self.cells,
+            self.row_start(r, i),
+            1,
+            1,
+            self.sheet.row_length(r),
+        );
         row_holds(self.sheet.multiplicity(r), self.row_bound(r, i), row)
     }
 

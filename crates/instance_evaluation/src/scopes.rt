@@ -27,9 +27,9 @@ impl<'a> Instance<'a> {
         requires i_bound { i < row_count (sheet_of self.now.sheet.bytes.now) r }
         ensures { result ≡ row_inside (sheet_of self.now.sheet.bytes.now) self.now.cells.now r i }
     {
-        let columns = self.sheet.row_length(r);
-        let first = self.starts[r] + i * columns;
-        (0..columns).all(|j| byte(self.cells, first + j) != 1 || self.of_members(r, i, j))
+        let first = self.row_start(r, i);
+        (0..self.sheet.row_length(r)).all(|j| byte(self.cells, first + j) != 1
+            || self.of_members(r, i, j))
     }
 
     // The rows of relation r.

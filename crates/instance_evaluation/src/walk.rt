@@ -14,7 +14,7 @@ use nodes::forms::read_node;
 use relational::Symbol;
 
 impl<'a> Instance<'a> {
-    // 2.2.1 to 2.2.5, and comprehension: the value of the expression at a node.
+    // The value of the expression at a node.
     #[cycle(bodies_expression_formula)]
     fn expression(&self, env: [usize; 4], at: usize) -> Value
         requires { IsExpression (sheet_of self.now.sheet.bytes.now) at }
@@ -41,7 +41,7 @@ impl<'a> Instance<'a> {
         }
     }
 
-    // 2.2.6: the truth of the formula at a node.
+    // The truth of the formula at a node.
     #[cycle(bodies_expression_formula)]
     pub(crate) fn formula(&self, env: [usize; 4], at: usize) -> bool
         requires { IsFormula (sheet_of self.now.sheet.bytes.now) at }
@@ -73,7 +73,7 @@ impl<'a> Instance<'a> {
         }
     }
 
-    // 2.2.6: the body of a binder of variable x, for each atom, ascending; the set of those for which it holds.
+    // The body of a binder of variable x, for each atom, ascending: the set of those for which it holds.
     #[cycle(bodies_expression_formula)]
     fn bodies(&self, env: [usize; 4], at: usize, x: usize) -> Value
         requires formula { IsFormula (sheet_of self.now.sheet.bytes.now) at }

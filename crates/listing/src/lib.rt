@@ -60,13 +60,10 @@ pub fn begin(input: &[u8], list: &mut [i32; 16384], text: &mut [u8; 2048]) -> Re
 fn is_found(answer: Result<Ended, Refusal>) -> bool
     ensures { result ≡ is_found (answer_of answer) }
 {
-    matches!(
-        answer,
-        Ok(Ended {
-            end: End::Found,
-            ..
-        })
-    )
+    match answer {
+        Ok(ended) => matches!(ended.end, End::Found),
+        Err(_) => false,
+    }
 }
 
 // One call for the next, and read-back of what it found.

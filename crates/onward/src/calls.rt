@@ -4,10 +4,12 @@ ghost use Rattle.search.specs.Answers.{answer_of};
 ghost use Rattle.search.specs.Resumed.{left, resumption};
 ghost use Rattle.search.specs.Resuming.{start};
 ghost use Rattle.onward.specs.Limits.{most_steps};
+ghost use Rattle.onward.specs.Private.{spent_in};
 
 use super::shown::{end_line, show};
+use refusal::Refusal;
 use report::finder::step_figure;
-use search::answer::{End, Ended, Position, Resumed};
+use search::answer::{End, Ended, Position, Resumed, Steps};
 use search::resumed;
 use std::io::Stderr;
 
@@ -16,6 +18,20 @@ const STEPS: u64 = 1000000;
 
 // The calls that are made at most.
 const CALLS: u64 = 18446744073709;
+
+// The steps of a call that was spent.
+fn spent_steps(answer: Result<Ended, Refusal>) -> Option<Steps>
+    ensures { result ≡ spent_in (answer_of answer) }
+{
+    match answer {
+        Ok(ended) => match ended.end {
+            End::Spent => Some(ended.steps),
+            End::Found => None,
+            End::None => None,
+        },
+        Err(_) => None,
+    }
+}
 
 // Takes the search up from a record of zeros on, call after call, until one is not spent. Its answer, its position and all that it
 // leaves are those of one call of all the steps.
@@ -38,21 +54,13 @@ pub(crate) fn go_on(
     let mut left = CALLS;
     while left > 0 {
         let call = resumed(list, v, values, trail, position, STEPS);
-        let answer = call.answer;
-        if let Ok(
-            Ended {
-                end: End::Spent,
-                steps,
-            },
-        ) = answer
-        {
-            position = call.position;
-            show(step_figure(steps), errors);
-        } else {
+        let Some(steps) = spent_steps(call.answer) else {
             // a call before this one was spent, and shown
             end_line(left < CALLS, errors);
             return call;
-        }
+        };
+        position = call.position;
+        show(step_figure(steps), errors);
         left -= 1;
     }
     end_line(true, errors);

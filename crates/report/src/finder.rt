@@ -67,24 +67,11 @@ pub fn put_answer(
     ensures upper_bound { result ≤ 2048 }
 {
     match ended {
-        Ok(
-            Ended {
-                end: End::Found,
-                steps,
-            },
-        ) => put_found(text, input, steps, instance),
-        Ok(
-            Ended {
-                end: End::None,
-                steps,
-            },
-        ) => put_end(text, b"none ", step_figure(steps)),
-        Ok(
-            Ended {
-                end: End::Spent,
-                steps,
-            },
-        ) => put_end(text, b"spent ", step_figure(steps)),
+        Ok(ended) => match ended.end {
+            End::Found => put_found(text, input, ended.steps, instance),
+            End::None => put_end(text, b"none ", step_figure(ended.steps)),
+            End::Spent => put_end(text, b"spent ", step_figure(ended.steps)),
+        },
         Err(r) => put_end(text, b"refused ", refusal::number(r) as u64),
     }
 }

@@ -165,6 +165,11 @@ module _ (clauses : List (List ℤ)) (v : ℕ) where
     pub stored : Stored v at values trail p.length
     pub alike : run clauses v left (steps_of p) at ≡ run clauses v budget t state
 
+  -- with no step left, from a state
+  abbrev pub here : (state : State) (values : List ℕ) (trail : List ℤ) (p : Position) → Stored v state values trail p.length
+      → Far 0 (steps_of p) state values trail p 0
+  here state values trail p i = record { at = state; stored = i; alike = refl }
+
   module _ (budget : ℕ) (t : Steps) (state : State) (values : List ℕ) (trail : List ℤ) (p : Position) (left : ℕ)
       (f : Far budget t state values trail p left) where
     by-none : next clauses v f.at ≡ end_none → run clauses v budget t state ≡ was_none (steps_of p)

@@ -40,20 +40,17 @@ fn advance(p: Position, kind: StepKind, length: usize) -> Position
         StepKind::Propagation => Position {
             length,
             propagations: p.propagations + 1,
-            decisions: p.decisions,
-            backtracks: p.backtracks,
+            ..p
         },
         StepKind::Decision => Position {
             length,
-            propagations: p.propagations,
             decisions: p.decisions + 1,
-            backtracks: p.backtracks,
+            ..p
         },
         StepKind::Backtrack => Position {
             length,
-            propagations: p.propagations,
-            decisions: p.decisions,
             backtracks: p.backtracks + 1,
+            ..p
         },
     }
 }
@@ -62,14 +59,7 @@ fn advance(p: Position, kind: StepKind, length: usize) -> Position
 fn any_decision(values: &[u8]) -> bool
     ensures { result ≡ any (λ b. eqb b 3) values.now }
 {
-    let mut i = 0;
-    while i < values.len() {
-        if values[i] == 3 {
-            return true;
-        }
-        i += 1;
-    }
-    false
+    values.contains(&3)
 }
 
 // Whether the rules end here; Spent where they do not.
@@ -100,6 +90,37 @@ fn ends(list: &[i32], values: &[u8]) -> End
     }
 }
 
+// The end of a run with no step left, from the state that the slices and the position hold.
+fn stop(
+    list: &[i32],
+    values: &mut [u8],
+    trail: &mut [i32],
+    position: Position,
+    chains: &[u16],
+    weights: &mut [u16],
+) -> Ran
+    requires fine { Fine (length values.old) list.now }
+    requires values_len_bound { length values.old ≤ last_variable }
+    requires some_stored { SomeStored (length values.old) values.old trail.old position.length }
+    requires watched { Watched (clauses_of list.now) values.old chains.now weights.old }
+    ensures { (state : State) → Stored (length values.old) state values.old trail.old position.length
+        → Ended (length values.old)
+        (run (clauses_of list.now) (length values.old) 0 (steps_of position) state)
+        result values.new trail.new }
+{
+    let end = ends(list, values);
+    match end {
+        End::None => {
+            let used = position.length;
+            back(list, values, trail, used, chains, weights);
+            let position = emptied(position);
+            Ran { end, position }
+        }
+        End::Found => Ran { end, position },
+        End::Spent => Ran { end, position },
+    }
+}
+
 // The run from the state that the slices and the position hold, with the index that is lent.
 fn go(
     list: &[i32],
@@ -121,11 +142,8 @@ fn go(
         result values.new trail.new }
 {
     let mut position = start;
-    let mut left = budget;
-    while left > 0 {
-        let used = position.length;
-        let moved = step(list, values, trail, used, chains, weights);
-        match moved {
+    for _ in 0..budget {
+        match step(list, values, trail, position.length, chains, weights) {
             Moved::NoneLeft => {
                 let end = End::None;
                 let position = emptied(position);
@@ -135,23 +153,10 @@ fn go(
                 let end = End::Found;
                 return Ran { end, position };
             }
-            Moved::To(kind, n) => {
-                position = advance(position, kind, n);
-            }
+            Moved::To(kind, n) => position = advance(position, kind, n),
         }
-        left -= 1;
     }
-    let end = ends(list, values);
-    match end {
-        End::None => {
-            let used = position.length;
-            back(list, values, trail, used, chains, weights);
-            let position = emptied(position);
-            Ran { end, position }
-        }
-        End::Found => Ran { end, position },
-        End::Spent => Ran { end, position },
-    }
+    stop(list, values, trail, position, chains, weights)
 }
 
 // The run where each step scans the list.
@@ -316,10 +321,5 @@ pub fn run_next(
 fn emptied(p: Position) -> Position
     ensures { result ≡ position_of 0 (steps_of p) }
 {
-    Position {
-        length: 0,
-        propagations: p.propagations,
-        decisions: p.decisions,
-        backtracks: p.backtracks,
-    }
+    Position { length: 0, ..p }
 }

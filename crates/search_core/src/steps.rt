@@ -32,14 +32,7 @@ pub enum Moved {
 pub fn lowest_open(values: &[u8]) -> usize
     ensures { result ≡ get_or (lowest_open 0 values.now) (length values.now) }
 {
-    let mut i = 0;
-    while i < values.len() {
-        if values[i] == 2 {
-            return i;
-        }
-        i += 1;
-    }
-    i
+    values.iter().position(|x| *x == 2).unwrap_or(values.len())
 }
 
 // Opens all back to the latest decision, which becomes true. The words of the trail then in use, 0 where there is no decision.

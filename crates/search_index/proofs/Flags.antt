@@ -1,8 +1,8 @@
 -- The search for the first unit clause, block by block.
 use mathlib.Core.Path.{◌≡◌, refl, sym, ◌∙◌, ap}
-use mathlib.Core.Logic.{◌⊎◌, ⊎_elim}
+use mathlib.Core.Logic.{◌⊎◌, inl, inr, ⊎_elim}
 use mathlib.Core.List.{List}
-use Prim.Native.Nat.{ℕ, ◌+◌, ◌*◌, ◌/◌, ◌<◌, ◌≤◌}
+use Prim.Native.Nat.{ℕ, min, ◌+◌, ◌*◌, ◌/◌, ◌<◌, ◌≤◌}
 use native.Mathlib.Omega.{arith}
 use lib.ListN.{length, get_or, set, length-set}
 use lib.Seq.{get_or-set_same, get_or-set_other}
@@ -108,6 +108,11 @@ module _ (weights₀ : List ℕ) (m : ℕ) (weights : List ℕ) (b at : ℕ) (fe
         passed = λ c k n e. let t = sym (ap told (low-at c (omega (arith, n, few)))) ∙ e in
             ⊎_elim (λ u. s.passed c u n t) (λ u. none_here l c u k n t) (below_or c at);
       })
+
+-- the lesser of two numbers
+pub least-of : (a b r : ℕ) → r ≡ min a b → (r ≤ a) × (r ≤ b) × ((r ≡ a) ⊎ (r ≡ b))
+least-of a b r e =
+    (omega arith, omega arith, ⊎_elim (λ h. inl (omega (arith, h))) (λ h. inr (omega (arith, h))) (below_or a b))
 
 -- the next search begins at a block that is not behind the clause where this one stopped
 pub begins-there : (weights₀ weights : List ℕ) (m r b : ℕ) → m ≤ limit → Stopped weights₀ 0 m r → 16 * b ≤ r

@@ -5,7 +5,7 @@ mod Spots
 mod Chaining
 mod Entering
 mod Weighing
-mod WeightCode
+pub mod WeightCode
 mod Tallies
 mod Statuses
 mod WeighLoop

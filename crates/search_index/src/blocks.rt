@@ -1,6 +1,6 @@
 // What stands for each clause, in one array; behind that a flag for each block of 16 clauses, which is up where one of them is a unit clause, the
 // number of false clauses, and a block that no unit clause is before.
-ghost use Rattle.std.specs.Prelude.{◌≡◌, cond, ◌⊎◌, ℕ, ◌+◌, ◌<◌, ◌≤◌, eqb, length, get_or};
+ghost use Rattle.std.specs.Prelude.{◌≡◌, cond, ℕ, ◌+◌, ◌<◌, ◌≤◌, eqb, length, get_or};
 ghost use Rattle.search_index.specs.Index.{limit, blocks, weight_words, Raised};
 ghost use Rattle.search_index.specs.Index.{falses_at, one, Tallied, Noted, Put};
 ghost use Rattle.search_index.specs.Index.{Stopped, Same};
@@ -80,21 +80,12 @@ fn unit_within(weights: &[u16], from: usize, end: usize) -> usize
     requires { (length weights.now ≡ weight_words) × (from ≤ end) × (end ≤ limit) }
     ensures { Stopped weights.now from end result }
 {
-    let mut c = from;
-    while c < end {
+    for c in from..end {
         if status(weights[c]) == 2 {
             return c;
         }
-        c += 1;
     }
-    c
-}
-
-// The lesser of two numbers.
-fn lesser(a: usize, b: usize) -> usize
-    ensures { (result ≤ a) × (result ≤ b) × ((result ≡ a) ⊎ (result ≡ b)) }
-{
-    if a < b { a } else { b }
+    end
 }
 
 // The first unit clause of m clauses, or m. A flag that is up for no unit clause is lowered.
@@ -108,7 +99,7 @@ fn walk_blocks(weights: &mut [u16], m: usize) -> usize
     let mut at = BLOCK * b;
     while at < m {
         if weights[FLAGS + b] == 1 {
-            let end = lesser(at + BLOCK, m);
+            let end = (at + BLOCK).min(m);
             let c = unit_within(weights, at, end);
             if c < end {
                 return c;

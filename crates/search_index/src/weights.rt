@@ -17,32 +17,28 @@ pub const MIXED: u16 = 32768;
 fn byte_weight(x: u8) -> u16
     ensures { result ≡ byte_weight x }
 {
-    if x == 1 {
-        return 2;
+    match x {
+        1 => 2,
+        2 => 1,
+        _ => 0,
     }
-    if x == 2 {
-        return 1;
-    }
-    0
 }
 
 // 1 for a literal that says that its variable is true, else 0.
 pub fn sign(l: i32) -> usize
     ensures { result ≡ cond (is_positive l) 1 0 }
 {
-    if literal::is_positive(l) { 1 } else { 0 }
+    usize::from(literal::is_positive(l))
 }
 
 // What the weights of the negative literal and of the positive one change by, and 2 more, where their variable's byte was another.
+#[tactic(auto, using(crate::proofs::WeightCode::byte_low))]
 pub fn gains(was: u8, is: u8) -> [u16; 2]
     ensures { Gains was is result }
 {
     let before = byte_weight(was);
     let after = byte_weight(is);
-    let mut gains = [0u16; 2];
-    gains[0] = 2 + before - after;
-    gains[1] = 2 + after - before;
-    gains
+    [2 + before - after, 2 + after - before]
 }
 
 // The weight of a literal whose variable has this byte.

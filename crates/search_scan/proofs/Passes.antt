@@ -1,7 +1,7 @@
 -- How far the loops have come: over a clause, and over the clauses of a list.
-use Rattle.std.proofs.Common.{◌≡◌, refl, sym, ap, ◌∙◌, arith, Bool, true, false, not, cond, List, [], ◌∷◌, ℕ, zero, suc, ◌+◌, ◌<◌, ◌≤◌, length, get_or, drop, take, pos, ℤ, nat_abs, Option, Some, None, unwrap_or, add-one}
+use Rattle.std.proofs.Common.{◌≡◌, refl, sym, ap, ◌∙◌, arith, Bool, true, false, not, cond, List, [], ◌∷◌, ℕ, zero, suc, ◌+◌, ◌<◌, ◌≤◌, length, get_or, drop, take, slice_range, ◌-◌, pos, ℤ, nat_abs, Option, Some, None, unwrap_or, add-one}
 use lib.ListN.{drop_of_length-le, length-drop}
-use lib.Seq.{drop-cons}
+use lib.Seq.{drop-cons, drop-drop}
 use borrow.Author.Tests.{not-true, not-false}
 use Rattle.literal.specs.Words.{count_of}
 use Rattle.prelude.specs.Tests.{all, any}
@@ -152,65 +152,85 @@ rounds-enough v (suc f) (w ∷ ws) h (suc g) l =
     let r = rounds-enough v f (drop (nat_abs w) ws) h.3 g (simp length-drop (omega arith)) in
     ((h.0, h.1, h.2, r.0), ap (λ cs. take (nat_abs w) ws ∷ cs) r.1)
 
--- How far a loop over the clauses of a list has come: what it is to find in the list, it is to find in the clauses that are left.
+-- How far a loop over the clauses of a list has come, at the word of a clause's count: what it is to find in the list, it is to find in the
+-- clauses that are left.
 module _ {A : Type 0} (find : List (List ℤ) → A) (list : List ℤ) (v : ℕ) where
-  pub record Rest (rest : List ℤ) : Type 0 where
+  pub record Rest (at : ℕ) : Type 0 where
+    pub upto : at ≤ length list
     pub rounds : ℕ
-    pub fine : FineIn v rounds rest
-    pub same : find (cut rounds rest) ≡ find (clauses_of list)
+    pub fine : FineIn v rounds (drop at list)
+    pub same : find (cut rounds (drop at list)) ≡ find (clauses_of list)
 
-  -- the clause in front, with the word of its count
-  pub record Front (w : ℤ) (ws : List ℤ) : Type 0 where
-    pub counts : w ≡ pos (count_of w)
-    pub within : count_of w ≤ length ws
-    pub all : AllIn v (take (count_of w) ws)
+  -- the clause there, with so many literals
+  pub record Front (at n : ℕ) : Type 0 where
+    pub counts : get_or list at (pos 0) ≡ pos n
+    pub within : at + 1 + n ≤ length list
+    pub all : AllIn v (slice_range list (at + 1) (at + 1 + n))
     pub rounds : ℕ
-    pub fine : FineIn v rounds (drop (count_of w) ws)
-    pub same : find (take (count_of w) ws ∷ cut rounds (drop (count_of w) ws)) ≡ find (clauses_of list)
+    pub fine : FineIn v rounds (drop (at + 1 + n) list)
+    pub same : find (slice_range list (at + 1) (at + 1 + n) ∷ cut rounds (drop (at + 1 + n) list)) ≡ find (clauses_of list)
 
-  pub start : Fine v list → Rest list
+  pub start : Fine v list → Rest 0
   unfolding Fine
-  start h = record { rounds = length list; fine = h; same = refl }
+  start h = record { upto = omega arith; rounds = length list; fine = h; same = refl }
 
-  by-rounds : (w : ℤ) (ws : List ℤ) (f : ℕ) → FineIn v f (w ∷ ws) → find (cut f (w ∷ ws)) ≡ find (clauses_of list) → Front w ws
+  -- the list there, as a word and those behind it
+  abbrev behind_word : ℕ → List ℤ
+  behind_word at = drop (at + 1) list
+
+  clause-is : (at n : ℕ) → take n (behind_word at) ≡ slice_range list (at + 1) (at + 1 + n)
+  clause-is at n = ap (λ k. take k (behind_word at)) (omega arith)
+
+  rest-is : (at n : ℕ) → drop n (behind_word at) ≡ drop (at + 1 + n) list
+  rest-is at n = drop-drop n (at + 1) list
+
+  by-rounds : (at : ℕ) (w : ℤ) → at < length list → get_or list at (pos 0) ≡ w → (f : ℕ) → FineIn v f (w ∷ behind_word at)
+      → find (cut f (w ∷ behind_word at)) ≡ find (clauses_of list) → Front at (nat_abs w)
   unfolding FineIn cut
-  by-rounds w ws zero h e = cc
-  by-rounds w ws (suc f) h e =
-      let n : nat_abs w ≡ count_of w = ap count_of (sym h.0) in record {
-        counts = h.0 ∙ ap pos n;
-        within = rw (← n) h.1;
-        all = rw (← n) h.2;
+  by-rounds at w b i zero h e = cc
+  by-rounds at w b i (suc f) h e =
+      let n = nat_abs w in
+      let long : nat_abs w ≤ length list - (at + 1) = rw length-drop at h.1 in record {
+        counts = i ∙ h.0;
+        within = omega arith;
+        all = rw clause-is at h.2;
         rounds = f;
-        fine = rw (← n) h.3;
-        same = rw (← n) e;
+        fine = rw rest-is at h.3;
+        same = rw (clause-is, rest-is) at e;
       }
 
-  pub front : (rest : List ℤ) → Rest rest → (w : ℤ) (ws : List ℤ) → rest ≡ w ∷ ws → Front w ws
-  front rest r w ws e = by-rounds w ws r.rounds (rw e at r.fine) (rw e at r.same)
+  pub front : (at : ℕ) → Rest at → at < length list → (n : ℕ) → n ≡ count_of (get_or list at (pos 0)) → Front at n
+  front at r b n e =
+      let f = by-rounds at _ b refl r.rounds (rw (next_literal list at b) at r.fine) (rw (next_literal list at b) at r.same) in
+      rw (e ∙ ap count_of f.counts) f
 
-  -- the clauses behind it
-  pub fine-behind : (w : ℤ) (ws : List ℤ) → Front w ws → Fine v (drop (count_of w) ws)
-  unfolding Fine
-  fine-behind w ws f = (rounds-enough v f.rounds (drop (count_of w) ws) f.fine _ (omega arith)).0
+  pub known : (at : ℕ) → Rest at → at < length list → get_or list at (pos 0) ≡ pos (count_of (get_or list at (pos 0)))
+  known at r b = let e = (front at r b _ refl).counts in e
 
-  pub same-behind : (w : ℤ) (ws : List ℤ) → Front w ws
-      → find (take (count_of w) ws ∷ clauses_of (drop (count_of w) ws)) ≡ find (clauses_of list)
-  same-behind w ws f =
-      ap (λ cs. find (take (count_of w) ws ∷ cs)) (sym (rounds-enough v f.rounds (drop (count_of w) ws) f.fine _ (omega arith)).1) ∙ f.same
+  module _ (at n : ℕ) (f : Front at n) where
+    -- the clauses behind it
+    pub fine-behind : Fine v (drop (at + 1 + n) list)
+    unfolding Fine
+    fine-behind = (rounds-enough v f.rounds (drop (at + 1 + n) list) f.fine _ (omega arith)).0
 
-  -- the clause in front counts for nothing
-  pub goes_on : (w : ℤ) (ws : List ℤ) → Front w ws → ((cs : List (List ℤ)) → find cs ≡ find (take (count_of w) ws ∷ cs))
-      → Rest (drop (count_of w) ws)
-  goes_on w ws f h = record { rounds = f.rounds; fine = f.fine; same = h _ ∙ f.same }
+    pub same-behind : find (slice_range list (at + 1) (at + 1 + n) ∷ clauses_of (drop (at + 1 + n) list)) ≡ find (clauses_of list)
+    same-behind =
+        ap (λ cs. find (slice_range list (at + 1) (at + 1 + n) ∷ cs))
+        (sym (rounds-enough v f.rounds (drop (at + 1 + n) list) f.fine _ (omega arith)).1)
+        ∙ f.same
+
+    -- the clause there counts for nothing
+    pub goes_on : ((cs : List (List ℤ)) → find cs ≡ find (slice_range list (at + 1) (at + 1 + n) ∷ cs)) → Rest (at + 1 + n)
+    goes_on h = record { upto = f.within; rounds = f.rounds; fine = f.fine; same = h _ ∙ f.same }
 
   cut-nothing : (f : ℕ) → cut f [] ≡ []
   unfolding cut
   cut-nothing zero = refl
   cut-nothing (suc f) = refl
 
-  pub ends : (rest : List ℤ) → Rest rest → length rest ≡ 0 → find [] ≡ find (clauses_of list)
-  ends [] r e = ap find (sym (cut-nothing r.rounds)) ∙ r.same
-  ends (w ∷ rest) r e = cc
+  pub ends : (at : ℕ) → Rest at → length list ≤ at → find [] ≡ find (clauses_of list)
+  ends at r b =
+      ap find (sym (ap (cut r.rounds) (drop_of_length-le list b) ∙ cut-nothing r.rounds)) ∙ r.same
 
 -- a list, by its first clause
 module _ (vs : List ℕ) (c : List ℤ) (cs : List (List ℤ)) where

@@ -18,14 +18,7 @@ fn settled(b: u8) -> u8
 fn give_bits(values: &[u8]) -> bool
     ensures { result ≡ all (λ b. leb b 1) (map settle values.now) }
 {
-    let mut i = 0;
-    while i < values.len() {
-        if settled(values[i]) > 1 {
-            return false;
-        }
-        i += 1;
-    }
-    true
+    values.iter().all(|b| settled(*b) <= 1)
 }
 
 // The bits of the cells' values, which start at the second, to the front of the instance.
@@ -34,10 +27,9 @@ pub(crate) fn copy_cells(cells: usize, values: &[u8], instance: &mut [u8])
     requires cells_in_bounds_2 { cells ≤ length instance.old }
     ensures { instance.new ≡ take cells (drop 1 (map settle values.now)) ++ drop cells instance.old }
 {
-    let mut i = 0;
-    while i < cells {
-        instance[i] = settled(values[i + 1]);
-        i += 1;
+    // Kept: an index into the values; the proof with zip did not close (of a zip of iter_mut no written element is known).
+    for (i, bit) in instance[..cells].iter_mut().enumerate() {
+        *bit = settled(values[i + 1]);
     }
 }
 

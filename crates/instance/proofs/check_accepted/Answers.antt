@@ -8,7 +8,7 @@ pub returns-then-instance-count : goal.returns-then-instance-count
 returns-then-instance-count c =
     let e = c.cells-count.ensures.0 in
     elim c.then-instance-count.branch [
-      then-instance-count-via-then-instance-count w ↦ other_length _ _ c.requires e w.if-instance-count.true
+      | then-instance-count-via-then-instance-count w ↦ other_length _ _ c.requires e w.if-instance-count.true
       | then-instance-count-via-else-instance-count+then-not-are_bits w ↦
           other-cells _ _ c.requires e w.if-instance-count.false w.are_bits.ensures w.if-not-are_bits.true
     ]

@@ -1,76 +1,75 @@
-use Rattle.std.proofs.Common.{◌≡◌, ◌∙◌, sym, rules, w32, to_z, of_z}
-use Rattle.search_scan.proofs.Passes.{start, front, fine-behind, same-behind, goes_on, ends, neither-more, conflict-seen, unit-seen, nothing-seen}
+use Rattle.std.proofs.Common.{◌≡◌, ◌∙◌, sym, rules, get_or, pos, w32, to_z, of_z, take, drop, length, ◌-◌, ◌+◌, arith}
+use lib.Seq.{take_all}
+use lib.ListN.{length-drop}
+use Rattle.search_scan.proofs.Passes.{start, known, front, goes_on, ends, fine-behind, same-behind, neither-more, conflict-seen, unit-seen, nothing-seen}
 use Rattle.search_scan.proofs.scan.Goals as goal
 
-pub loop-head-init : goal.loop-head-init
-loop-head-init c = start _ c.args.list.now _ c.requires.fine
+pub loop-at-init : goal.loop-at-init
+loop-at-init c = start _ c.args.list.now _ c.requires.fine
 
 pub known_count-requires : goal.known_count-requires
 known_count-requires c =
-    let w = c.in-Some.head.now in
+    let w = get_or c.args.list.now c.loop-at.at (pos 0) in
     let read : to_z w32 (of_z w32 w) ≡ w = search rules in
-    rw read (front _ _ _ _ c.loop-head.invariant w c.in-Some.tail.now c.in-Some.ensures.cases.0).counts
+    rw read (known _ c.args.list.now _ c.loop-at.at c.loop-at.invariant c.loop-at-test.true)
 
-pub split_at-requires : goal.split_at-requires
-split_at-requires c =
-    let w = c.in-Some.head.now in
+pub slice_bounds-scan_clause-end : goal.slice_bounds-scan_clause-end
+slice_bounds-scan_clause-end c =
+    let w = get_or c.args.list.now c.loop-at.at (pos 0) in
     let read : to_z w32 (of_z w32 w) ≡ w = search rules in
-    let n = rw read at c.known_count.ensures in
-    rw n (front _ _ _ _ c.loop-head.invariant w c.in-Some.tail.now c.in-Some.ensures.cases.0).within
+    let f = front _ c.args.list.now _ c.loop-at.at c.loop-at.invariant c.loop-at-test.true _ (rw read at c.known_count.ensures) in
+    f.within
 
 pub scan_clause-requires-clause-in_range : goal.scan_clause-requires-clause-in_range
 scan_clause-requires-clause-in_range c =
-    let w = c.in-Some.head.now in
+    let w = get_or c.args.list.now c.loop-at.at (pos 0) in
     let read : to_z w32 (of_z w32 w) ≡ w = search rules in
-    let n = rw read at c.known_count.ensures in
-    rw (c.split_at.ensures.front, n) (front _ _ _ _ c.loop-head.invariant w c.in-Some.tail.now c.in-Some.ensures.cases.0).all
+    let f = front _ c.args.list.now _ c.loop-at.at c.loop-at.invariant c.loop-at-test.true _ (rw read at c.known_count.ensures) in
+    f.all
 
 pub returns-in-Conflict : goal.returns-in-Conflict
 returns-in-Conflict c =
-    let w = c.in-Some.head.now in
+    let w = get_or c.args.list.now c.loop-at.at (pos 0) in
     let read : to_z w32 (of_z w32 w) ≡ w = search rules in
-    let n = rw read at c.known_count.ensures in
-    let f = front _ _ _ _ c.loop-head.invariant w c.in-Some.tail.now c.in-Some.ensures.cases.0 in
-    conflict-seen _ _ _ (rw (c.split_at.ensures.front, n) at c.in-Conflict.ensures) ∙ f.same
+    let f = front _ c.args.list.now _ c.loop-at.at c.loop-at.invariant c.loop-at-test.true _ (rw read at c.known_count.ensures) in
+    conflict-seen _ _ _ c.in-Conflict.ensures ∙ f.same
 
 pub has_conflict-requires-clause-fine : goal.has_conflict-requires-clause-fine
 has_conflict-requires-clause-fine c =
-    let w = c.in-Some.head.now in
+    let w = get_or c.args.list.now c.loop-at.at (pos 0) in
     let read : to_z w32 (of_z w32 w) ≡ w = search rules in
-    let n = rw read at c.known_count.ensures in
-    let f = front _ _ _ _ c.loop-head.invariant w c.in-Some.tail.now c.in-Some.ensures.cases.0 in
-    rw (c.split_at.ensures.back, n) (fine-behind _ _ _ w c.in-Some.tail.now f)
+    let f = front _ c.args.list.now _ c.loop-at.at c.loop-at.invariant c.loop-at-test.true _ (rw read at c.known_count.ensures) in
+    let behind : take (length c.args.list.now - (c.loop-at.at + 1 + c.known_count.result)) (drop (c.loop-at.at + 1 + c.known_count.result) c.args.list.now)
+    ≡ drop (c.loop-at.at + 1 + c.known_count.result) c.args.list.now = take_all _ _ (simp length-drop (omega arith)) in
+    rw behind (fine-behind _ _ _ _ _ f)
 
 pub returns-then-has_conflict : goal.returns-then-has_conflict
 returns-then-has_conflict c =
-    let w = c.in-Some.head.now in
+    let w = get_or c.args.list.now c.loop-at.at (pos 0) in
     let read : to_z w32 (of_z w32 w) ≡ w = search rules in
-    let n = rw read at c.known_count.ensures in
-    let f = front _ _ _ _ c.loop-head.invariant w c.in-Some.tail.now c.in-Some.ensures.cases.0 in
-    let has = sym c.if-has_conflict.true ∙ rw (c.split_at.ensures.back, n) at c.has_conflict.ensures in
-    unit-seen _ _ _ c.in-UnitClause.l _ has (rw (c.split_at.ensures.front, n) at c.in-UnitClause.ensures)
-    ∙ same-behind _ _ _ w c.in-Some.tail.now f
+    let f = front _ c.args.list.now _ c.loop-at.at c.loop-at.invariant c.loop-at-test.true _ (rw read at c.known_count.ensures) in
+    let behind : take (length c.args.list.now - (c.loop-at.at + 1 + c.known_count.result)) (drop (c.loop-at.at + 1 + c.known_count.result) c.args.list.now)
+    ≡ drop (c.loop-at.at + 1 + c.known_count.result) c.args.list.now = take_all _ _ (simp length-drop (omega arith)) in
+    let has = sym c.if-has_conflict.true ∙ rw behind at c.has_conflict.ensures in
+    unit-seen _ _ _ c.in-UnitClause.l _ has c.in-UnitClause.ensures ∙ same-behind _ _ _ _ _ f
 
 pub returns-in-UnitClause : goal.returns-in-UnitClause
 returns-in-UnitClause c =
-    let w = c.in-Some.head.now in
+    let w = get_or c.args.list.now c.loop-at.at (pos 0) in
     let read : to_z w32 (of_z w32 w) ≡ w = search rules in
     let unit-read : to_z w32 (of_z w32 c.in-UnitClause.l) ≡ c.in-UnitClause.l = search rules in
-    let n = rw read at c.known_count.ensures in
-    let f = front _ _ _ _ c.loop-head.invariant w c.in-Some.tail.now c.in-Some.ensures.cases.0 in
-    let has = sym c.if-has_conflict.false ∙ rw (c.split_at.ensures.back, n) at c.has_conflict.ensures in
-    rw unit-read
-    (unit-seen _ _ _ c.in-UnitClause.l _ has (rw (c.split_at.ensures.front, n) at c.in-UnitClause.ensures)
-    ∙ same-behind _ _ _ w c.in-Some.tail.now f)
+    let f = front _ c.args.list.now _ c.loop-at.at c.loop-at.invariant c.loop-at-test.true _ (rw read at c.known_count.ensures) in
+    let behind : take (length c.args.list.now - (c.loop-at.at + 1 + c.known_count.result)) (drop (c.loop-at.at + 1 + c.known_count.result) c.args.list.now)
+    ≡ drop (c.loop-at.at + 1 + c.known_count.result) c.args.list.now = take_all _ _ (simp length-drop (omega arith)) in
+    let has = sym c.if-has_conflict.false ∙ rw behind at c.has_conflict.ensures in
+    rw unit-read (unit-seen _ _ _ c.in-UnitClause.l _ has c.in-UnitClause.ensures ∙ same-behind _ _ _ _ _ f)
 
-pub loop-head-preserved : goal.loop-head-preserved
-loop-head-preserved c =
-    let w = c.in-Some.head.now in
+pub loop-at-preserved : goal.loop-at-preserved
+loop-at-preserved c =
+    let w = get_or c.args.list.now c.loop-at.at (pos 0) in
     let read : to_z w32 (of_z w32 w) ≡ w = search rules in
-    let n = rw read at c.known_count.ensures in
-    let f = front _ _ _ _ c.loop-head.invariant w c.in-Some.tail.now c.in-Some.ensures.cases.0 in
-    let shown = rw (c.split_at.ensures.front, n) at c.in-Neither.ensures in
-    rw (c.split_at.ensures.back, n) (goes_on _ _ _ w c.in-Some.tail.now f (λ cs. neither-more _ _ cs shown))
+    let f = front _ c.args.list.now _ c.loop-at.at c.loop-at.invariant c.loop-at-test.true _ (rw read at c.known_count.ensures) in
+    goes_on _ _ _ _ _ f (λ cs. neither-more _ _ cs c.in-Neither.ensures)
 
 pub returns : goal.returns
-returns c = nothing-seen c.args.values.now ∙ ends _ _ _ _ c.loop-head.invariant c.in_default.ensures.cases
+returns c = nothing-seen c.args.values.now ∙ ends _ c.args.list.now _ c.loop-at.at c.loop-at.invariant c.loop-at-test.false

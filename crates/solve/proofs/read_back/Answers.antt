@@ -14,11 +14,11 @@ unfolding read_back_answer instance_after
 returns-in_err-size c = record { result_value = search rules; instance_after = search rules }
 
 pub read_cells-requires : goal.read_cells-requires
-read_cells-requires c = room-for-cells c.args.sheet.now _ _ _ _ (sym c.in_ok-size.ensures) c.cells.ensures.0
+read_cells-requires c = room-for-cells c.args.sheet.now _ _ _ _ (sym c.in_ok-size.ensures) c.cells-cells.ensures.0
 
 pub returns : goal.returns
 returns c =
     let a = c.args in
-    let g = counts-cells a.sheet.now a.values.now a.instance.now _ _ _ _ (sym c.in_ok-size.ensures) c.cells.ensures.0 in
+    let g = counts-cells a.sheet.now a.values.now a.instance.now _ _ _ _ (sym c.in_ok-size.ensures) c.cells-cells.ensures.0 in
     let r = c.read_cells.ensures in
     record { result_value = r.result_value ∙ g.0; instance_after = r.instance_after ∙ g.1 }

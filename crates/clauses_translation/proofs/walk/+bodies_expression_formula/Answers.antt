@@ -16,8 +16,9 @@ use Rattle.nodes.specs.declared.forms.Node.{Node}
 use Rattle.nodes.specs.Environments.{environment}
 use Rattle.nodes.specs.Nodes.{node_at, IsExpression, IsFormula}
 use Rattle.nodes.proofs.Views.{Reached, expression-low, formula-low}
-use Rattle.nodes.proofs.ExpressionViews.{at_leaf, at-binary, at-unary, at-comprehension}
+use Rattle.nodes.proofs.ExpressionViews.{at_leaf, at-binary, at-unary, at-comprehension, expression-symbol}
 use Rattle.nodes.proofs.FormulaViews.{at-comparison, at_test, at-negation, at-connective, at-quantifier}
+use Rattle.nodes.proofs.FormulaViews.{formula-symbol}
 use Rattle.clauses_emission.proofs.Ranges.{inside-grows}
 use Rattle.clauses_matrix.proofs.Fills.{operand-grow}
 use Rattle.clauses_translation.proofs.Walking.{finished, ready-after, both-finished}
@@ -73,8 +74,8 @@ pub formula-read_node-node-requires : goal.formula-read_node-node-requires
 formula-read_node-node-requires t c =
     formula-low (accepted-facts _ _ c.args.source.now.sheet.taken) c.requires.formula
 
-pub expression-leaf-matrix-requires : goal.expression-leaf-matrix-requires
-expression-leaf-matrix-requires t c =
+pub expression-leaf-requires : goal.expression-leaf-requires
+expression-leaf-requires t c =
     (at_leaf (expression_node _ _ c.args.source.now.sheet.taken c.read_node-node.ensures.0 c.requires.expression) c.in-Leaf.is).names
 
 pub expression-expression-p-requires : goal.expression-expression-p-requires
@@ -126,7 +127,7 @@ pub expression-returns-in-Leaf : goal.expression-returns-in-Leaf
 expression-returns-in-Leaf t c =
     leaf-walks c.args.source.now.given.now c.args.env (expression_node _ _ c.args.source.now.sheet.taken c.read_node-node.ensures.0
     c.requires.expression) c.in-Leaf.is
-    c.requires.ready.bounded c.requires.ready.inside c.leaf-matrix.ensures
+    c.requires.ready.bounded c.requires.ready.inside c.leaf.ensures
 
 pub expression-returns-in-Binary : goal.expression-returns-in-Binary
 expression-returns-in-Binary t c =
@@ -250,3 +251,15 @@ formula-returns-in-Quantifier t c =
     quantifier-walks c.args.source.now.given.now c.args.env
     (formula_node _ _ c.args.source.now.sheet.taken c.read_node-node.ensures.0 c.requires.formula) c.in-Quantifier.is
     c.bodies-row.ensures (c.quantify_over.ensures (environment c.args.env))
+
+pub expression-unreachable-requires : goal.expression-unreachable-requires
+expression-unreachable-requires t c =
+    let d = c.in_default in
+    expression-symbol (expression_node _ _ c.args.source.now.sheet.taken c.read_node-node.ensures.0 c.requires.expression)
+    d.not-Leaf d.not-Binary d.not-Unary d.not-Comprehension
+
+pub formula-unreachable-requires : goal.formula-unreachable-requires
+formula-unreachable-requires t c =
+    let d = c.in_default in
+    formula-symbol (formula_node _ _ c.args.source.now.sheet.taken c.read_node-node.ensures.0 c.requires.formula)
+    d.not-Comparison d.not-Test d.not-Negation d.not-Connective d.not-Quantifier

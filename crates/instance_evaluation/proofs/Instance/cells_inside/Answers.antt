@@ -1,17 +1,12 @@
 -- Each relation in turn.
-use mathlib.Core.Path.{refl, ap, ◌∙◌}
-use Prim.Native.Nat.{ℕ}
 use native.Mathlib.Omega.{arith}
 use Rattle.std.proofs.Common.{rules, tests}
 use Rattle.std.proofs.iter.Serving.{serving}
-use Rattle.std.proofs.lemmas.Iterator.{YieldsList-from_range}
-use Rattle.std.proofs.lemmas.Iterator.Search.{all_from_yields_List}
-use Rattle.prelude.specs.Tests.{each}
-use Rattle.prelude.proofs.Chains.{each-is}
 use Rattle.sheet_rules.specs.Blocks.{sheet_of}
 use Rattle.relational.specs.Evaluation.{cells_inside}
 use Rattle.cells.proofs.Parts.{relations-counted}
 use Rattle.instance_evaluation.specs.Walking.{relation_inside}
+use Rattle.instance_evaluation.proofs.Turns.{each-turn}
 use Rattle.instance_evaluation.proofs.Instance.cells_inside.Goals as goal
 
 pub all-requires-clause-callable : goal.all-requires-clause-callable
@@ -23,8 +18,5 @@ pub returns : goal.returns
 unfolding cells_inside
 returns c =
     let i = c.args.self.now in
-    let inside = relation_inside (sheet_of i.sheet.bytes.now) i.cells.now in
-    let n = i.sheet.layout.relations.count in
-    all_from_yields_List inside _ _ _ c.all.ensures.ran (YieldsList-from_range 0 n n refl (omega arith))
+    each-turn (relation_inside (sheet_of i.sheet.bytes.now) i.cells.now) c.all.ensures.ran (relations-counted _ _ i.sheet.taken)
     (λ x b q k. search (rules, tests))
-    ∙ each-is inside n ∙ ap (λ (m : ℕ). each m inside) (relations-counted _ _ i.sheet.taken)

@@ -1,5 +1,5 @@
 -- The intersection with the variable's atoms.
-use mathlib.Core.Path.{◌≡◌, refl, ap}
+use mathlib.Core.Path.{ap}
 use mathlib.Core.Bool.{Bool}
 use Rattle.relational.specs.declared.Binary.TheVariants.{Intersection as intersection}
 use Rattle.relational.specs.Matrices.{Matrix}

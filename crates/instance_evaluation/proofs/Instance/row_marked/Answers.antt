@@ -7,38 +7,15 @@ use native.Mathlib.Omega.{arith}
 use Rattle.sheet_rules.specs.Blocks.{sheet_of, multiplicity}
 use Rattle.relational.specs.Matrices.{Matrix}
 use Rattle.relational.specs.Evaluation.{row_holds, row_cells}
-use Rattle.instance_evaluation.proofs.Layouts.{few, first-few, row-few, row-low, row-cells}
+use Rattle.instance_evaluation.proofs.Layouts.{few, row-few, row-cells}
 use Rattle.instance_evaluation.proofs.Instance.row_marked.Goals as goal
 
-pub row_length-columns-requires : goal.row_length-columns-requires
-row_length-columns-requires c = omega (arith, few c.args.self.now c.requires.r_bound)
-
-pub offset_bounds-self-r : goal.offset_bounds-self-r
-offset_bounds-self-r c = omega (arith, few c.args.self.now c.requires.r_bound)
-
-pub bounds-self-r : goal.bounds-self-r
-bounds-self-r c = few c.args.self.now c.requires.r_bound
-
-pub overflow_mul-i : goal.overflow_mul-i
-overflow_mul-i c = omega (arith, row-low c.args.self.now c.args.r c.requires.i_bound c.row_length-columns.ensures.1)
-
-pub overflow_add-self : goal.overflow_add-self
-overflow_add-self c =
-    omega (
-      arith,
-      row-low c.args.self.now c.args.r c.requires.i_bound c.row_length-columns.ensures.1,
-      first-few c.args.self.now c.requires.r_bound,
-    )
+pub row_length-requires : goal.row_length-requires
+row_length-requires c = omega (arith, few c.args.self.now c.requires.r_bound)
 
 pub given-row-requires-clause-first_le_most_cells : goal.given-row-requires-clause-first_le_most_cells
-given-row-requires-clause-first_le_most_cells c = (
-  omega (
-    arith,
-    row-low c.args.self.now c.args.r c.requires.i_bound c.row_length-columns.ensures.1,
-    first-few c.args.self.now c.requires.r_bound,
-  ),
-  (omega arith, c.row_length-columns.ensures.1),
-)
+given-row-requires-clause-first_le_most_cells c =
+    (omega (arith, c.row_start.ensures.1), (omega arith, c.row_length.ensures.1))
 
 pub multiplicity-requires : goal.multiplicity-requires
 multiplicity-requires c = omega (arith, few c.args.self.now c.requires.r_bound)
@@ -53,7 +30,7 @@ returns c =
     let sheet = sheet_of i.sheet.bytes.now in
     let r = c.args.r in
     let cells = ap (λ (m : Matrix Bool). m.cells) c.given-row.ensures.is
-    ∙ row-cells sheet r i.cells.now c.args.i (i.located.first r c.requires.r_bound) c.row_length-columns.ensures.0 in
+    ∙ row-cells sheet r i.cells.now c.args.i c.row_start.ensures.0 c.row_length.ensures.0 in
     c.row_holds.ensures sheet i.cells.now
     ∙ ap₂ (λ (m : ℕ) (row : List Bool). row_holds sheet i.cells.now m c.row_bound.result row) c.multiplicity.ensures cells
     ∙ ap (λ (b : Bool). row_holds sheet i.cells.now (multiplicity sheet r) b (row_cells sheet i.cells.now r c.args.i)) c.row_bound.ensures

@@ -1,29 +1,40 @@
 -- The steps of a call fit; a call that is not spent ends the chain, and one that is spent makes it longer.
-use Rattle.std.proofs.Common.{◌≡◌, sym, ◌∙◌, ap, rules, arith}
-use Rattle.search.specs.Answers.{answer_of, steps_in, spent}
+use Rattle.std.proofs.Common.{◌≡◌, sym, ◌∙◌, ap, Some, None}
+use Rattle.search_rules.specs.declared.Steps.{Steps}
+use Rattle.search.specs.Answers.{Answer, found, none, spent, refused, answer_of, steps_in}
 use Rattle.search.proofs.Counters.{resumed-few}
 use Rattle.search.proofs.MoreSteps.{Unspent}
+use Rattle.onward.specs.Private.{spent_in}
 use Rattle.onward.proofs.CallByCall.{ended, goes_on, at-end}
 use Rattle.onward.proofs.calls.go_on.Goals as goal
-use Rattle.onward.proofs.calls.go_on.Goals.{in_default-via-in-Ok+in_default, in_default-via-in_default}
+
+was_spent : (a : Answer) (t : Steps) → spent_in a ≡ Some t → a ≡ spent t
+was_spent (found s) t e = cc
+was_spent (none s) t e = cc
+was_spent (spent s) t e = cc
+was_spent (refused n) t e = cc
+
+unspent : (a : Answer) → spent_in a ≡ None → Unspent a
+unspent (found s) e t f = cc
+unspent (none s) e t f = cc
+unspent (spent s) e t f = cc
+unspent (refused n) e t f = cc
 
 pub step_figure-requires : goal.step_figure-requires
 step_figure-requires c =
     let l = c.loop-left in
-    let t = c.in-Ok-Spent.field-0.steps in
-    let a : answer_of c.resumed-call.result.answer ≡ spent t = search rules in
-    rw c.in-Ok-Spent.is
-    (resumed-few c.args.list.now c.args.v l.values l.trail l.position 1000000 t
-    (sym (ap (λ r. steps_in r.outcome.answer) c.resumed-call.ensures) ∙ ap steps_in a))
+    let a = was_spent (answer_of c.resumed-call.result.answer) c.in-Some.steps (sym c.in-Some.ensures) in
+    resumed-few c.args.list.now c.args.v l.values l.trail l.position 1000000 c.in-Some.steps
+    (sym (ap (λ r. steps_in r.outcome.answer) c.resumed-call.ensures) ∙ ap steps_in a)
 
 pub returns-in_default : goal.returns-in_default
 returns-in_default c =
     ended _ _ _ _ _ _ _ _ c.loop-left.invariant c.loop-left-test.true _ _ _ _ c.resumed-call.ensures
-    (elim c.in_default.branch [ in_default-via-in-Ok+in_default w ↦ (λ steps e. grind arith) | in_default-via-in_default w ↦ (λ steps e. grind arith) ])
+    (unspent (answer_of c.resumed-call.result.answer) (sym c.spent_steps.ensures ∙ c.in_default.is))
 
 pub loop-left-preserved : goal.loop-left-preserved
 loop-left-preserved c =
-    let a : answer_of c.resumed-call.result.answer ≡ spent c.in-Ok-Spent.steps = search rules in
+    let a = was_spent (answer_of c.resumed-call.result.answer) c.in-Some.steps (sym c.in-Some.ensures) in
     goes_on _ _ _ _ _ _ _ _ c.loop-left.invariant c.loop-left-test.true _ _ _ _ c.resumed-call.ensures _ a
     c.resumed-call.auto.values c.resumed-call.auto.trail
 

@@ -1,24 +1,12 @@
-use mathlib.Core.Path.{refl, ◌∙◌}
-use Prim.Native.Nat.{◌<◌}
+use mathlib.Core.Path.{◌≡◌, refl, ◌∙◌, ap}
+use Prim.Native.Nat.{◌<◌, ◌-◌, ◌+◌}
 use native.Mathlib.Omega.{arith}
 use Rattle.search_core.proofs.RunCode.{figure-on, far_none, far-found, far-on, far-emptied, far-full, far-spent}
 use Rattle.search_core.proofs.run.go.Goals as goal
-use Rattle.search_core.proofs.run.go.Lts as lts
-use Rattle.search_core.proofs.run.go.Tie as tie
-use Rattle.search_core.proofs.run.go.Reads as reads
 
-abbrev At-In-loop : Type 0
-At-In-loop =
-    lts.In-loop tie.the-claims reads.Pre reads.Post goal.the-invariant-loop-left goal.the-decreases-loop-left
-    tie.handed_clauses
-
--- a step is left in a turn of the loop
-some_left : (c : At-In-loop) → 0 < c.loop-left.left
-some_left c = omega (arith, c.loop-left-test.true)
-
-pub step-moved-requires : goal.step-moved-requires
-step-moved-requires c =
-    let l = c.loop-left.invariant in
+pub step-requires : goal.step-requires
+step-requires c =
+    let l = c.loop.invariant in
     let f = l.0.far c.requires.some_stored.state c.requires.some_stored.stored in record {
       fine = rw l.0.wide c.requires.fine;
       values_len_bound = rw l.0.wide c.requires.values_len_bound;
@@ -28,42 +16,39 @@ step-moved-requires c =
 
 pub returns-in-NoneLeft : goal.returns-in-NoneLeft
 returns-in-NoneLeft c state i =
-    let l = c.loop-left.invariant.0 in
+    let l = c.loop.invariant.0 in
     let f = l.far state i in
     let s = (rw l.wide at c.in-NoneLeft.ensures.stepped) f.at f.stored in
     far_none _ _ _ _ _ _ _ _ _ f _ _ _ _ refl c.emptied-position.ensures s
 
 pub returns-in-AllSet : goal.returns-in-AllSet
 returns-in-AllSet c state i =
-    let l = c.loop-left.invariant.0 in
+    let l = c.loop.invariant.0 in
     let f = l.far state i in
     let s = (rw l.wide at c.in-AllSet.ensures.stepped) f.at f.stored in
     far-found _ _ _ _ _ _ _ _ _ f _ _ _ refl s
 
-pub overflow_sub-left : goal.overflow_sub-left
-overflow_sub-left c = some_left c.before.before.before.before.before.before.before.before.before.before.before.before
-
-pub loop-left-preserved : goal.loop-left-preserved
-loop-left-preserved c =
-    let loop = c.loop-left in
-    let l = loop.invariant.0 in
-    let t = some_left c.before.before.before.before.before.before.before.before.before.before.before.before in (
+pub loop-preserved : goal.loop-preserved
+loop-preserved c =
+    let l = c.loop.invariant.0 in
+    let some : 0 < c.args.budget - c.loop.counter = omega (arith, c.loop-test.true) in
+    let less : c.args.budget - c.loop.counter - 1 ≡ c.args.budget - (c.loop.counter + 1) = omega arith in (
       record {
-        figure = figure-on loop.position _ c.in-To.kind _ _ _ c.advance-position.ensures t l.figure;
-        wide = c.step-moved.auto.values ∙ l.wide;
-        deep = c.step-moved.auto.trail ∙ l.deep;
+        figure = rw less at (figure-on c.loop.position _ c.in-To.kind _ _ _ c.advance-position.ensures some l.figure);
+        wide = c.step.auto.values ∙ l.wide;
+        deep = c.step.auto.trail ∙ l.deep;
         far = λ state i.
             let f = l.far state i in
             let s = (rw l.wide at c.in-To.ensures.stepped) f.at f.stored in
-            far-on _ _ _ _ _ _ _ _ _ f _ _ _ _ _ t c.advance-position.ensures _ refl s;
+            rw less at (far-on _ _ _ _ _ _ _ _ _ f _ _ _ _ _ some c.advance-position.ensures _ refl s);
       },
-      c.step-moved.ensures.watched_2,
-      c.step-moved.auto.weights ∙ loop.invariant.2,
+      c.step.ensures.watched_2,
+      c.step.auto.weights ∙ c.loop.invariant.2,
     )
 
-pub back-requires : goal.back-requires
-back-requires c =
-    let l = c.loop-left.invariant in
+pub stop-requires : goal.stop-requires
+stop-requires c =
+    let l = c.loop.invariant in
     let f = l.0.far c.requires.some_stored.state c.requires.some_stored.stored in record {
       fine = rw l.0.wide c.requires.fine;
       values_len_bound = rw l.0.wide c.requires.values_len_bound;
@@ -71,24 +56,9 @@ back-requires c =
       watched = l.1;
     }
 
-pub returns-in-None : goal.returns-in-None
-returns-in-None c state i =
-    let l = c.loop-left.invariant.0 in
+pub returns : goal.returns
+returns c state i =
+    let l = c.loop.invariant.0 in
     let f = l.far state i in
-    let e = (rw l.wide at c.in-None.ensures) f.at f.stored.was_open f.stored.values_are in
-    let b = (rw l.wide at c.back.ensures.turned) f.at f.stored in
-    rw c.in-None.is (far-emptied _ _ _ _ _ _ _ _ _ f _ _ _ _ _ refl e c.emptied-position-in-None.ensures b)
-
-pub returns-in-Found : goal.returns-in-Found
-returns-in-Found c state i =
-    let l = c.loop-left.invariant.0 in
-    let f = l.far state i in
-    let e = (rw l.wide at c.in-Found.ensures) f.at f.stored.was_open f.stored.values_are in
-    rw c.in-Found.is (far-full _ _ _ _ _ _ _ _ _ f _ refl e)
-
-pub returns-in-Spent : goal.returns-in-Spent
-returns-in-Spent c state i =
-    let l = c.loop-left.invariant.0 in
-    let f = l.far state i in
-    let e = (rw l.wide at c.in-Spent.ensures) f.at f.stored.was_open f.stored.values_are in
-    rw c.in-Spent.is (far-spent _ _ _ _ _ _ _ _ _ f _ c.loop-left-test.false refl e)
+    let none : c.args.budget - c.loop.counter ≡ 0 = omega (arith, c.loop-test.false) in
+    rw (← f.alike, none) ((rw l.wide at c.stop.ensures) f.at f.stored)

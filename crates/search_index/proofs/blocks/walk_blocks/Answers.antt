@@ -1,4 +1,4 @@
-use Rattle.search_index.proofs.Flags.{long-enough, search-down, search-lowered}
+use Rattle.search_index.proofs.Flags.{least-of, long-enough, search-down, search-lowered}
 use Rattle.search_index.proofs.blocks.walk_blocks.Goals as goal
 use Rattle.search_index.proofs.blocks.walk_blocks.Goals.{then-weights-b-eq1+else-c-end, else-weights-b-eq1}
 
@@ -18,8 +18,8 @@ loop-at-preserved c =
     let inside = c.loop-at-test.true in
     elim c.if-weights-b-eq1.branch [
       | then-weights-b-eq1+else-c-end w ↦
-          let le = w.lesser-end.ensures in
+          let le = least-of _ _ _ w.min-end.ensures in
           search-lowered _ _ _ _ _ few inv inside _ _ le.0 le.1 le.2 w.unit_within-c.ensures _ w.weights-is
-          w.if-c-end.false
+          w.if-c-end.false 
       | else-weights-b-eq1 w ↦ rw w.weights-is (search-down _ _ _ _ _ few inv inside w.if-weights-b-eq1.false)
     ]

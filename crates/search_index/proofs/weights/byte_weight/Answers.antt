@@ -1,12 +1,13 @@
--- `search_index::weights::byte_weight` meets its contract. Assumes nothing.
+use Rattle.std.proofs.Common.{◌≡◌, arith}
+use Rattle.std.proofs.lemmas.Bool.Decides.{nat_tests}
 use Rattle.search_index.proofs.WeightCode.{weighs-true, weighs-open, weighs-false}
 use Rattle.search_index.proofs.weights.byte_weight.Goals as goal
 
-pub returns-then-x-eq1 : goal.returns-then-x-eq1
-returns-then-x-eq1 c = weighs-true _ c.if-x-eq1.true
+pub returns-in-1 : goal.returns-in-1
+returns-in-1 c = weighs-true _ (grind (arith, nat_tests))
 
-pub returns-then-x-eq2 : goal.returns-then-x-eq2
-returns-then-x-eq2 c = weighs-open _ c.if-x-eq2.true
+pub returns-in-2 : goal.returns-in-2
+returns-in-2 c = weighs-open _ (grind (arith, nat_tests))
 
-pub returns : goal.returns
-returns c = weighs-false _ c.if-x-eq1.false c.if-x-eq2.false
+pub returns-in_default : goal.returns-in_default
+returns-in_default c = weighs-false _ (λ e. grind (arith, nat_tests)) (λ e. grind (arith, nat_tests))
