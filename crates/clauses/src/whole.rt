@@ -35,15 +35,16 @@ pub(crate) fn translate(list: &mut [i32], sheet: &Sheet) -> Tape
         given: &words[..count],
         starts,
     };
-    let start = Tape {
+    let mut tape = Tape {
         next: 2 + count,
         clauses: 0,
         words: 0,
     };
-    let first = emit_clause(list, start, 1, &[]);
-    let inside = members(list, first, &source);
-    let marked = marks(list, inside, &source);
+    emit_clause(list, &mut tape, 1, &[]);
+    members(list, &mut tape, &source);
+    marks(list, &mut tape, &source);
     let root = sheet.layout.nodes.count - 1;
-    let made = formula(list, marked, &source, [0; 4], root);
-    emit_clause(list, made.tape, made.literal, &[])
+    let truth = formula(list, &mut tape, &source, [0; 4], root);
+    emit_clause(list, &mut tape, truth, &[]);
+    tape
 }

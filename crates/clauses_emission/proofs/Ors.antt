@@ -1,21 +1,23 @@
 -- Gates: their clauses, word by word, and OR by the number of its inputs.
-use mathlib.Core.Path.{◌≡◌, refl, sym, ap, ◌∙◌, subst}
+use mathlib.Core.Path.{◌≡◌, refl, sym, ap, ◌∙◌}
 use mathlib.Core.List.{List, [], ◌∷◌, ◌++◌, map, append-nil, map-append}
 use Prim.Native.Nat.{ℕ, suc, ◌+◌, ◌*◌, ◌≤◌, ◌<◌}
 use native.Mathlib.Omega.{arith}
 use lib.IntN.{ℤ, pos}
+use mir.Syntax.{w32}
+use mir.Val.{SFits}
 use lib.ListN.{length, get_or, take, set, length-append, length-map}
 use lib.Seq.{take-suc, take-suc-set}
 use Rattle.literal.specs.Literals.{Literal, positive, negative, opposite, word_of}
-use Rattle.literal.specs.Words.{literal_of}
+use Rattle.literal.specs.Words.{literal_of, opposite_word}
+use Rattle.literal.proofs.Signs.{read}
 use Rattle.clause_list.specs.ClauseList.{words_of}
 use Rattle.clauses_rules.specs.Builder.{Builder, return, ◌<$>◌}
 use Rattle.clauses_rules.specs.Gates.{Clause, gate_of, or_of, input_clauses, gates_clauses}
 use Rattle.clauses_emission.specs.declared.Tape.{Tape}
-use Rattle.clauses_emission.specs.declared.Made.{Made}
 use Rattle.clauses_emission.specs.Emission.{Inside, literals_of, words_for, Appends, Room, Bounded, Within, Emits, EmitsLiteral}
 use Rattle.clauses_emission.proofs.Writes.{writes_then, writes_as, writes-length}
-use Rattle.clauses_emission.proofs.Ranges.{inside-opposite}
+use Rattle.clauses_emission.proofs.Ranges.{inside-opposite, opposite-read}
 use Rattle.clauses_emission.proofs.Steps.{emits-map}
 
 -- ---- the clauses of a gate's inputs
@@ -125,10 +127,8 @@ opposites-next ws out k r h l e f =
     ∙ map-append opposite (literals_of (take k ws)) (literal_of w ∷ [])))
 
 -- ---- the opposite of what a step gives
-pub emits-negated : (step : Builder Literal) (x y : Made) {old new : List ℤ} {a : Tape}
-    → EmitsLiteral (step a.next) old a x.literal new x.tape
-    → (y.tape ≡ x.tape) × (literal_of y.literal ≡ opposite (literal_of x.literal))
-    → EmitsLiteral ((opposite <$> step) a.next) old a y.literal new y.tape
-emits-negated step x y {old} {new} {a} p e =
-    subst (EmitsLiteral ((opposite <$> step) a.next) old a y.literal new) (sym e.0)
-    (emits-map opposite step p e.1 (rw e.1 (inside-opposite (literal_of x.literal) p.fine)))
+pub emits-negated : (step : Builder Literal) {x y : ℤ} {old new : List ℤ} {a b : Tape} → EmitsLiteral (step a.next) old a x new b
+    → SFits w32 x → y ≡ opposite_word (read x) → SFits w32 y → EmitsLiteral ((opposite <$> step) a.next) old a (read y) new b
+emits-negated step {x} {y} p f e g =
+    let o : literal_of (read y) ≡ opposite (literal_of x) = opposite-read _ x y p.bounded.last f p.fine e g in
+    emits-map opposite step p o (rw o (inside-opposite (literal_of x) p.fine))

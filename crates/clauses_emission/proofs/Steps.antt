@@ -8,10 +8,14 @@ use native.Mathlib.Nat.{add-zero}
 use native.Mathlib.Omega.{arith}
 use lib.Dec.{leb}
 use lib.IntN.{ℤ}
+use mir.Syntax.{w32}
+use mir.Val.{SFits}
 use lib.ListN.{length, length-append}
 use borrow.Author.Tests.{leb-true, leb-false}
 use Rattle.prelude.proofs.Laws.{decided}
 use Rattle.literal.specs.Literals.{Literal, positive, opposite}
+use Rattle.literal.specs.Words.{literal_of}
+use Rattle.literal.proofs.Signs.{read, back}
 use Rattle.relational.specs.Matrices.{upto}
 use Rattle.relational.proofs.Places.{upto-suc}
 use Rattle.clauses_rules.specs.Builder.{Gate, Built, Builder, return, ◌>>=◌, ◌<$>◌, each}
@@ -155,6 +159,11 @@ emits-as {A} {r} {s} {old} {new} {a} {b} {x} {y} {F} e f p =
 pub emits-literal : {r : Built Literal} {old new : List ℤ} {a b : Tape} {l m : Literal} → l ≡ m
     → Emits r old a l new b (λ n. Inside n l) → Emits r old a m new b (λ n. Inside n m)
 emits-literal {r} {old} {new} {a} {b} {l} {m} e p = subst (λ (k : Literal). Emits r old a k new b (λ n. Inside n k)) e p
+
+-- the same literal as the machine reads its word
+pub emits-read : {r : Built Literal} {old new : List ℤ} {a b : Tape} {w : ℤ} → SFits w32 w → Emits r old a (literal_of w) new b (λ n. Inside n (literal_of w))
+    → Emits r old a (literal_of (read w)) new b (λ n. Inside n (literal_of (read w)))
+emits-read {w} f p = emits-literal (ap literal_of (sym (back w f))) p
 
 -- past the limit a step may be given up
 pub given-up : {A : Type 0} (step : Builder A) (x : A) (list : List ℤ) (tape : Tape) {F : ℕ → Type 0} → Regular step → Bounded tape

@@ -10,82 +10,59 @@ ghost use Rattle.clauses_emission.specs.Settling.{Told, Tells};
 
 use super::inputs::{settle, turn};
 use super::list::emit_clause;
-use super::{LIMIT, Made, Pairing, Tape};
+use super::{LIMIT, Pairing, Tape};
 
 // Writes (g, -l) for each input l of the gate of the next variable.
-fn gate_inputs(list: &mut [i32], tape: Tape, g: i32, inputs: &[i32]) -> Tape
-    requires bounded { Bounded tape }
-    requires within { Within tape.next }
-    requires inputs { Inputs tape.next inputs.now }
-    requires g_value { g ≡ pos tape.next }
-    ensures { Appends (input_clauses tape.next (literals_of inputs.now))
-        list.old tape list.new result }
+fn gate_inputs(list: &mut [i32], tape: &mut Tape, g: i32, inputs: &[i32])
+    requires bounded { Bounded tape.old }
+    requires within { Within tape.old.next }
+    requires inputs { Inputs tape.old.next inputs.now }
+    requires g_value { g ≡ pos tape.old.next }
+    ensures { Appends (input_clauses tape.old.next (literals_of inputs.now))
+        list.old tape.old list.new tape.new }
 {
-    let mut after = tape;
     for l in inputs {
-        after = emit_clause(list, after, g, &[literal::opposite(*l)]);
+        emit_clause(list, tape, g, &[literal::opposite(*l)]);
     }
-    after
 }
 
 // The gate of the next variable, and its clauses.
-fn gate(list: &mut [i32], tape: Tape, inputs: &[i32]) -> Made
-    requires bounded { Bounded tape }
-    requires inputs { Inputs tape.next inputs.now }
-    ensures { EmitsList gate_of inputs.now list.old tape result.literal list.new result.tape }
+fn gate(list: &mut [i32], tape: &mut Tape, inputs: &[i32]) -> i32
+    requires bounded { Bounded tape.old }
+    requires inputs { Inputs tape.old.next inputs.now }
+    ensures { EmitsList gate_of inputs.now list.old tape.old result list.new tape.new }
 {
     if LIMIT < tape.next {
-        return Made { literal: 1, tape };
+        return 1;
     }
     let g = literal::positive(tape.next as u32);
-    let middle = gate_inputs(list, tape, g, inputs);
-    let end = emit_clause(list, middle, literal::opposite(g), inputs);
-    Made {
-        literal: g,
-        tape: Tape {
-            next: end.next + 1,
-            clauses: end.clauses,
-            words: end.words,
-        },
-    }
+    gate_inputs(list, tape, g, inputs);
+    emit_clause(list, tape, literal::opposite(g), inputs);
+    tape.next += 1;
+    g
 }
 
 // OR, over inputs that change places: what remains of them moves to the front.
-pub fn or(list: &mut [i32], tape: Tape, inputs: &mut [i32]) -> Made
-    requires bounded { Bounded tape }
-    requires inputs { Inputs tape.next inputs.old }
-    ensures { EmitsList spec.or inputs.old list.old tape result.literal list.new result.tape }
+pub fn or(list: &mut [i32], tape: &mut Tape, inputs: &mut [i32]) -> i32
+    requires bounded { Bounded tape.old }
+    requires inputs { Inputs tape.old.next inputs.old }
+    ensures { EmitsList spec.or inputs.old list.old tape.old result list.new tape.new }
 {
     match settle(inputs) {
-        0 => Made { literal: -1, tape },
-        1 => Made {
-            literal: inputs[0],
-            tape,
-        },
+        0 => -1,
+        1 => inputs[0],
         n => gate(list, tape, &inputs[..n]),
     }
 }
 
-// Not: the opposite literal.
-pub fn negate(made: Made) -> Made
-    requires bounded { Bounded made.tape }
-    requires inside { Inside made.tape.next (literal_of made.literal) }
-    ensures { (result.tape ≡ made.tape) × (literal_of result.literal ≡ opposite (literal_of made.literal)) }
-{
-    Made {
-        literal: literal::opposite(made.literal),
-        tape: made.tape,
-    }
-}
-
 // AND: the opposite of OR of the opposites, in the place of the inputs.
-pub fn and(list: &mut [i32], tape: Tape, inputs: &mut [i32]) -> Made
-    requires bounded { Bounded tape }
-    requires inputs { Inputs tape.next inputs.old }
-    ensures { EmitsList spec.and inputs.old list.old tape result.literal list.new result.tape }
+pub fn and(list: &mut [i32], tape: &mut Tape, inputs: &mut [i32]) -> i32
+    requires bounded { Bounded tape.old }
+    requires inputs { Inputs tape.old.next inputs.old }
+    ensures { EmitsList spec.and inputs.old list.old tape.old result list.new tape.new }
 {
     turn(inputs);
-    negate(or(list, tape, inputs))
+    literal::opposite(or(list, tape, inputs))
 }
 
 // OR(p, q) where constants, a repeat or opposites tell it, and not where it is a gate.
@@ -118,74 +95,74 @@ pub fn told_both(p: i32, q: i32) -> Option<i32>
 }
 
 // OR(p, q): a gate is made only where nothing tells it.
-pub fn either(list: &mut [i32], tape: Tape, p: i32, q: i32) -> Made
-    requires bounded { Bounded tape }
-    requires inside { Inside tape.next (literal_of p) }
-    requires inside_2 { Inside tape.next (literal_of q) }
-    ensures { EmitsTwo two.either p q list.old tape result.literal list.new result.tape }
+pub fn either(list: &mut [i32], tape: &mut Tape, p: i32, q: i32) -> i32
+    requires bounded { Bounded tape.old }
+    requires inside { Inside tape.old.next (literal_of p) }
+    requires inside_2 { Inside tape.old.next (literal_of q) }
+    ensures { EmitsTwo two.either p q list.old tape.old result list.new tape.new }
 {
     match told(p, q) {
-        Some(literal) => Made { literal, tape },
+        Some(l) => l,
         None => gate(list, tape, &[p, q]),
     }
 }
 
-pub fn implies(list: &mut [i32], tape: Tape, p: i32, q: i32) -> Made
-    requires bounded { Bounded tape }
-    requires inside { Inside tape.next (literal_of p) }
-    requires inside_2 { Inside tape.next (literal_of q) }
-    ensures { EmitsTwo two.implies p q list.old tape result.literal list.new result.tape }
+pub fn implies(list: &mut [i32], tape: &mut Tape, p: i32, q: i32) -> i32
+    requires bounded { Bounded tape.old }
+    requires inside { Inside tape.old.next (literal_of p) }
+    requires inside_2 { Inside tape.old.next (literal_of q) }
+    ensures { EmitsTwo two.implies p q list.old tape.old result list.new tape.new }
 {
     either(list, tape, literal::opposite(p), q)
 }
 
-pub fn apart(list: &mut [i32], tape: Tape, p: i32, q: i32) -> Made
-    requires bounded { Bounded tape }
-    requires inside { Inside tape.next (literal_of p) }
-    requires inside_2 { Inside tape.next (literal_of q) }
-    ensures { EmitsTwo two.apart p q list.old tape result.literal list.new result.tape }
+pub fn apart(list: &mut [i32], tape: &mut Tape, p: i32, q: i32) -> i32
+    requires bounded { Bounded tape.old }
+    requires inside { Inside tape.old.next (literal_of p) }
+    requires inside_2 { Inside tape.old.next (literal_of q) }
+    ensures { EmitsTwo two.apart p q list.old tape.old result list.new tape.new }
 {
     either(list, tape, literal::opposite(p), literal::opposite(q))
 }
 
-pub fn both(list: &mut [i32], tape: Tape, p: i32, q: i32) -> Made
-    requires bounded { Bounded tape }
-    requires inside { Inside tape.next (literal_of p) }
-    requires inside_2 { Inside tape.next (literal_of q) }
-    ensures { EmitsTwo two.both p q list.old tape result.literal list.new result.tape }
+pub fn both(list: &mut [i32], tape: &mut Tape, p: i32, q: i32) -> i32
+    requires bounded { Bounded tape.old }
+    requires inside { Inside tape.old.next (literal_of p) }
+    requires inside_2 { Inside tape.old.next (literal_of q) }
+    ensures { EmitsTwo two.both p q list.old tape.old result list.new tape.new }
 {
-    negate(apart(list, tape, p, q))
+    literal::opposite(apart(list, tape, p, q))
 }
 
 // AND(p, -q): the opposite of OR(-p, q).
-pub fn without(list: &mut [i32], tape: Tape, p: i32, q: i32) -> Made
-    requires bounded { Bounded tape }
-    requires inside { Inside tape.next (literal_of p) }
-    requires inside_2 { Inside tape.next (literal_of q) }
-    ensures { EmitsTwo two.without p q list.old tape result.literal list.new result.tape }
+pub fn without(list: &mut [i32], tape: &mut Tape, p: i32, q: i32) -> i32
+    requires bounded { Bounded tape.old }
+    requires inside { Inside tape.old.next (literal_of p) }
+    requires inside_2 { Inside tape.old.next (literal_of q) }
+    ensures { EmitsTwo two.without p q list.old tape.old result list.new tape.new }
 {
-    negate(implies(list, tape, p, q))
+    literal::opposite(implies(list, tape, p, q))
 }
 
 // IFF(p, q): AND(OR(-p, q), OR(-q, p)).
-pub fn same(list: &mut [i32], tape: Tape, p: i32, q: i32) -> Made
-    requires bounded { Bounded tape }
-    requires inside { Inside tape.next (literal_of p) }
-    requires inside_2 { Inside tape.next (literal_of q) }
-    ensures { EmitsTwo two.same p q list.old tape result.literal list.new result.tape }
+pub fn same(list: &mut [i32], tape: &mut Tape, p: i32, q: i32) -> i32
+    requires bounded { Bounded tape.old }
+    requires inside { Inside tape.old.next (literal_of p) }
+    requires inside_2 { Inside tape.old.next (literal_of q) }
+    ensures { EmitsTwo two.same p q list.old tape.old result list.new tape.new }
 {
     let x = implies(list, tape, p, q);
-    let y = implies(list, x.tape, q, p);
-    both(list, y.tape, x.literal, y.literal)
+    let y = implies(list, tape, q, p);
+    both(list, tape, x, y)
 }
 
 // One of these.
 // Kept: with a function in its place, each contract over cells would have to ask for its law, which `pairing` says once.
-pub fn pair(list: &mut [i32], tape: Tape, kind: Pairing, p: i32, q: i32) -> Made
-    requires bounded { Bounded tape }
-    requires inside { Inside tape.next (literal_of p) }
-    requires inside_2 { Inside tape.next (literal_of q) }
-    ensures { EmitsTwo (pairing kind) p q list.old tape result.literal list.new result.tape }
+pub fn pair(list: &mut [i32], tape: &mut Tape, kind: Pairing, p: i32, q: i32) -> i32
+    requires bounded { Bounded tape.old }
+    requires inside { Inside tape.old.next (literal_of p) }
+    requires inside_2 { Inside tape.old.next (literal_of q) }
+    ensures { EmitsTwo (pairing kind) p q list.old tape.old result list.new tape.new }
 {
     match kind {
         Pairing::Either => either(list, tape, p, q),

@@ -17,12 +17,6 @@ pub struct Tape {
     pub words: usize,
 }
 
-#[derive(Clone, Copy)]
-pub struct Made {
-    pub tape: Tape,
-    pub literal: i32,
-}
-
 // What is made of two literals: OR(p, q), AND(p, q), AND(p, -q), OR(-p, q), IFF(p, q), OR(-p, -q).
 #[derive(Clone, Copy)]
 pub enum Pairing {

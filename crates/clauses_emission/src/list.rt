@@ -41,17 +41,13 @@ fn write_at(list: &mut [i32], at: usize, first: i32, others: &[i32])
 }
 
 // One more clause: a first literal, and others.
-pub fn emit_clause(list: &mut [i32], tape: Tape, first: i32, others: &[i32]) -> Tape
-    requires { Room tape others.now }
-    ensures { Appends ((literal_of first ∷ literals_of others.now) ∷ []) list.old tape list.new result }
+pub fn emit_clause(list: &mut [i32], tape: &mut Tape, first: i32, others: &[i32])
+    requires { Room tape.old others.now }
+    ensures { Appends ((literal_of first ∷ literals_of others.now) ∷ []) list.old tape.old list.new tape.new }
 {
-    let at = tape.words;
-    write_at(list, at, first, others);
-    Tape {
-        next: tape.next,
-        clauses: tape.clauses + 1,
-        words: at + 2 + others.len(),
-    }
+    write_at(list, tape.words, first, others);
+    tape.clauses += 1;
+    tape.words += 2 + others.len();
 }
 
 // The word at i; past the end it counts as -1.

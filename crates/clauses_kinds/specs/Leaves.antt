@@ -8,10 +8,9 @@ use Rattle.relational.specs.declared.Leaf.{Leaf}
 use Rattle.relational.specs.Meaning.{Environment}
 use Rattle.relational.specs.Matrices.{upto, Place, places, Matrix, set_of, relation_of, leaf_matrix}
 use Rattle.clauses_rules.specs.Translation.{constant, literal_at}
+use Rattle.clauses_emission.specs.declared.Tape.{Tape}
 use Rattle.clauses_emission.specs.Emission.{AllInside, literals_of, Bounded}
-use Rattle.clauses_matrix.specs.Matrices.{Literals}
-use Rattle.clauses_matrix.specs.declared.MadeMatrix.{MadeMatrix}
-use Rattle.clauses_matrix.specs.Matrices.{matrix_of, Operand}
+use Rattle.clauses_matrix.specs.Matrices.{Literals, matrix_of, Operand}
 
 -- a matrix is that of a leaf
 pub record LeafIs (sheet : Sheet) (given : List ℤ) (l : Leaf) (a : ℕ) (env : Environment) (m : Literals) : Type 0 where
@@ -33,10 +32,10 @@ pub record Diagonal (p m : Literals) : Type 0 where
   pub fine : (k : ℕ) → 2 ≤ k → Operand k p → Operand k m
 
 -- the bodies of a binder were walked
-pub record Bodies (given : List ℤ) (p : MadeMatrix) : Type 0 where
-  pub bounded : Bounded p.tape
-  pub fine : Operand p.tape.next p.matrix
-  pub inside : AllInside p.tape.next (literals_of given)
+pub record Bodies (given : List ℤ) (p : Literals) (tape : Tape) : Type 0 where
+  pub bounded : Bounded tape
+  pub fine : Operand tape.next p
+  pub inside : AllInside tape.next (literals_of given)
 
 -- the first k words are the literals that f gives, the others -1
 pub record Filled (f : ℕ → Literal) (k : ℕ) (ws : List ℤ) : Type 0 where

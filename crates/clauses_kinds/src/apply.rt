@@ -14,141 +14,160 @@ ghost use Rattle.clauses_kinds.specs.Leaves.{Bodies};
 use crate::leaves;
 use crate::source::Source;
 use clauses_emission::gates::pair;
-use clauses_emission::{Made, Pairing, Tape};
+use clauses_emission::{Pairing, Tape};
+use clauses_matrix::Literals;
 use clauses_matrix::operators::{closure, inverse, join, matched, product};
 use clauses_matrix::truths::{all_matched, lone, none, some};
-use clauses_matrix::{Literals, MadeMatrix};
 use relational::{Binary, Comparison, Connective, Quantifier, Test, Unary};
 
 // Kinds 5 to 9: union, intersection, difference, join, product.
-pub fn binary(list: &mut [i32], operator: Binary, p: MadeMatrix, q: MadeMatrix) -> MadeMatrix
-    requires bounded { Bounded q.tape }
-    requires operand { Operand q.tape.next p.matrix }
-    requires operand_2 { Operand q.tape.next q.matrix }
-    ensures { EmitsBinary (translate_binary operator) p.matrix q.matrix
-        list.old q.tape result.matrix list.new result.tape }
+pub fn binary(
+    list: &mut [i32],
+    tape: &mut Tape,
+    operator: Binary,
+    p: Literals,
+    q: Literals,
+) -> Literals
+    requires bounded { Bounded tape.old }
+    requires operand { Operand tape.old.next p }
+    requires operand_2 { Operand tape.old.next q }
+    ensures { EmitsBinary (translate_binary operator) p q
+        list.old tape.old result list.new tape.new }
 {
     match operator {
-        Binary::Union => matched(list, q.tape, Pairing::Either, p.matrix, q.matrix),
-        Binary::Intersection => matched(list, q.tape, Pairing::Both, p.matrix, q.matrix),
-        Binary::Difference => matched(list, q.tape, Pairing::Without, p.matrix, q.matrix),
-        Binary::Join => join(list, q.tape, p.matrix, q.matrix),
-        Binary::Product => product(list, q.tape, p.matrix, q.matrix),
+        Binary::Union => matched(list, tape, Pairing::Either, p, q),
+        Binary::Intersection => matched(list, tape, Pairing::Both, p, q),
+        Binary::Difference => matched(list, tape, Pairing::Without, p, q),
+        Binary::Join => join(list, tape, p, q),
+        Binary::Product => product(list, tape, p, q),
     }
 }
 
 // Kinds 10 and 11: inverse, closure.
-pub fn unary(list: &mut [i32], operator: Unary, p: MadeMatrix) -> MadeMatrix
-    requires bounded { Bounded p.tape }
-    requires operand { Operand p.tape.next p.matrix }
-    ensures { EmitsUnary (translate_unary operator) p.matrix list.old p.tape result.matrix list.new result.tape }
+pub fn unary(list: &mut [i32], tape: &mut Tape, operator: Unary, p: Literals) -> Literals
+    requires bounded { Bounded tape.old }
+    requires operand { Operand tape.old.next p }
+    ensures { EmitsUnary (translate_unary operator) p list.old tape.old result list.new tape.new }
 {
     match operator {
-        Unary::Inverse => inverse(p.tape, p.matrix),
-        Unary::Closure => closure(list, p.tape, p.matrix),
+        Unary::Inverse => inverse(p),
+        Unary::Closure => closure(list, tape, p),
     }
 }
 
 // Kinds 20 and 21: equal, within.
-pub fn compare(list: &mut [i32], operator: Comparison, p: MadeMatrix, q: MadeMatrix) -> Made
-    requires bounded { Bounded q.tape }
-    requires operand { Operand q.tape.next p.matrix }
-    requires operand_2 { Operand q.tape.next q.matrix }
-    ensures { EmitsLiteral (translate_comparison operator (matrix_of p.matrix) (matrix_of q.matrix) q.tape.next)
-        list.old q.tape result.literal list.new result.tape }
+pub fn compare(
+    list: &mut [i32],
+    tape: &mut Tape,
+    operator: Comparison,
+    p: Literals,
+    q: Literals,
+) -> i32
+    requires bounded { Bounded tape.old }
+    requires operand { Operand tape.old.next p }
+    requires operand_2 { Operand tape.old.next q }
+    ensures { EmitsLiteral (translate_comparison operator (matrix_of p) (matrix_of q) tape.old.next)
+        list.old tape.old result list.new tape.new }
 {
     match operator {
-        Comparison::Equal => all_matched(list, q.tape, Pairing::Same, p.matrix, q.matrix),
-        Comparison::Within => all_matched(list, q.tape, Pairing::Implies, p.matrix, q.matrix),
+        Comparison::Equal => all_matched(list, tape, Pairing::Same, p, q),
+        Comparison::Within => all_matched(list, tape, Pairing::Implies, p, q),
     }
 }
 
 // Kinds 22 to 24: some, none, at most one.
-pub fn test(list: &mut [i32], operator: Test, p: MadeMatrix) -> Made
-    requires bounded { Bounded p.tape }
-    requires operand { Operand p.tape.next p.matrix }
-    ensures { EmitsTest (translate_test operator) p.matrix list.old p.tape result.literal list.new result.tape }
+pub fn test(list: &mut [i32], tape: &mut Tape, operator: Test, p: Literals) -> i32
+    requires bounded { Bounded tape.old }
+    requires operand { Operand tape.old.next p }
+    ensures { EmitsTest (translate_test operator) p list.old tape.old result list.new tape.new }
 {
     match operator {
-        Test::Some => some(list, p.tape, p.matrix),
-        Test::None => none(list, p.tape, p.matrix),
-        Test::Lone => lone(list, p.tape, p.matrix),
+        Test::Some => some(list, tape, p),
+        Test::None => none(list, tape, p),
+        Test::Lone => lone(list, tape, p),
     }
 }
 
 // Kinds 31 to 34: and, or, implies, iff.
-pub fn connect(list: &mut [i32], operator: Connective, p: Made, q: Made) -> Made
-    requires bounded { Bounded q.tape }
-    requires inside { Inside q.tape.next (literal_of p.literal) }
-    requires inside_2 { Inside q.tape.next (literal_of q.literal) }
-    ensures { EmitsTwo (translate_connective operator) p.literal q.literal
-        list.old q.tape result.literal list.new result.tape }
+pub fn connect(list: &mut [i32], tape: &mut Tape, operator: Connective, p: i32, q: i32) -> i32
+    requires bounded { Bounded tape.old }
+    requires inside { Inside tape.old.next (literal_of p) }
+    requires inside_2 { Inside tape.old.next (literal_of q) }
+    ensures { EmitsTwo (translate_connective operator) p q
+        list.old tape.old result list.new tape.new }
 {
     match operator {
-        Connective::Conjunction => pair(list, q.tape, Pairing::Both, p.literal, q.literal),
-        Connective::Disjunction => pair(list, q.tape, Pairing::Either, p.literal, q.literal),
-        Connective::Implication => pair(list, q.tape, Pairing::Implies, p.literal, q.literal),
-        Connective::Equivalence => pair(list, q.tape, Pairing::Same, p.literal, q.literal),
+        Connective::Conjunction => pair(list, tape, Pairing::Both, p, q),
+        Connective::Disjunction => pair(list, tape, Pairing::Either, p, q),
+        Connective::Implication => pair(list, tape, Pairing::Implies, p, q),
+        Connective::Equivalence => pair(list, tape, Pairing::Same, p, q),
     }
 }
 
 // Kinds 40 and 41, over the literals of the atoms and of the bodies: for all, for some.
-fn quantify(list: &mut [i32], operator: Quantifier, atoms: Literals, p: MadeMatrix) -> Made
-    requires bounded { Bounded p.tape }
-    requires operand { Operand p.tape.next atoms }
-    requires operand_2 { Operand p.tape.next p.matrix }
-    ensures { EmitsLiteral (translate_quantifier operator (matrix_of atoms) (matrix_of p.matrix) p.tape.next)
-        list.old p.tape result.literal list.new result.tape }
+fn quantify(
+    list: &mut [i32],
+    tape: &mut Tape,
+    operator: Quantifier,
+    atoms: Literals,
+    p: Literals,
+) -> i32
+    requires bounded { Bounded tape.old }
+    requires operand { Operand tape.old.next atoms }
+    requires operand_2 { Operand tape.old.next p }
+    ensures { EmitsLiteral (translate_quantifier operator (matrix_of atoms) (matrix_of p) tape.old.next)
+        list.old tape.old result list.new tape.new }
 {
     match operator {
-        Quantifier::All => all_matched(list, p.tape, Pairing::Implies, atoms, p.matrix),
-        Quantifier::Some => some_matched(list, p.tape, atoms, p.matrix),
+        Quantifier::All => all_matched(list, tape, Pairing::Implies, atoms, p),
+        Quantifier::Some => some_matched(list, tape, atoms, p),
     }
 }
 
 // OR of AND(p, q), cell by cell.
-fn some_matched(list: &mut [i32], tape: Tape, p: Literals, q: Literals) -> Made
-    requires bounded { Bounded tape }
-    requires operand { Operand tape.next p }
-    requires operand_2 { Operand tape.next q }
-    ensures { EmitsLiteral (translate_quantifier for_some (matrix_of p) (matrix_of q) tape.next)
-        list.old tape result.literal list.new result.tape }
+fn some_matched(list: &mut [i32], tape: &mut Tape, p: Literals, q: Literals) -> i32
+    requires bounded { Bounded tape.old }
+    requires operand { Operand tape.old.next p }
+    requires operand_2 { Operand tape.old.next q }
+    ensures { EmitsLiteral (translate_quantifier for_some (matrix_of p) (matrix_of q) tape.old.next)
+        list.old tape.old result list.new tape.new }
 {
-    let both = matched(list, tape, Pairing::Both, p, q);
-    some(list, both.tape, both.matrix)
+    let met = matched(list, tape, Pairing::Both, p, q);
+    some(list, tape, met)
 }
 
 // Kinds 40 and 41 of variable x, over the literals of the bodies.
 pub fn quantify_over(
     list: &mut [i32],
+    tape: &mut Tape,
     source: &Source,
     operator: Quantifier,
     x: usize,
-    p: MadeMatrix,
-) -> Made
-    requires { Bodies source.now.given.now p }
+    p: Literals,
+) -> i32
+    requires { Bodies source.now.given.now p tape.old }
     ensures { (env : Environment) → EmitsLiteral (translate_quantifier operator
         (range (sheet_of source.now.sheet.bytes.now) (literals_of source.now.given.now) x env)
-        (matrix_of p.matrix) p.tape.next)
-        list.old p.tape result.literal list.new result.tape }
+        (matrix_of p) tape.old.next)
+        list.old tape.old result list.new tape.new }
 {
-    quantify(list, operator, leaves::range(source, x), p)
+    quantify(list, tape, operator, leaves::range(source, x), p)
 }
 
 // Kind 12 of variable x, over the literals of the bodies: AND with the atoms.
-pub fn comprehend(list: &mut [i32], source: &Source, x: usize, p: MadeMatrix) -> MadeMatrix
-    requires { Bodies source.now.given.now p }
+pub fn comprehend(
+    list: &mut [i32],
+    tape: &mut Tape,
+    source: &Source,
+    x: usize,
+    p: Literals,
+) -> Literals
+    requires { Bodies source.now.given.now p tape.old }
     ensures { (env : Environment)
         → EmitsMatrix (translate_binary intersection
         (range (sheet_of source.now.sheet.bytes.now) (literals_of source.now.given.now) x env)
-        (matrix_of p.matrix) p.tape.next)
-        list.old p.tape result.matrix list.new result.tape }
+        (matrix_of p) tape.old.next)
+        list.old tape.old result list.new tape.new }
 {
-    matched(
-        list,
-        p.tape,
-        Pairing::Both,
-        leaves::range(source, x),
-        p.matrix,
-    )
+    matched(list, tape, Pairing::Both, leaves::range(source, x), p)
 }

@@ -19,32 +19,28 @@ use clauses_kinds::source::Source;
 pub mod members; // members.rt: cells of members only
 
 // (-p, -q) for each q of the others, in order.
-fn pairs_with(list: &mut [i32], tape: Tape, p: i32, others: &[i32]) -> Tape
-    requires small { Small 80000 tape }
+fn pairs_with(list: &mut [i32], tape: &mut Tape, p: i32, others: &[i32])
+    requires small { Small 80000 tape.old }
     requires inside { Inside 16002 (literal_of p) }
     requires members { Members 7 others.now }
     ensures { Adds 21 (map pair_clause (pairs_with (literal_of p) (literals_of others.now)))
-        list.old tape list.new result }
+        list.old tape.old list.new tape.new }
 {
     let first = literal::opposite(p);
-    let mut after = tape;
     for q in others {
-        after = emit_clause(list, after, first, &[literal::opposite(*q)]);
+        emit_clause(list, tape, first, &[literal::opposite(*q)]);
     }
-    after
 }
 
 // "(-p, -q) for each pair in order"
-fn row_pairs(list: &mut [i32], tape: Tape, row: &[i32]) -> Tape
-    requires small { Small 70000 tape }
+fn row_pairs(list: &mut [i32], tape: &mut Tape, row: &[i32])
+    requires small { Small 70000 tape.old }
     requires members { Members 8 row.now }
-    ensures { Adds 168 (map pair_clause (pairs (literals_of row.now))) list.old tape list.new result }
+    ensures { Adds 168 (map pair_clause (pairs (literals_of row.now))) list.old tape.old list.new tape.new }
 {
-    let mut after = tape;
     for (k, p) in row.iter().enumerate() {
-        after = pairs_with(list, after, *p, &row[k + 1..]);
+        pairs_with(list, tape, *p, &row[k + 1..]);
     }
-    after
 }
 
 // Whether the rows of relation r are bound only where they are of members: "Mark 2 on a relation of two columns with a
@@ -57,71 +53,61 @@ fn is_guarded(sheet: &Sheet, r: usize) -> bool
 }
 
 // The whole row, which starts with the opposite of the row's member if it is guarded.
-fn row_clause(
-    list: &mut [i32],
-    tape: Tape,
-    source: &Source,
-    r: usize,
-    i: usize,
-    row: &[i32],
-) -> Tape
-    requires small { Small 70000 tape }
+fn row_clause(list: &mut [i32], tape: &mut Tape, source: &Source, r: usize, i: usize, row: &[i32])
+    requires small { Small 70000 tape.old }
     requires row_of { RowOf r i row.now }
     ensures { Adds 10
         (row_clause (sheet_of source.now.sheet.bytes.now) (literals_of source.now.given.now) r i
         (literals_of row.now))
-        list.old tape list.new result }
+        list.old tape.old list.new tape.new }
 {
     if is_guarded(&source.sheet, r) {
         let guard = literal::opposite(source.member(source.sheet.first_sort(r), i));
-        return emit_clause(list, tape, guard, row);
+        emit_clause(list, tape, guard, row);
+    } else {
+        emit_clause(list, tape, row[0], &row[1..]);
     }
-    emit_clause(list, tape, row[0], &row[1..])
 }
 
 // "(-p, -q) for each pair in order, then for mark 2 the whole row"
-fn row_marks(list: &mut [i32], tape: Tape, source: &Source, r: usize, i: usize) -> Tape
-    requires small { Small 60000 tape }
+fn row_marks(list: &mut [i32], tape: &mut Tape, source: &Source, r: usize, i: usize)
+    requires small { Small 60000 tape.old }
     requires r_bound { r < relation_count (sheet_of source.now.sheet.bytes.now) }
     requires i_bound { i < row_count (sheet_of source.now.sheet.bytes.now) r }
     ensures { Adds 178 (row_marks (sheet_of source.now.sheet.bytes.now) (literals_of source.now.given.now) r i)
-        list.old tape list.new result }
+        list.old tape.old list.new tape.new }
 {
     let mark = source.sheet.multiplicity(r);
     if mark == 0 {
-        return tape;
+        return;
     }
     let row = source.row(r, i);
-    let after = row_pairs(list, tape, row);
+    row_pairs(list, tape, row);
     if mark == 1 {
-        return after;
+        return;
     }
-    row_clause(list, after, source, r, i, row)
+    row_clause(list, tape, source, r, i, row);
 }
 
 // The rows of relation r.
-fn relation_marks(list: &mut [i32], tape: Tape, source: &Source, r: usize) -> Tape
-    requires small { Small 50000 tape }
+fn relation_marks(list: &mut [i32], tape: &mut Tape, source: &Source, r: usize)
+    requires small { Small 50000 tape.old }
     requires r_bound { r < relation_count (sheet_of source.now.sheet.bytes.now) }
     ensures { Adds 1424 (relation_clauses (sheet_of source.now.sheet.bytes.now) (literals_of source.now.given.now) r)
-        list.old tape list.new result }
+        list.old tape.old list.new tape.new }
 {
-    let mut after = tape;
     for i in 0..source.sheet.row_count(r) {
-        after = row_marks(list, after, source, r, i);
+        row_marks(list, tape, source, r, i);
     }
-    after
 }
 
 // All relations.
-pub fn marks(list: &mut [i32], tape: Tape, source: &Source) -> Tape
-    requires { Small 10000 tape }
+pub fn marks(list: &mut [i32], tape: &mut Tape, source: &Source)
+    requires { Small 10000 tape.old }
     ensures { Adds 22784 (mark_clauses (sheet_of source.now.sheet.bytes.now) (literals_of source.now.given.now))
-        list.old tape list.new result }
+        list.old tape.old list.new tape.new }
 {
-    let mut after = tape;
     for r in 0..source.sheet.layout.relations.count {
-        after = relation_marks(list, after, source, r);
+        relation_marks(list, tape, source, r);
     }
-    after
 }

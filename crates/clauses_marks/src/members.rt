@@ -14,99 +14,85 @@ use clauses_emission::list::emit_clause;
 use clauses_kinds::source::Source;
 
 // (-cell, member) for atom i of a sort, if the sort is bounded.
-fn atom_clause(
-    list: &mut [i32],
-    tape: Tape,
-    source: &Source,
-    cell: i32,
-    sort: usize,
-    i: usize,
-) -> Tape
-    requires small { Small 90000 tape }
+fn atom_clause(list: &mut [i32], tape: &mut Tape, source: &Source, cell: i32, sort: usize, i: usize)
+    requires small { Small 90000 tape.old }
     requires inside { Inside 16002 (literal_of cell) × (i < 8) }
     ensures { Adds 3
         (atom_clauses (sheet_of source.now.sheet.bytes.now) (literals_of source.now.given.now) (literal_of cell) sort i)
-        list.old tape list.new result }
+        list.old tape.old list.new tape.new }
 {
-    if !source.sheet.is_bounded(sort) {
-        return tape;
+    if source.sheet.is_bounded(sort) {
+        emit_clause(
+            list,
+            tape,
+            literal::opposite(cell),
+            &[source.member(sort, i)],
+        );
     }
-    emit_clause(
-        list,
-        tape,
-        literal::opposite(cell),
-        &[source.member(sort, i)],
-    )
 }
 
 // The clauses of the cell of row i and column j of relation r.
 fn cell_clauses(
     list: &mut [i32],
-    tape: Tape,
+    tape: &mut Tape,
     source: &Source,
     cell: i32,
     r: usize,
     i: usize,
     j: usize,
-) -> Tape
-    requires small { Small 80000 tape }
+)
+    requires small { Small 80000 tape.old }
     requires inside { Inside 16002 (literal_of cell) × ((r < 256) × ((i < 8) × (j < 8))) }
     ensures { Adds 6
         (column_clauses (sheet_of source.now.sheet.bytes.now) (literals_of source.now.given.now)
         (literal_of cell) r i j)
-        list.old tape list.new result }
+        list.old tape.old list.new tape.new }
 {
     let first = source.sheet.first_sort(r);
     if source.sheet.arity(r) == 1 {
-        return atom_clause(list, tape, source, cell, first, j);
+        atom_clause(list, tape, source, cell, first, j);
+    } else {
+        atom_clause(list, tape, source, cell, first, i);
+        let second = source.sheet.second_sort(r);
+        atom_clause(list, tape, source, cell, second, j);
     }
-    let after = atom_clause(list, tape, source, cell, first, i);
-    let second = source.sheet.second_sort(r);
-    atom_clause(list, after, source, cell, second, j)
 }
 
 // The cells of row i of relation r.
-fn row_inside(list: &mut [i32], tape: Tape, source: &Source, r: usize, i: usize) -> Tape
-    requires small { Small 70000 tape }
+fn row_inside(list: &mut [i32], tape: &mut Tape, source: &Source, r: usize, i: usize)
+    requires small { Small 70000 tape.old }
     requires r_bound { r < relation_count (sheet_of source.now.sheet.bytes.now) }
     requires i_bound { i < row_count (sheet_of source.now.sheet.bytes.now) r }
     ensures { Adds 48 (row_inside (sheet_of source.now.sheet.bytes.now) (literals_of source.now.given.now) r i)
-        list.old tape list.new result }
+        list.old tape.old list.new tape.new }
 {
     let row = source.row(r, i);
-    let mut after = tape;
     for (j, cell) in row.iter().enumerate() {
-        after = cell_clauses(list, after, source, *cell, r, i, j);
+        cell_clauses(list, tape, source, *cell, r, i, j);
     }
-    after
 }
 
 // The cells of relation r; it has clauses only where a column is over a bounded sort.
-fn relation_inside(list: &mut [i32], tape: Tape, source: &Source, r: usize) -> Tape
-    requires small { Small 50000 tape }
+fn relation_inside(list: &mut [i32], tape: &mut Tape, source: &Source, r: usize)
+    requires small { Small 50000 tape.old }
     requires r_bound { r < relation_count (sheet_of source.now.sheet.bytes.now) }
     ensures { Adds 384 (relation_inside (sheet_of source.now.sheet.bytes.now) (literals_of source.now.given.now) r)
-        list.old tape list.new result }
+        list.old tape.old list.new tape.new }
 {
-    if !source.sheet.over_bounded(r) {
-        return tape;
+    if source.sheet.over_bounded(r) {
+        for i in 0..source.sheet.row_count(r) {
+            row_inside(list, tape, source, r, i);
+        }
     }
-    let mut after = tape;
-    for i in 0..source.sheet.row_count(r) {
-        after = row_inside(list, after, source, r, i);
-    }
-    after
 }
 
 // All relations.
-pub fn members(list: &mut [i32], tape: Tape, source: &Source) -> Tape
-    requires { Small 1000 tape }
+pub fn members(list: &mut [i32], tape: &mut Tape, source: &Source)
+    requires { Small 1000 tape.old }
     ensures { Adds 6144 (member_clauses (sheet_of source.now.sheet.bytes.now) (literals_of source.now.given.now))
-        list.old tape list.new result }
+        list.old tape.old list.new tape.new }
 {
-    let mut after = tape;
     for r in 0..source.sheet.layout.relations.count {
-        after = relation_inside(list, after, source, r);
+        relation_inside(list, tape, source, r);
     }
-    after
 }

@@ -8,68 +8,71 @@ ghost use Rattle.clauses_matrix.specs.Matrices.{matrix_of, Operand, EmitsTest, c
 
 use super::Literals;
 use super::operators::matched_cells;
-use clauses_emission::gates::{and, both, negate, or, told_both};
-use clauses_emission::{Made, Pairing, Tape};
+use clauses_emission::gates::{and, both, or, told_both};
+use clauses_emission::{Pairing, Tape};
 
 // Equal (Same) and within (Implies): AND over the cells.
-pub fn all_matched(list: &mut [i32], tape: Tape, kind: Pairing, p: Literals, q: Literals) -> Made
-    requires bounded { Bounded tape }
-    requires operand { Operand tape.next p }
-    requires operand_2 { Operand tape.next q }
-    ensures { EmitsLiteral (compared kind (matrix_of p) (matrix_of q) tape.next)
-        list.old tape result.literal list.new result.tape }
+pub fn all_matched(
+    list: &mut [i32],
+    tape: &mut Tape,
+    kind: Pairing,
+    p: Literals,
+    q: Literals,
+) -> i32
+    requires bounded { Bounded tape.old }
+    requires operand { Operand tape.old.next p }
+    requires operand_2 { Operand tape.old.next q }
+    ensures { EmitsLiteral (compared kind (matrix_of p) (matrix_of q) tape.old.next)
+        list.old tape.old result list.new tape.new }
 {
-    let mut made = matched_cells(list, tape, kind, p, q);
-    and(list, made.tape, &mut made.cells[..p.rows * p.columns])
+    let mut cells = matched_cells(list, tape, kind, p, q);
+    and(list, tape, &mut cells[..p.rows * p.columns])
 }
 
-pub fn some(list: &mut [i32], tape: Tape, p: Literals) -> Made
-    requires bounded { Bounded tape }
-    requires operand { Operand tape.next p }
-    ensures { EmitsTest (translate_test some) p list.old tape result.literal list.new result.tape }
+pub fn some(list: &mut [i32], tape: &mut Tape, p: Literals) -> i32
+    requires bounded { Bounded tape.old }
+    requires operand { Operand tape.old.next p }
+    ensures { EmitsTest (translate_test some) p list.old tape.old result list.new tape.new }
 {
     let mut cells = p.cells;
     or(list, tape, &mut cells[..p.rows * p.columns])
 }
 
-pub fn none(list: &mut [i32], tape: Tape, p: Literals) -> Made
-    requires bounded { Bounded tape }
-    requires operand { Operand tape.next p }
-    ensures { EmitsTest (translate_test none) p list.old tape result.literal list.new result.tape }
+pub fn none(list: &mut [i32], tape: &mut Tape, p: Literals) -> i32
+    requires bounded { Bounded tape.old }
+    requires operand { Operand tape.old.next p }
+    ensures { EmitsTest (translate_test none) p list.old tape.old result list.new tape.new }
 {
-    negate(some(list, tape, p))
+    literal::opposite(some(list, tape, p))
 }
 
 // AND(p, q): where it is told no gate is made, and list and tape stay.
-fn meet(list: &mut [i32], tape: Tape, p: i32, q: i32) -> Made
-    requires bounded { Bounded tape }
-    requires inside { Inside tape.next (literal_of p) }
-    requires inside_2 { Inside tape.next (literal_of q) }
-    ensures { EmitsTwo two.both p q list.old tape result.literal list.new result.tape }
+fn meet(list: &mut [i32], tape: &mut Tape, p: i32, q: i32) -> i32
+    requires bounded { Bounded tape.old }
+    requires inside { Inside tape.old.next (literal_of p) }
+    requires inside_2 { Inside tape.old.next (literal_of q) }
+    ensures { EmitsTwo two.both p q list.old tape.old result list.new tape.new }
 {
     match told_both(p, q) {
-        Some(literal) => Made { literal, tape },
+        Some(l) => l,
         None => both(list, tape, p, q),
     }
 }
 
 // At most one: AND over pairs, in order, of OR(-p, -q). It is made as the opposite of OR over pairs of AND(p, q): the same gates.
-pub fn lone(list: &mut [i32], tape: Tape, p: Literals) -> Made
-    requires bounded { Bounded tape }
-    requires operand { Operand tape.next p }
-    ensures { EmitsTest (translate_test lone) p list.old tape result.literal list.new result.tape }
+pub fn lone(list: &mut [i32], tape: &mut Tape, p: Literals) -> i32
+    requires bounded { Bounded tape.old }
+    requires operand { Operand tape.old.next p }
+    ensures { EmitsTest (translate_test lone) p list.old tape.old result list.new tape.new }
 {
     let n = p.rows * p.columns;
     let mut pairs = [-1; 2016];
-    let mut after = tape;
     let mut t: usize = 0;
     for i in 0..n {
         for j in i + 1..n {
-            let made = meet(list, after, p.cells[i], p.cells[j]);
-            pairs[t] = made.literal;
-            after = made.tape;
+            pairs[t] = meet(list, tape, p.cells[i], p.cells[j]);
             t += 1;
         }
     }
-    negate(or(list, after, &mut pairs[..t]))
+    literal::opposite(or(list, tape, &mut pairs[..t]))
 }

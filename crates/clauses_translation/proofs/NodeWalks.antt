@@ -131,16 +131,16 @@ module _ {sheet : Sheet} (given : List ℤ) (env : List ℕ) {v : ℕ} {node : N
       (λ e. regular-expression sheet (literals_of given) e (environment env)) (λ o m. translate_test o m.cells) (λ o e. refl)
       (λ o m. regular-test o m.cells) λ f t. at_test (again h f t) p
 
-  pub negation-walks : {new : List ℤ} {after end : Tape} {l z : Literal} → node.symbol ≡ negation-symbol
-      → WalksFormula sheet given env node.a old before l new after → end ≡ after → z ≡ opposite l
-      → WalksFormula sheet given env v old before z new end
+  pub negation-walks : {new : List ℤ} {after : Tape} {l z : Literal} → node.symbol ≡ negation-symbol
+      → WalksFormula sheet given env node.a old before l new after → z ≡ opposite l
+      → WalksFormula sheet given env v old before z new after
   unfolding translate
-  negation-walks {l = l} p w q e =
+  negation-walks {l = l} p w e =
       record {
         walks = λ f t.
             let b = at-negation (again h f t) p in
             let i = w.walks b.left.it b.left.is in
-            rw (b.is, q)
+            rw b.is
             (emits-map opposite (formula_walk sheet given env b.left.it) i e
             (rw e (inside-opposite l i.fine)));
       }

@@ -6,12 +6,11 @@ ghost use Rattle.sheet_rules.specs.Blocks.{sheet_of};
 ghost use Rattle.nodes.specs.Nodes.{IsExpression, IsFormula};
 ghost use Rattle.clauses_translation.specs.Walks.{Ready, WalksExpression, WalksFormula, WalksBodies};
 
-use clauses_emission::gates::negate;
-use clauses_emission::{LIMIT, Made, Tape};
+use clauses_emission::{LIMIT, Tape};
 use clauses_kinds::apply::{binary, compare, comprehend, connect, quantify_over, test, unary};
 use clauses_kinds::leaves::{leaf, nothing, set};
 use clauses_kinds::source::Source;
-use clauses_matrix::MadeMatrix;
+use clauses_matrix::Literals;
 use nodes::environments::bind;
 use nodes::forms::{Node, read_node};
 use relational::Symbol;
@@ -20,39 +19,35 @@ use relational::Symbol;
 #[cycle(bodies_expression_formula)]
 fn expression(
     list: &mut [i32],
-    tape: Tape,
+    tape: &mut Tape,
     source: &Source,
     env: [usize; 4],
     at: usize,
-) -> MadeMatrix
-    requires ready { Ready source.now.given.now tape }
+) -> Literals
+    requires ready { Ready source.now.given.now tape.old }
     requires expression { IsExpression (sheet_of source.now.sheet.bytes.now) at }
     ensures { WalksExpression (sheet_of source.now.sheet.bytes.now) source.now.given.now env at
-        list.old tape result.matrix list.new result.tape }
+        list.old tape.old result list.new tape.new }
 {
     if LIMIT < tape.next {
-        let matrix = nothing();
-        return MadeMatrix { matrix, tape };
+        return nothing();
     }
     let node = read_node(&source.sheet, at);
     let Node { a, b, .. } = node;
     match node.symbol {
-        Symbol::Leaf(operator) => MadeMatrix {
-            matrix: leaf(source, env, operator, a),
-            tape,
-        },
+        Symbol::Leaf(operator) => leaf(source, env, operator, a),
         Symbol::Binary(operator) => {
             let p = expression(list, tape, source, env, a);
-            let q = expression(list, p.tape, source, env, b);
-            binary(list, operator, p, q)
+            let q = expression(list, tape, source, env, b);
+            binary(list, tape, operator, p, q)
         }
         Symbol::Unary(operator) => {
             let p = expression(list, tape, source, env, a);
-            unary(list, operator, p)
+            unary(list, tape, operator, p)
         }
         Symbol::Comprehension => {
             let row = bodies(list, tape, source, env, b, a);
-            comprehend(list, source, a, row)
+            comprehend(list, tape, source, a, row)
         }
         _ => unreachable!(),
     }
@@ -60,36 +55,42 @@ fn expression(
 
 // A node as a formula: its literal.
 #[cycle(bodies_expression_formula)]
-pub fn formula(list: &mut [i32], tape: Tape, source: &Source, env: [usize; 4], at: usize) -> Made
-    requires ready { Ready source.now.given.now tape }
+pub fn formula(
+    list: &mut [i32],
+    tape: &mut Tape,
+    source: &Source,
+    env: [usize; 4],
+    at: usize,
+) -> i32
+    requires ready { Ready source.now.given.now tape.old }
     requires formula { IsFormula (sheet_of source.now.sheet.bytes.now) at }
     ensures { WalksFormula (sheet_of source.now.sheet.bytes.now) source.now.given.now env at
-        list.old tape (literal_of result.literal) list.new result.tape }
+        list.old tape.old (literal_of result) list.new tape.new }
 {
     if LIMIT < tape.next {
-        return Made { literal: -1, tape };
+        return -1;
     }
     let node = read_node(&source.sheet, at);
     let Node { a, b, .. } = node;
     match node.symbol {
         Symbol::Comparison(operator) => {
             let p = expression(list, tape, source, env, a);
-            let q = expression(list, p.tape, source, env, b);
-            compare(list, operator, p, q)
+            let q = expression(list, tape, source, env, b);
+            compare(list, tape, operator, p, q)
         }
         Symbol::Test(operator) => {
             let p = expression(list, tape, source, env, a);
-            test(list, operator, p)
+            test(list, tape, operator, p)
         }
-        Symbol::Negation => negate(formula(list, tape, source, env, a)),
+        Symbol::Negation => literal::opposite(formula(list, tape, source, env, a)),
         Symbol::Connective(operator) => {
             let p = formula(list, tape, source, env, a);
-            let q = formula(list, p.tape, source, env, b);
-            connect(list, operator, p, q)
+            let q = formula(list, tape, source, env, b);
+            connect(list, tape, operator, p, q)
         }
         Symbol::Quantifier(operator) => {
             let row = bodies(list, tape, source, env, b, a);
-            quantify_over(list, source, operator, a, row)
+            quantify_over(list, tape, source, operator, a, row)
         }
         _ => unreachable!(),
     }
@@ -99,28 +100,22 @@ pub fn formula(list: &mut [i32], tape: Tape, source: &Source, env: [usize; 4], a
 #[cycle(bodies_expression_formula)]
 fn bodies(
     list: &mut [i32],
-    tape: Tape,
+    tape: &mut Tape,
     source: &Source,
     env: [usize; 4],
     at: usize,
     x: usize,
-) -> MadeMatrix
-    requires ready { Ready source.now.given.now tape }
+) -> Literals
+    requires ready { Ready source.now.given.now tape.old }
     requires formula { IsFormula (sheet_of source.now.sheet.bytes.now) at }
     requires x_bound { x < 4 }
     ensures { WalksBodies (sheet_of source.now.sheet.bytes.now) source.now.given.now env at
-        list.old tape x result.matrix list.new result.tape }
+        list.old tape.old x result list.new tape.new }
 {
     let columns = source.sheet.scope_of_variable(x);
     let mut cells = [-1; 64];
-    let mut after = tape;
     for i in 0..columns {
-        let made = formula(list, after, source, bind(env, x, i), at);
-        cells[i] = made.literal;
-        after = made.tape;
+        cells[i] = formula(list, tape, source, bind(env, x, i), at);
     }
-    MadeMatrix {
-        matrix: set(columns, cells),
-        tape: after,
-    }
+    set(columns, cells)
 }

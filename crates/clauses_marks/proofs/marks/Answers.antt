@@ -10,15 +10,15 @@ use Rattle.clauses_marks.proofs.marks.Goals as goal
 pub loop-r-init : goal.loop-r-init
 loop-r-init c = series-start 1424 _
 
-pub relation_marks-after-requires : goal.relation_marks-after-requires
-relation_marks-after-requires c =
+pub relation_marks-requires : goal.relation_marks-requires
+relation_marks-requires c =
     let s = c.args.source.now.sheet in record {
       small = adds-small c.loop-r.invariant c.requires (omega (arith, c.loop-r-test.true, few_relations _ _ s.taken));
       r_bound = omega (arith, c.loop-r-test.true, relations-counted _ _ s.taken);
     }
 
 pub loop-r-preserved : goal.loop-r-preserved
-loop-r-preserved c = series-next 1424 _ c.loop-r.r c.loop-r.invariant c.relation_marks-after.ensures refl
+loop-r-preserved c = series-next 1424 _ c.loop-r.r c.loop-r.invariant c.relation_marks.ensures refl
 
 pub returns : goal.returns
 unfolding mark_clauses

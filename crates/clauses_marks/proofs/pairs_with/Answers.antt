@@ -16,7 +16,7 @@ use Rattle.clauses_marks.proofs.Rows.{with-next, member-inside}
 use Rattle.clauses_marks.proofs.pairs_with.Goals as goal
 
 pub loop-q-init : goal.loop-q-init
-loop-q-init c = adds_none c.args.list.now c.args.tape
+loop-q-init c = adds_none c.args.list.now c.args.tape.now
 
 pub loop-q-preserved : goal.loop-q-preserved
 loop-q-preserved c =
@@ -41,6 +41,6 @@ loop-q-preserved c =
     in
     adds-most
     (adds-as (adds_then c.loop-q.invariant
-    (adds-as (adds_one (read first.result) (read second.result ∷ []) c.emit_clause-after.ensures) g))
+    (adds-as (adds_one (read first.result) (read second.result ∷ []) c.emit_clause.ensures) g))
     (with-next (literal_of (read p)) ws k h))
     (omega arith)

@@ -11,4 +11,4 @@ use Rattle.clauses_marks.proofs.pairs_with.Given as goal
 abbrev pub invariant-loop-q : goal.invariant-loop-q
 invariant-loop-q l =
     Adds (3 * l.q-index) (map pair_clause (pairs_with (literal_of l.p) (literals_of (take l.q-index l.others)))) l.initial.list
-    l.initial.after l.list l.after
+    l.initial.tape l.list l.tape

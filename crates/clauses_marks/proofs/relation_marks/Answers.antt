@@ -10,4 +10,4 @@ pub loop-i-init : goal.loop-i-init
 loop-i-init c = series-start 178 _
 
 pub loop-i-preserved : goal.loop-i-preserved
-loop-i-preserved c = series-next 178 _ c.loop-i.i c.loop-i.invariant c.row_marks-after.ensures refl
+loop-i-preserved c = series-next 178 _ c.loop-i.i c.loop-i.invariant c.row_marks.ensures refl

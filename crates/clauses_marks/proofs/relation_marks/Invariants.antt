@@ -9,4 +9,4 @@ use Rattle.clauses_marks.proofs.relation_marks.Given as goal
 abbrev pub invariant-loop-i : goal.invariant-loop-i
 invariant-loop-i l =
     Adds (178 * l.i) (series l.i (row_marks (sheet_of l.source.sheet.bytes.now) (literals_of l.source.given.now) l.r))
-    l.initial.list l.initial.after l.list l.after
+    l.initial.list l.initial.tape l.list l.tape

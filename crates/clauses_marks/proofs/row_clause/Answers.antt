@@ -51,8 +51,8 @@ returns-then-is_guarded c =
     (g ∙ guarded-row sheet cells a.r a.i (literals_of row) (sym c.is_guarded.ensures ∙ c.if-is_guarded.true)))
     (omega (arith, c.requires.row_of.members.few))
 
-pub returns : goal.returns
-returns c =
+pub returns-else-is_guarded : goal.returns-else-is_guarded
+returns-else-is_guarded c =
     let a = c.args in
     let ws = a.row.now in
     let w = get_or ws 0 (pos 0) in
@@ -63,7 +63,7 @@ returns c =
     (ap (λ z. literal_of z ∷ literals_of others) (back w fits) ∙ whole_row ws c.requires.row_of.some.some)
     in
     adds-most
-    (adds-as (adds_one (read w) others c.emit_clause-2.ensures)
+    (adds-as (adds_one (read w) others c.emit_clause-else-is_guarded.ensures)
     (e ∙ plain_row (sheet_of a.source.now.sheet.bytes.now) (literals_of a.source.now.given.now) a.r a.i (literals_of ws)
     (sym c.is_guarded.ensures ∙ c.if-is_guarded.false)))
     (omega (arith, c.requires.row_of.members.few, ap length (part-is 1 ws), length-drop 1 ws))

@@ -18,10 +18,10 @@ use Rattle.clauses_marks.proofs.Rows.{paired_none, paired-more, with_rest, membe
 use Rattle.clauses_marks.proofs.row_pairs.Goals as goal
 
 pub loop-k-init : goal.loop-k-init
-loop-k-init c = paired_none (literals_of c.args.row.now) c.args.list.now c.args.tape
+loop-k-init c = paired_none (literals_of c.args.row.now) c.args.list.now c.args.tape.now
 
-pub pairs_with-after-requires : goal.pairs_with-after-requires
-pairs_with-after-requires c =
+pub pairs_with-requires : goal.pairs_with-requires
+pairs_with-requires c =
     let k = c.loop-k.k in
     let h = c.loop-k-test.true in
     let w = get_or c.args.row.now k (pos 0) in
@@ -40,6 +40,6 @@ loop-k-preserved c =
     let fits : SFits w32 w = search rules in
     let rest = literals_of (take (length ws - (k + 1)) (drop (k + 1) ws)) in
     paired-more (literals_of ws) k c.loop-k.invariant (rw (length-literals ws) h)
-    (adds-as c.pairs_with-after.ensures
+    (adds-as c.pairs_with.ensures
     (ap (λ z. map pair_clause (pairs_with (literal_of z) rest)) (back w fits)
     ∙ ap (map pair_clause) (with_rest ws k h)))

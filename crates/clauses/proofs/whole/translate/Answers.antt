@@ -18,45 +18,45 @@ invariant_of-source c =
     let r = translatable c.args.sheet.now.taken c.cells-count.ensures c.cell_words-words.ensures in
     record { located = c.cells-count.ensures.1.1; size = r.size; inside = all-inside r }
 
-pub members-inside-requires : goal.members-inside-requires
-members-inside-requires c =
+pub members-requires : goal.members-requires
+members-requires c =
     let r = translatable c.args.sheet.now.taken c.cells-count.ensures c.cell_words-words.ensures in
-    first_small r (ap (λ n. 2 + n) c.cells-count.ensures.0) refl refl c.emit_clause-first.ensures
+    first_small r (ap (λ n. 2 + n) c.cells-count.ensures.0) refl refl c.emit_clause.ensures
 
-pub marks-marked-requires : goal.marks-marked-requires
-marks-marked-requires c =
+pub marks-requires : goal.marks-requires
+marks-requires c =
     let r = translatable c.args.sheet.now.taken c.cells-count.ensures c.cell_words-words.ensures in
     let n = ap (λ n. 2 + n) c.cells-count.ensures.0 in
-    inner-small r n refl refl c.emit_clause-first.ensures c.members-inside.ensures
+    inner-small r n refl refl c.emit_clause.ensures c.members.ensures
 
 pub overflow_sub-root : goal.overflow_sub-root
 overflow_sub-root c =
     let taken = c.args.sheet.now.taken in
     omega (arith, nodes-counted _ _ taken, (accepted-facts _ _ taken).counts.some_nodes)
 
-pub formula-made-requires : goal.formula-made-requires
-formula-made-requires c =
+pub formula-truth-requires : goal.formula-truth-requires
+formula-truth-requires c =
     let taken = c.args.sheet.now.taken in
     let r = translatable taken c.cells-count.ensures c.cell_words-words.ensures in
     let n = ap (λ n. 2 + n) c.cells-count.ensures.0 in record {
-      ready = root-ready r n refl refl c.emit_clause-first.ensures c.members-inside.ensures c.marks-marked.ensures;
+      ready = root-ready r n refl refl c.emit_clause.ensures c.members.ensures c.marks.ensures;
       formula = rw (ap (λ n. n - 1) (nodes-counted _ _ taken)) (root_is r);
     }
 
-pub emit_clause-requires : goal.emit_clause-requires
-emit_clause-requires c =
+pub emit_clause-requires-2 : goal.emit_clause-requires-2
+emit_clause-requires-2 c =
     let taken = c.args.sheet.now.taken in
     let r = translatable taken c.cells-count.ensures c.cell_words-words.ensures in
     let n = ap (λ n. 2 + n) c.cells-count.ensures.0 in
-    walk-room r n refl refl c.emit_clause-first.ensures c.members-inside.ensures c.marks-marked.ensures
-    (ap (λ n. n - 1) (nodes-counted _ _ taken)) c.formula-made.ensures [] refl
+    walk-room r n refl refl c.emit_clause.ensures c.members.ensures c.marks.ensures
+    (ap (λ n. n - 1) (nodes-counted _ _ taken)) c.formula-truth.ensures [] refl
 
 pub returns : goal.returns
 returns c =
     let taken = c.args.sheet.now.taken in
     let r = translatable taken c.cells-count.ensures c.cell_words-words.ensures in
     let n = ap (λ n. 2 + n) c.cells-count.ensures.0 in
-    let l = c.formula-made.result.literal in
+    let l = c.formula-truth.result in
     let e : literal_of (read l) ≡ literal_of l = ap literal_of (back l (search rules)) in
-    translates r n refl refl c.emit_clause-first.ensures c.members-inside.ensures c.marks-marked.ensures
-    (ap (λ n. n - 1) (nodes-counted _ _ taken)) c.formula-made.ensures (appends-as (rw e) c.emit_clause.ensures)
+    translates r n refl refl c.emit_clause.ensures c.members.ensures c.marks.ensures
+    (ap (λ n. n - 1) (nodes-counted _ _ taken)) c.formula-truth.ensures (appends-as (rw e) c.emit_clause-2.ensures)

@@ -11,15 +11,15 @@ use Rattle.clauses_emission.proofs.Steps.{emits-literal}
 use Rattle.clauses_emission.proofs.Ors.{inputs-room, length-literals, gate-emits}
 use Rattle.clauses_emission.proofs.gates.gate.Goals as goal
 
-pub emit_clause-end-requires : goal.emit_clause-end-requires
-emit_clause-end-requires c =
+pub emit_clause-requires : goal.emit_clause-requires
+emit_clause-requires c =
     let ws = c.args.inputs.now in
-    inputs-room c.args.tape (literals_of ws) ws c.requires.bounded
-    (omega (arith, length-literals ws, c.requires.inputs.few)) c.requires.inputs.few c.gate_inputs-middle.ensures
+    inputs-room c.args.tape.now (literals_of ws) ws c.requires.bounded
+    (omega (arith, length-literals ws, c.requires.inputs.few)) c.requires.inputs.few c.gate_inputs.ensures
 
 pub returns : goal.returns
 returns c =
-    let tape = c.args.tape in
+    let tape = c.args.tape.now in
     let ws = c.args.inputs.now in
     let made = c.positive-g in
     let turned = c.opposite in
@@ -44,6 +44,6 @@ returns c =
     emits-literal (sym (ap literal_of word))
     (gate-emits tape (literals_of ws) c.requires.bounded within
     (omega (arith, length-literals ws, c.requires.inputs.few))
-    c.gate_inputs-middle.ensures
-    (appends-as e c.emit_clause-end.ensures)
+    c.gate_inputs.ensures
+    (appends-as e c.emit_clause.ensures)
     refl refl refl)

@@ -13,20 +13,20 @@ use Rattle.clauses_emission.proofs.gates.gate_inputs.Goals as goal
 
 pub loop-l-init : goal.loop-l-init
 unfolding input_clauses
-loop-l-init c = appends-none c.args.list.now c.args.tape
+loop-l-init c = appends-none c.args.list.now c.args.tape.now
 
-pub emit_clause-after-requires : goal.emit_clause-after-requires
-emit_clause-after-requires c =
+pub emit_clause-requires : goal.emit_clause-requires
+emit_clause-requires c =
     let k = c.loop-l.l-index in
     let ws = c.args.inputs.now in
-    inputs-room c.args.tape (literals_of (take k ws)) _ c.requires.bounded
+    inputs-room c.args.tape.now (literals_of (take k ws)) _ c.requires.bounded
     (omega (arith, length-literals (take k ws), length-take k ws, c.requires.inputs.few)) (omega arith) c.loop-l.invariant
 
 pub loop-l-preserved : goal.loop-l-preserved
 loop-l-preserved c =
     let ws = c.args.inputs.now in
     let k = c.loop-l.l-index in
-    let n = c.args.tape.next in
+    let n = c.args.tape.now.next in
     let w = get_or ws k (pos 0) in
     let h = c.loop-l-test.true in
     let call = c.opposite in
@@ -40,4 +40,4 @@ loop-l-preserved c =
     ((positive n ∷ opposite (literal_of w) ∷ []) ∷ []) = rw (g, o)
     in
     appends-as (inputs-next n ws k h ∙ ap (λ j. input_clauses n (literals_of (take j ws))) (sym (add-one k)))
-    (appends-then c.loop-l.invariant (appends-as e c.emit_clause-after.ensures))
+    (appends-then c.loop-l.invariant (appends-as e c.emit_clause.ensures))

@@ -6,4 +6,4 @@ use Rattle.clauses_emission.proofs.gates.gate_inputs.Given as goal
 
 abbrev pub invariant-loop-l : goal.invariant-loop-l
 invariant-loop-l l =
-    Appends (input_clauses l.initial.after.next (literals_of (take l.l-index l.inputs))) l.initial.list l.initial.after l.list l.after
+    Appends (input_clauses l.initial.tape.next (literals_of (take l.l-index l.inputs))) l.initial.list l.initial.tape l.list l.tape

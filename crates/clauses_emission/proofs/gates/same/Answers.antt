@@ -5,7 +5,7 @@ use Rattle.literal.specs.Words.{literal_of}
 use Rattle.literal.proofs.Signs.{back}
 use Rattle.clauses_rules.specs.Builder.{◌>>=◌}
 use Rattle.clauses_rules.specs.Translation as two
-use Rattle.clauses_emission.proofs.Steps.{emits-bind, regular-bind, regular-or, regular-and}
+use Rattle.clauses_emission.proofs.Steps.{emits-read, emits-bind, regular-bind, regular-or, regular-and}
 use Rattle.clauses_emission.proofs.gates.same.Goals as goal
 
 pub returns : goal.returns
@@ -14,17 +14,18 @@ returns c =
     let q = c.args.q in
     let x = c.implies-x in
     let y = c.implies-y in
-    let ex = back x.result.literal (search rules) in
-    let ey = back y.result.literal (search rules) in
+    let ex = back x.result (search rules) in
+    let ey = back y.result (search rules) in
     let ep = back p c.ranges.p in
     let eq = back q c.ranges.q in
-    emits-bind (two.implies (literal_of p, literal_of q))
+    emits-read (search rules)
+    (emits-bind (two.implies (literal_of p, literal_of q))
     (λ l. two.implies (literal_of q, literal_of p) >>= λ m. two.both (l, m))
     (regular-or _)
     (λ l. regular-bind (two.implies (literal_of q, literal_of p)) (λ m. two.both (l, m)) (regular-or _)
     (λ m. regular-and (l ∷ m ∷ [])))
     (rw (ep, eq) at x.ensures)
-    (emits-bind (two.implies (literal_of q, literal_of p)) (λ m. two.both (literal_of x.result.literal, m))
-    (regular-or _) (λ m. regular-and (literal_of x.result.literal ∷ m ∷ []))
+    (emits-bind (two.implies (literal_of q, literal_of p)) (λ m. two.both (literal_of x.result, m))
+    (regular-or _) (λ m. regular-and (literal_of x.result ∷ m ∷ []))
     (rw (eq, ep) at y.ensures)
-    (rw (ex, ey) at c.both.ensures))
+    (rw (ex, ey) at c.both.ensures)))

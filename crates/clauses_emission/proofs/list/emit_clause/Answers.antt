@@ -14,6 +14,6 @@ returns c =
         words = omega (arith, ap length e);
         list =
             (rw (back c.args.first c.ranges.first) at c.write_at.ensures)
-            ∙ ap (put_all c.args.list.now c.args.tape.words) (sym e);
+            ∙ ap (put_all c.args.list.now c.args.tape.now.words) (sym e);
       };
     }

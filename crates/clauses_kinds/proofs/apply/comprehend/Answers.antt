@@ -13,8 +13,7 @@ matched-requires-clause-operand c = (c.range.ensures (λ x. 0)).fine _ c.require
 
 pub returns : goal.returns
 returns c env =
-    let p = c.args.p in
     emits-as
-    (ap (λ (m : Matrix Literal). translate_binary intersection m (matrix_of p.matrix) p.tape.next)
+    (ap (λ (m : Matrix Literal). translate_binary intersection m (matrix_of c.args.p) c.args.tape.now.next)
     (c.range.ensures env).matrix)
     refl c.matched.ensures

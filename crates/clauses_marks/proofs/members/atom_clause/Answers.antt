@@ -20,10 +20,10 @@ use Rattle.clauses_marks.proofs.members.atom_clause.Goals as goal
 pub member-requires : goal.member-requires
 member-requires c =
     let s = c.args.source.now.sheet in
-    (sort-low s.bytes.now s.taken c.args.sort c.is_bounded.ensures c.if-not-is_bounded.false, c.requires.inside.1)
+    (sort-low s.bytes.now s.taken c.args.sort c.is_bounded.ensures c.if-is_bounded.true, c.requires.inside.1)
 
-pub returns : goal.returns
-returns c =
+pub returns-then-is_bounded : goal.returns-then-is_bounded
+returns-then-is_bounded c =
     let a = c.args in
     let sheet = sheet_of a.source.now.sheet.bytes.now in
     let cells = literals_of a.source.now.given.now in
@@ -41,14 +41,14 @@ returns c =
     in
     adds-most
     (adds-as (adds_one (read opp.result) (read mem.result ∷ []) c.emit_clause.ensures)
-    (g ∙ bounded-atom sheet cells (literal_of a.cell) a.sort a.i (sym c.is_bounded.ensures ∙ c.if-not-is_bounded.false)))
+    (g ∙ bounded-atom sheet cells (literal_of a.cell) a.sort a.i (sym c.is_bounded.ensures ∙ c.if-is_bounded.true)))
     (omega arith)
 
-pub returns-then-not-is_bounded : goal.returns-then-not-is_bounded
-returns-then-not-is_bounded c =
+pub returns-else-is_bounded : goal.returns-else-is_bounded
+returns-else-is_bounded c =
     let a = c.args in
     adds-most
-    (adds-as (adds_none a.list.now a.tape)
+    (adds-as (adds_none a.list.now a.tape.now)
     (full-atom (sheet_of a.source.now.sheet.bytes.now) (literals_of a.source.now.given.now) (literal_of a.cell) a.sort a.i
-    (sym c.is_bounded.ensures ∙ c.if-not-is_bounded.true)))
+    (sym c.is_bounded.ensures ∙ c.if-is_bounded.false)))
     (omega arith)

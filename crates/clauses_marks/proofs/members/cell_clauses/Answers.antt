@@ -12,15 +12,15 @@ use Rattle.clauses_marks.proofs.Adding.{adds-as, adds-most, adds_then}
 use Rattle.clauses_marks.proofs.Guards.{relation-columns}
 use Rattle.clauses_marks.proofs.members.cell_clauses.Goals as goal
 
-pub returns : goal.returns
-returns c =
+pub returns-else-arity-eq1 : goal.returns-else-arity-eq1
+returns-else-arity-eq1 c =
     let a = c.args in
     let sheet = sheet_of a.source.now.sheet.bytes.now in
     let cells = literals_of a.source.now.given.now in
     let first = c.first_sort-first in
     let second = c.second_sort-second in
     adds-most
-    (adds-as (adds_then c.atom_clause-after.ensures c.atom_clause-2.ensures)
+    (adds-as (adds_then c.atom_clause-else-arity-eq1.ensures c.atom_clause-else-arity-eq1-2.ensures)
     (ap (λ (w : ℤ). atom_clauses sheet cells (literal_of w) first.result a.i ++ atom_clauses sheet cells
     (literal_of w) second.result a.j)
     (back a.cell c.ranges.cell)

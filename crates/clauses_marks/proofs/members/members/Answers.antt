@@ -10,15 +10,15 @@ use Rattle.clauses_marks.proofs.members.members.Goals as goal
 pub loop-r-init : goal.loop-r-init
 loop-r-init c = series-start 384 _
 
-pub relation_inside-after-requires : goal.relation_inside-after-requires
-relation_inside-after-requires c =
+pub relation_inside-requires : goal.relation_inside-requires
+relation_inside-requires c =
     let s = c.args.source.now.sheet in record {
       small = adds-small c.loop-r.invariant c.requires (omega (arith, c.loop-r-test.true, few_relations _ _ s.taken));
       r_bound = omega (arith, c.loop-r-test.true, relations-counted _ _ s.taken);
     }
 
 pub loop-r-preserved : goal.loop-r-preserved
-loop-r-preserved c = series-next 384 _ c.loop-r.r c.loop-r.invariant c.relation_inside-after.ensures refl
+loop-r-preserved c = series-next 384 _ c.loop-r.r c.loop-r.invariant c.relation_inside.ensures refl
 
 pub returns : goal.returns
 unfolding member_clauses

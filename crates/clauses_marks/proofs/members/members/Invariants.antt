@@ -9,4 +9,4 @@ use Rattle.clauses_marks.proofs.members.members.Given as goal
 abbrev pub invariant-loop-r : goal.invariant-loop-r
 invariant-loop-r l =
     Adds (384 * l.r) (series l.r (relation_inside (sheet_of l.source.sheet.bytes.now) (literals_of l.source.given.now)))
-    l.initial.list l.initial.after l.list l.after
+    l.initial.list l.initial.tape l.list l.tape

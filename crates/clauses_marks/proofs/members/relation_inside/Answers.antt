@@ -49,13 +49,13 @@ pub loop-i-init : goal.loop-i-init
 loop-i-init c = series-start 48 _
 
 pub loop-i-preserved : goal.loop-i-preserved
-loop-i-preserved c = series-next 48 _ c.loop-i.i c.loop-i.invariant c.row_inside-after.ensures refl
+loop-i-preserved c = series-next 48 _ c.loop-i.i c.loop-i.invariant c.row_inside.ensures refl
 
-pub returns-then-not-over_bounded : goal.returns-then-not-over_bounded
-returns-then-not-over_bounded c =
+pub returns-else-over_bounded : goal.returns-else-over_bounded
+returns-else-over_bounded c =
     let a = c.args in
     let sheet = sheet_of a.source.now.sheet.bytes.now in
     let e = c.over_bounded.ensures in
-    let none = none_inside sheet (literals_of a.source.now.given.now) a.r (full-first sheet a.r e c.if-not-over_bounded.true)
-    (full-second sheet a.r e c.if-not-over_bounded.true) in
-    adds-as (adds-most (adds_none a.list.now a.tape) (omega arith)) (sym none)
+    let none = none_inside sheet (literals_of a.source.now.given.now) a.r (full-first sheet a.r e c.if-over_bounded.false)
+    (full-second sheet a.r e c.if-over_bounded.false) in
+    adds-as (adds-most (adds_none a.list.now a.tape.now) (omega arith)) (sym none)

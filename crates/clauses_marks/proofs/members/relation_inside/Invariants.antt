@@ -9,4 +9,4 @@ use Rattle.clauses_marks.proofs.members.relation_inside.Given as goal
 abbrev pub invariant-loop-i : goal.invariant-loop-i
 invariant-loop-i l =
     Adds (48 * l.i) (series l.i (row_inside (sheet_of l.source.sheet.bytes.now) (literals_of l.source.given.now) l.r))
-    l.initial.list l.initial.after l.list l.after
+    l.initial.list l.initial.tape l.list l.tape

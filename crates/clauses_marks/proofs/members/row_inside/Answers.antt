@@ -19,14 +19,14 @@ use Rattle.clauses_marks.proofs.members.row_inside.Goals as goal
 pub loop-j-init : goal.loop-j-init
 loop-j-init c = series-start 6 _
 
-pub cell_clauses-after-requires-clause-small : goal.cell_clauses-after-requires-clause-small
-cell_clauses-after-requires-clause-small c =
+pub cell_clauses-requires-clause-small : goal.cell_clauses-requires-clause-small
+cell_clauses-requires-clause-small c =
     let s = c.args.source.now in
     let row = row-members _ _ s.sheet.taken _ s.inside c.args.r c.args.i c.requires.r_bound _ c.row-row.ensures in
     adds-small c.loop-j.invariant c.requires.small (omega (arith, c.loop-j-test.true, row.few))
 
-pub cell_clauses-after-requires-clause-inside : goal.cell_clauses-after-requires-clause-inside
-cell_clauses-after-requires-clause-inside c =
+pub cell_clauses-requires-clause-inside : goal.cell_clauses-requires-clause-inside
+cell_clauses-requires-clause-inside c =
     let s = c.args.source.now in
     let a = c.args in
     let h = c.loop-j-test.true in
@@ -44,7 +44,7 @@ loop-j-preserved c =
     let fits : SFits w32 w = search rules in
     let e = ap literal_of (back w fits)
     ∙ row-literal _ _ s.sheet.taken _ s.inside a.r a.i c.requires.r_bound _ c.row-row.ensures c.loop-j.j c.loop-j-test.true in
-    series-next 6 _ c.loop-j.j c.loop-j.invariant c.cell_clauses-after.ensures
+    series-next 6 _ c.loop-j.j c.loop-j.invariant c.cell_clauses.ensures
     (ap (λ (m : Literal). column_clauses (sheet_of s.sheet.bytes.now) (literals_of s.given.now) m a.r a.i c.loop-j.j) e)
 
 pub returns : goal.returns

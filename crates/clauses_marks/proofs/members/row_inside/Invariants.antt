@@ -9,4 +9,4 @@ use Rattle.clauses_marks.proofs.members.row_inside.Given as goal
 abbrev pub invariant-loop-j : goal.invariant-loop-j
 invariant-loop-j l =
     Adds (6 * l.j) (series l.j (cell_clauses (sheet_of l.source.sheet.bytes.now) (literals_of l.source.given.now) l.r l.i))
-    l.initial.list l.initial.after l.list l.after
+    l.initial.list l.initial.tape l.list l.tape

@@ -9,13 +9,13 @@ use Rattle.clauses_matrix.proofs.operators.closure.Goals as goal
 
 pub loop-init : goal.loop-init
 unfolding after_rounds
-loop-init c = emits-return (matrix_of c.args.p) c.args.list.now c.args.tape c.requires.bounded c.requires.operand
+loop-init c = emits-return (matrix_of c.args.p) c.args.list.now c.args.tape.now c.requires.bounded c.requires.operand
 
 pub returns-then-eq : goal.returns-then-eq
 returns-then-eq c =
     let p = matrix_of c.args.p in
-    rounds-done c.loop.counter p c.loop.invariant c.round-made.ensures c.if-made-after.true
-    (sym ((signed_items c.round-made.result.matrix.cells c.loop.matrix.cells).0 (sym c.eq.ensures ∙ c.if-eq.true)))
+    rounds-done c.loop.counter p c.loop.invariant c.round-made.ensures c.if-tape-first.true
+    (sym ((signed_items c.round-made.result.cells c.loop.matrix.cells).0 (sym c.eq.ensures ∙ c.if-eq.true)))
     _ (omega (arith, c.rounds-end.ensures))
 
 pub loop-preserved : goal.loop-preserved

@@ -5,5 +5,5 @@ use Rattle.clauses_matrix.proofs.operators.closure.Given as goal
 
 abbrev pub invariant-loop : goal.invariant-loop
 invariant-loop l =
-    EmitsMatrix (after_rounds l.counter (matrix_of l.initial.matrix) l.initial.after.next) l.initial.list l.initial.after l.matrix
-    l.list l.after
+    EmitsMatrix (after_rounds l.counter (matrix_of l.initial.matrix) l.initial.tape.next) l.initial.list l.initial.tape l.matrix
+    l.list l.tape

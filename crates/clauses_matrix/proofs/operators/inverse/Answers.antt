@@ -13,10 +13,9 @@ use Rattle.clauses_matrix.proofs.Placed.{placed-cells, placed}
 use Rattle.clauses_matrix.proofs.operators.inverse.Goals as goal
 
 pub returns : goal.returns
-returns c list =
+returns c list tape b o =
     let p = c.args.p in
-    let o = c.requires.operand in
-    let n = c.args.tape.next in
+    let n = tape.next in
     let u = c.places_by.ensures in
     let ws = c.places_by.result in
     let turned : Place → Literal = λ t. cell_at absent (matrix_of p) (t.1 * p.columns + t.0) in
@@ -33,10 +32,10 @@ returns c list =
     rw (operand_at n p (j * p.columns + i) o (from i j li lj)) at (operand-inside n p (j * p.columns + i) o (from i j li lj))
     in
     let small = square o.columns o.rows in
-    let fine = placed p.columns p.rows ws turned u.long small each u.rest n c.requires.bounded.first inside in
-    let cells : EmitsCells (p.columns * p.rows) (return (map turned (places p.columns p.rows)) n) list c.args.tape ws list c.args.tape =
+    let fine = placed p.columns p.rows ws turned u.long small each u.rest n b.first inside in
+    let cells : EmitsCells (p.columns * p.rows) (return (map turned (places p.columns p.rows)) n) list tape ws list tape =
     emits-as (ap (λ (ls : List Literal). return ls n) (placed-cells p.columns p.rows ws turned u.long small each u.rest)) refl
-    (emits-return (cells_of (p.columns * p.rows) ws) list c.args.tape c.requires.bounded fine)
+    (emits-return (cells_of (p.columns * p.rows) ws) list tape b fine)
     in
     emits-map (relation_of p.columns p.rows) (return (map turned (places p.columns p.rows))) cells refl
     (record {

@@ -6,15 +6,15 @@ use Rattle.clauses_rules.specs.Translation.{both}
 use Rattle.clauses_emission.specs.declared.Pairing.TheVariants.{Both}
 use Rattle.clauses_emission.specs.Emission.{literals_of}
 use Rattle.clauses_matrix.specs.Matrices.{row_middles}
-use Rattle.clauses_emission.proofs.Steps.{regular-pairing, regular-each, regular-or, emits-bind}
+use Rattle.clauses_emission.proofs.Steps.{regular-pairing, regular-each, regular-or, emits-bind, emits-read}
 use Rattle.clauses_matrix.proofs.Middles.{met_start, met_next, met_all, met-inputs, row_inside, column-inside}
 use Rattle.clauses_matrix.proofs.operators.join_cell.Goals as goal
 
 pub loop-k-init : goal.loop-k-init
-loop-k-init c = met_start c.args.list.now c.args.tape c.requires.bounded
+loop-k-init c = met_start c.args.list.now c.args.tape.now c.requires.bounded
 
-pub both-made-requires : goal.both-made-requires
-both-made-requires c =
+pub both-requires : goal.both-requires
+both-requires c =
     let k = c.loop-k.k in
     let a = c.args in
     let emits = c.loop-k.invariant.emits in record {
@@ -29,11 +29,11 @@ pub loop-k-preserved : goal.loop-k-preserved
 loop-k-preserved c =
     let k = c.loop-k.k in
     let a = c.args in
-    let w = c.both-made.result.literal in
+    let w = c.both.result in
     rw (back w (search rules))
     (met_next c.requires.row_and_column c.loop-k-test.true w c.loop-k.invariant
     (rw (back (get_or a.left.now k (pos 0)) (search rules), back (get_or a.right.now (k * a.columns + a.j) (pos 0)) (search rules))
-    at c.both-made.ensures))
+    at c.both.ensures))
 
 pub or-requires : goal.or-requires
 or-requires c = record { bounded = c.loop-k.invariant.emits.bounded; inputs = met-inputs c.loop-k.invariant }
@@ -42,5 +42,6 @@ pub returns : goal.returns
 returns c =
     let a = c.args in
     let met = row_middles (literals_of a.left.now) (literals_of a.right.now) a.columns a.j in
-    emits-bind (each both met) or (regular-each both (regular-pairing Both) met) regular-or
-    (met_all c.loop-k.invariant c.loop-k-test.false) c.or.ensures
+    emits-read (search rules)
+    (emits-bind (each both met) or (regular-each both (regular-pairing Both) met) regular-or
+    (met_all c.loop-k.invariant c.loop-k-test.false) c.or.ensures)

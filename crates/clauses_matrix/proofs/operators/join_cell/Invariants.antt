@@ -3,4 +3,4 @@ use Rattle.clauses_matrix.proofs.Middles.{Met}
 use Rattle.clauses_matrix.proofs.operators.join_cell.Given as goal
 
 abbrev pub invariant-loop-k : goal.invariant-loop-k
-invariant-loop-k l = Met l.left l.right l.columns l.j l.k l.initial.list l.initial.after l.middles l.list l.after
+invariant-loop-k l = Met l.left l.right l.columns l.j l.k l.initial.list l.initial.tape l.middles l.list l.tape

@@ -13,11 +13,11 @@ use Rattle.clauses_matrix.proofs.operators.join_cells.Goals as goal
 pub loop-k-init : goal.loop-k-init
 loop-k-init c =
     let a = c.args in
-    cells-start join_cell (middles_at a.p.cells a.q.cells a.p.columns c.join_columns-columns.result) a.list.now a.tape
+    cells-start join_cell (middles_at a.p.cells a.q.cells a.p.columns c.join_columns-columns.result) a.list.now a.tape.now
     c.requires.bounded
 
-pub join_cell-made-requires-clause-row_and_column : goal.join_cell-made-requires-clause-row_and_column
-join_cell-made-requires-clause-row_and_column c =
+pub join_cell-requires-clause-row_and_column : goal.join_cell-requires-clause-row_and_column
+join_cell-requires-clause-row_and_column c =
     let emits = c.loop-k.invariant in
     let columns = c.join_columns-columns in
     row-and-column (operand-grow emits.grows c.requires.operand) (operand-grow emits.grows c.requires.operand_2)
@@ -28,11 +28,11 @@ loop-k-preserved c =
     let loop = c.loop-k in
     let p = c.args.p in
     let columns = c.join_columns-columns in
-    let w = c.join_cell-made.result.literal in
+    let w = c.join_cell.result in
     rw (add-one loop.k, back w (search rules))
     (cells-next join_cell regular-join-cell (middles_at p.cells c.args.q.cells p.columns columns.result) loop.k loop.cells w
     (cell_below p.rows columns.result loop.k c.requires.operand.rows columns.ensures.1 c.loop-k-test.true) loop.invariant
-    c.join_cell-made.ensures)
+    c.join_cell.ensures)
 
 pub returns : goal.returns
 returns c =
@@ -46,4 +46,4 @@ returns c =
     (λ k. middles absent p q (place_of columns.result k)) loop.k (c.args.p.rows * columns.result) loop.cells
     loop.auto.k-end c.loop-k-test.false same loop.invariant
     in
-    rw columns.ensures.0 at (emits-as (join-by-number p q columns.result c.args.tape.next) refl cells)
+    rw columns.ensures.0 at (emits-as (join-by-number p q columns.result c.args.tape.now.next) refl cells)

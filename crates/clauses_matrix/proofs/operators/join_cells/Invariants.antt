@@ -8,5 +8,5 @@ use Rattle.clauses_matrix.proofs.operators.join_cells.Given as goal
 
 abbrev pub invariant-loop-k : goal.invariant-loop-k
 invariant-loop-k l =
-    EmitsCells l.k (each join_cell (map (middles_at l.left l.right l.n l.columns) (upto l.k)) l.initial.after.next)
-    l.initial.list l.initial.after l.cells l.list l.after
+    EmitsCells l.k (each join_cell (map (middles_at l.left l.right l.n l.columns) (upto l.k)) l.initial.tape.next)
+    l.initial.list l.initial.tape l.cells l.list l.tape

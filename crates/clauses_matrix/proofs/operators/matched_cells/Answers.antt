@@ -12,17 +12,17 @@ use Rattle.clauses_matrix.proofs.operators.matched_cells.Goals as goal
 
 pub loop-k-init : goal.loop-k-init
 loop-k-init c =
-    cells-start (pairing c.args.kind) (pair_at c.args.p.cells c.args.q.cells (λ i. i) (λ i. i)) c.args.list.now c.args.tape
+    cells-start (pairing c.args.kind) (pair_at c.args.p.cells c.args.q.cells (λ i. i) (λ i. i)) c.args.list.now c.args.tape.now
     c.requires.bounded
 
-pub pair-made-requires : goal.pair-made-requires
-pair-made-requires c =
+pub pair-requires : goal.pair-requires
+pair-requires c =
     let k = c.loop-k.k in
     let emits = c.loop-k.invariant in
     let p = c.args.p in
     let q = c.args.q in
     let o = c.requires.operand in
-    let n = c.args.tape.next in
+    let n = c.args.tape.now.next in
     let h = cell_below p.rows p.columns k o.rows o.columns c.loop-k-test.true in record {
       bounded = emits.bounded;
       inside = rw (back (get_or p.cells k (pos 0)) (search rules)) (inside-grows emits.grows (operand-inside n p k o h));
@@ -38,12 +38,12 @@ loop-k-preserved c =
     let p = c.args.p in
     let q = c.args.q in
     let o = c.requires.operand in
-    let w = c.pair-made.result.literal in
+    let w = c.pair.result in
     rw (add-one k, back w (search rules))
     (cells-next (pairing kind) (regular-pairing kind) (pair_at p.cells q.cells (λ i. i) (λ i. i)) k loop.cells w
     (cell_below p.rows p.columns k o.rows o.columns c.loop-k-test.true) loop.invariant
     (rw (back (get_or p.cells k (pos 0)) (search rules), back (get_or q.cells k (pos 0)) (search rules))
-    at c.pair-made.ensures))
+    at c.pair.ensures))
 
 pub returns : goal.returns
 returns c =
@@ -52,7 +52,7 @@ returns c =
     let p = c.args.p in
     let q = c.args.q in
     let o = c.requires.operand in
-    let n = c.args.tape.next in
+    let n = c.args.tape.now.next in
     let same : (j : ℕ) → j < p.rows * p.columns
     → ◌≡◌ {A = Two} (literal_of (get_or p.cells j (pos 0)), literal_of (get_or q.cells j (pos 0)))
     (cell_at absent (matrix_of p) j, cell_at absent (matrix_of q) j) =

@@ -9,5 +9,5 @@ use Rattle.clauses_matrix.proofs.operators.matched_cells.Given as goal
 
 abbrev pub invariant-loop-k : goal.invariant-loop-k
 invariant-loop-k l =
-    EmitsCells l.k (each (pairing l.kind) (map (pair_at l.p.cells l.q.cells (λ i. i) (λ i. i)) (upto l.k)) l.initial.after.next)
-    l.initial.list l.initial.after l.cells l.list l.after
+    EmitsCells l.k (each (pairing l.kind) (map (pair_at l.p.cells l.q.cells (λ i. i) (λ i. i)) (upto l.k)) l.initial.tape.next)
+    l.initial.list l.initial.tape l.cells l.list l.tape

@@ -19,14 +19,14 @@ small k n h l = omega arith
 pub loop-k-init : goal.loop-k-init
 loop-k-init c =
     cells-start both (pair_at c.args.p.cells c.args.q.cells (λ a. a / c.args.q.columns) (λ a. a % c.args.q.columns))
-    c.args.list.now c.args.tape c.requires.bounded
+    c.args.list.now c.args.tape.now c.requires.bounded
 
-pub both-made-requires : goal.both-made-requires
-both-made-requires c =
+pub both-requires : goal.both-requires
+both-requires c =
     let loop = c.loop-k in
     let p = c.args.p in
     let q = c.args.q in
-    let n = c.args.tape.next in
+    let n = c.args.tape.now.next in
     let i = loop.k / q.columns in
     let j = loop.k % q.columns in
     let left = small i p.columns (row_below p.columns q.columns loop.k c.loop-k-test.true) c.requires.operand.columns in
@@ -46,13 +46,13 @@ loop-k-preserved c =
     let right = c.args.q.cells in
     let columns = c.args.q.columns in
     let k = loop.k in
-    let w = c.both-made.result.literal in
+    let w = c.both.result in
     rw (add-one k, back w (search rules))
     (cells-next both (regular-pairing Both) (pair_at left right (λ a. a / columns) (λ a. a % columns)) k loop.cells w
     (cell_below c.args.p.columns columns k c.requires.operand.columns c.requires.operand_2.columns c.loop-k-test.true)
     loop.invariant
     (rw (back (get_or left (k / columns) (pos 0)) (search rules), back (get_or right (k % columns) (pos 0)) (search rules))
-    at c.both-made.ensures))
+    at c.both.ensures))
 
 pub returns : goal.returns
 returns c =
@@ -61,7 +61,7 @@ returns c =
     let q = c.args.q in
     let rows = p.columns in
     let columns = q.columns in
-    let n = c.args.tape.next in
+    let n = c.args.tape.now.next in
     let cross : Place → Two = λ t. (cell_at absent (matrix_of p) t.0, cell_at absent (matrix_of q) t.1) in
     let same : (a : ℕ) → a < rows * columns
     → ◌≡◌ {A = Two} (

@@ -10,5 +10,5 @@ use Rattle.clauses_matrix.proofs.operators.product.Given as goal
 abbrev pub invariant-loop-k : goal.invariant-loop-k
 invariant-loop-k l =
     EmitsCells l.k (each both (map (pair_at l.p.cells l.q.cells (λ a. a / l.columns) (λ a. a % l.columns)) (upto l.k))
-    l.initial.after.next)
-    l.initial.list l.initial.after l.cells l.list l.after
+    l.initial.tape.next)
+    l.initial.list l.initial.tape l.cells l.list l.tape

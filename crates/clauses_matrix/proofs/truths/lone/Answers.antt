@@ -28,23 +28,23 @@ module _ {n : ℕ} {p : Literals} (o : Operand n p) where
   below h = omega (arith, inner h, few)
 
 pub loop-i-init : goal.loop-i-init
-loop-i-init c = passed_start (matrix_of c.args.p).cells c.args.list.now c.args.tape c.requires.bounded
+loop-i-init c = passed_start (matrix_of c.args.p).cells c.args.list.now c.args.tape.now c.requires.bounded
 
-pub meet-made-requires-clause-inside : goal.meet-made-requires-clause-inside
-meet-made-requires-clause-inside c =
+pub meet-requires-clause-inside : goal.meet-requires-clause-inside
+meet-requires-clause-inside c =
     let p = c.args.p in
     let o = c.requires.operand in
     rw (back (get_or p.cells c.loop-i.i (pos 0)) (search rules))
     (inside-grows c.loop-j.invariant.emits.grows
-    (operand-inside c.args.tape.next p c.loop-i.i o (below o c.loop-i-test.true)))
+    (operand-inside c.args.tape.now.next p c.loop-i.i o (below o c.loop-i-test.true)))
 
-pub meet-made-requires-clause-inside_2 : goal.meet-made-requires-clause-inside_2
-meet-made-requires-clause-inside_2 c =
+pub meet-requires-clause-inside_2 : goal.meet-requires-clause-inside_2
+meet-requires-clause-inside_2 c =
     let p = c.args.p in
     let o = c.requires.operand in
     rw (back (get_or p.cells c.loop-j.j (pos 0)) (search rules))
     (inside-grows c.loop-j.invariant.emits.grows
-    (operand-inside c.args.tape.next p c.loop-j.j o (below o c.loop-j-test.true)))
+    (operand-inside c.args.tape.now.next p c.loop-j.j o (below o c.loop-j-test.true)))
 
 pub bounds-pairs-t : goal.bounds-pairs-t
 bounds-pairs-t c =
@@ -68,13 +68,13 @@ loop-j-preserved c =
     let o = c.requires.operand in
     let i = c.loop-i.i in
     let j = c.loop-j.j in
-    let w = c.meet-made.result.literal in
+    let w = c.meet.result in
     let e = rw (
       back (get_or p.cells i (pos 0)) (search rules),
       back (get_or p.cells j (pos 0)) (search rules),
-      operand_at c.args.tape.next p i o (below o c.loop-i-test.true),
-      operand_at c.args.tape.next p j o (below o c.loop-j-test.true),
-    ) at c.meet-made.ensures in
+      operand_at c.args.tape.now.next p i o (below o c.loop-i-test.true),
+      operand_at c.args.tape.now.next p j o (below o c.loop-j-test.true),
+    ) at c.meet.ensures in
     rw (back w (search rules))
     (passed-right (matrix_of p).cells c.loop-j.t i j c.loop-j.pairs c.loop-j.invariant (inner o c.loop-j-test.true) (few o) w e)
 
@@ -107,9 +107,9 @@ returns c =
     let cells = (matrix_of c.args.p).cells in
     let loop = c.loop-i in
     let ts = matrices.pairs cells in
-    emits-as (never_both ts c.args.tape.next) refl
-    (emits-negated (each both ts >>= or) c.or.result c.negate.result
+    emits-as (never_both ts c.args.tape.now.next) refl
+    (emits-negated (each both ts >>= or)
     (emits-bind (each both ts) or (regular-each both (regular-pairing Both) ts) regular-or
     (passed-all cells loop.t loop.i _ loop.pairs loop.invariant (rw (size_of c.requires.operand) c.loop-i-test.false) refl)
     c.or.ensures)
-    c.negate.ensures)
+    (search rules) c.opposite.ensures (record { sfits = c.opposite.type_inv }))

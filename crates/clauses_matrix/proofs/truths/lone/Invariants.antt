@@ -5,7 +5,7 @@ use Rattle.clauses_matrix.proofs.Pairs.{Passed}
 use Rattle.clauses_matrix.proofs.truths.lone.Given as goal
 
 abbrev pub invariant-loop-i : goal.invariant-loop-i
-invariant-loop-i l = Passed (cells_of l.n l.p.cells) l.t l.i (l.i + 1) l.fn.list l.fn.tape l.pairs l.list l.after
+invariant-loop-i l = Passed (cells_of l.n l.p.cells) l.t l.i (l.i + 1) l.fn.list l.fn.tape l.pairs l.list l.tape
 
 abbrev pub invariant-loop-j : goal.invariant-loop-j
-invariant-loop-j l = Passed (cells_of l.n l.p.cells) l.t l.i l.j l.fn.list l.fn.tape l.pairs l.list l.after
+invariant-loop-j l = Passed (cells_of l.n l.p.cells) l.t l.i l.j l.fn.list l.fn.tape l.pairs l.list l.tape

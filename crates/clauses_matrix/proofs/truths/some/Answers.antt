@@ -7,5 +7,5 @@ or-requires c =
     let p = c.args.p in
     let size = p.rows * p.columns in record {
       bounded = c.requires.bounded;
-      inputs = front-inputs size size c.args.tape.next p.cells c.requires.bounded.first c.requires.operand.cells;
+      inputs = front-inputs size size c.args.tape.now.next p.cells c.requires.bounded.first c.requires.operand.cells;
     }

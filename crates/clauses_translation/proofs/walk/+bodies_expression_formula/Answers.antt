@@ -19,7 +19,8 @@ use Rattle.nodes.proofs.Views.{Reached, expression-low, formula-low}
 use Rattle.nodes.proofs.ExpressionViews.{at_leaf, at-binary, at-unary, at-comprehension, expression-symbol}
 use Rattle.nodes.proofs.FormulaViews.{at-comparison, at_test, at-negation, at-connective, at-quantifier}
 use Rattle.nodes.proofs.FormulaViews.{formula-symbol}
-use Rattle.clauses_emission.proofs.Ranges.{inside-grows}
+use Rattle.clauses_emission.proofs.Ranges.{inside-grows, opposite-read}
+use Rattle.clauses_emission.proofs.Steps.{emits-read}
 use Rattle.clauses_matrix.proofs.Fills.{operand-grow}
 use Rattle.clauses_translation.proofs.Walking.{finished, ready-after, both-finished}
 use Rattle.clauses_translation.proofs.NodeWalks.{expression-over, leaf-walks, binary-walks, unary-walks}
@@ -40,15 +41,15 @@ module _ (s : List ℕ) (layout : Layout) (taken : reading s ≡ accepted layout
 pub bodies-loop-i-init : goal.bodies-loop-i-init
 bodies-loop-i-init t c = done_none _ _ _ _ _ _ _ c.requires.ready.bounded
 
-pub bodies-formula-made-requires : goal.bodies-formula-made-requires
-bodies-formula-made-requires t c =
+pub bodies-formula-requires : goal.bodies-formula-requires
+bodies-formula-requires t c =
     let r = c.requires in
     (omega (arith, c.decreases), (ready-after c.loop-i.invariant.walk r.formula r.ready, r.formula))
 
 pub bodies-loop-i-preserved : goal.bodies-loop-i-preserved
 bodies-loop-i-preserved t c =
-    let l : SFits w32 c.formula-made.result.literal = search rules in
-    done_more _ _ _ _ _ _ _ c.loop-i.invariant c.bind.result c.formula-made.ensures c.bind.ensures
+    let l : SFits w32 c.formula.result = search rules in
+    done_more _ _ _ _ _ _ _ c.loop-i.invariant c.bind.result c.formula.ensures c.bind.ensures
     (omega (arith, c.scope_of_variable-columns.ensures.1, c.loop-i-test.true)) (back _ l)
 
 pub bodies-returns : goal.bodies-returns
@@ -60,7 +61,7 @@ bodies-returns t c =
 pub expression-returns-then-tape-gt-LIMIT : goal.expression-returns-then-tape-gt-LIMIT
 expression-returns-then-tape-gt-LIMIT t c =
     expression-over c.args.source.now.given.now c.args.env c.requires.ready.bounded c.if-tape-gt-LIMIT.true
-    c.nothing-matrix.ensures
+    c.nothing.ensures
 
 pub formula-returns-then-tape-gt-LIMIT : goal.formula-returns-then-tape-gt-LIMIT
 formula-returns-then-tape-gt-LIMIT t c =
@@ -184,12 +185,6 @@ formula-formula-requires t c =
     in
     (omega (arith, b.lower_a, c.decreases), (c.requires.ready, b.left))
 
-pub formula-negate-requires : goal.formula-negate-requires
-formula-negate-requires t c =
-    let e = finished c.formula.ensures (at-negation
-    (formula_node _ _ c.args.source.now.sheet.taken c.read_node-node.ensures.0 c.requires.formula) c.in-Negation.is).left in
-    record { bounded = e.0; inside = e.1 }
-
 pub formula-formula-p-requires : goal.formula-formula-p-requires
 formula-formula-p-requires t c =
     let b = at-connective (formula_node _ _ c.args.source.now.sheet.taken c.read_node-node.ensures.0 c.requires.formula)
@@ -207,7 +202,11 @@ formula-connect-requires t c =
     let b = at-connective (formula_node _ _ c.args.source.now.sheet.taken c.read_node-node.ensures.0 c.requires.formula)
     c.in-Connective.is in
     let e = both-finished c.formula-q.ensures b.right (λ _ _. inside-grows) (finished c.formula-p.ensures b.left).1 in
-    record { bounded = e.0; inside = e.1.0; inside_2 = e.1.1 }
+    record {
+      bounded = e.0;
+      inside = rw (back c.formula-p.result (search rules)) e.1.0;
+      inside_2 = rw (back c.formula-q.result (search rules)) e.1.1;
+    }
 
 pub formula-bodies-row-requires : goal.formula-bodies-row-requires
 formula-bodies-row-requires t c =
@@ -226,31 +225,35 @@ pub formula-returns-in-Comparison : goal.formula-returns-in-Comparison
 formula-returns-in-Comparison t c =
     comparison-walks c.args.source.now.given.now c.args.env
     (formula_node _ _ c.args.source.now.sheet.taken c.read_node-node.ensures.0 c.requires.formula) c.in-Comparison.is
-    c.expression-p.ensures c.expression-q.ensures c.compare.ensures
+    c.expression-p.ensures c.expression-q.ensures (emits-read (search rules) c.compare.ensures)
 
 pub formula-returns-in-Test : goal.formula-returns-in-Test
 formula-returns-in-Test t c =
     test-walks c.args.source.now.given.now c.args.env (formula_node _ _ c.args.source.now.sheet.taken c.read_node-node.ensures.0
     c.requires.formula) c.in-Test.is
-    c.expression-p-in-Test.ensures c.test.ensures
+    c.expression-p-in-Test.ensures (emits-read (search rules) c.test.ensures)
 
 pub formula-returns-in-Negation : goal.formula-returns-in-Negation
 formula-returns-in-Negation t c =
-    negation-walks c.args.source.now.given.now c.args.env
-    (formula_node _ _ c.args.source.now.sheet.taken c.read_node-node.ensures.0 c.requires.formula) c.in-Negation.is
-    c.formula.ensures c.negate.ensures.0 c.negate.ensures.1
+    let node = formula_node _ _ c.args.source.now.sheet.taken c.read_node-node.ensures.0 c.requires.formula in
+    let e = finished c.formula.ensures (at-negation node c.in-Negation.is).left in
+    negation-walks c.args.source.now.given.now c.args.env node c.in-Negation.is c.formula.ensures
+    (opposite-read _ c.formula.result c.opposite.result e.0.last (search rules) e.1 c.opposite.ensures
+    (record { sfits = c.opposite.type_inv }))
 
 pub formula-returns-in-Connective : goal.formula-returns-in-Connective
 formula-returns-in-Connective t c =
     connective-walks c.args.source.now.given.now c.args.env
     (formula_node _ _ c.args.source.now.sheet.taken c.read_node-node.ensures.0 c.requires.formula) c.in-Connective.is
-    c.formula-p.ensures c.formula-q.ensures c.connect.ensures
+    c.formula-p.ensures c.formula-q.ensures
+    (emits-read (search rules)
+    (rw (back c.formula-p.result (search rules), back c.formula-q.result (search rules)) at c.connect.ensures))
 
 pub formula-returns-in-Quantifier : goal.formula-returns-in-Quantifier
 formula-returns-in-Quantifier t c =
     quantifier-walks c.args.source.now.given.now c.args.env
     (formula_node _ _ c.args.source.now.sheet.taken c.read_node-node.ensures.0 c.requires.formula) c.in-Quantifier.is
-    c.bodies-row.ensures (c.quantify_over.ensures (environment c.args.env))
+    c.bodies-row.ensures (emits-read (search rules) (c.quantify_over.ensures (environment c.args.env)))
 
 pub expression-unreachable-requires : goal.expression-unreachable-requires
 expression-unreachable-requires t c =

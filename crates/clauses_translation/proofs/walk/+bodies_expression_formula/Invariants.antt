@@ -16,4 +16,4 @@ decreases-formula l = 2 * l.at
 
 abbrev pub invariant-bodies-loop-i : goal.invariant-bodies-loop-i
 invariant-bodies-loop-i l =
-    Done (sheet_of l.source.sheet.bytes.now) l.source.given.now l.env l.at l.initial.list l.initial.after l.x l.i l.cells l.list l.after
+    Done (sheet_of l.source.sheet.bytes.now) l.source.given.now l.env l.at l.initial.list l.initial.tape l.x l.i l.cells l.list l.tape
