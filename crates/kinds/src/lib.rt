@@ -42,30 +42,73 @@ pub struct Row {
     pub rule: Rule,
 }
 
+// A row of the table: field a, field b, the rule.
+macro_rules! row {
+    ($a:ident, $b:ident, $rule:ident) => {
+        Row {
+            a: Field::$a,
+            b: Field::$b,
+            rule: Rule::$rule,
+        }
+    };
+}
+
+// The row of each number.
+const KINDS: [Row; 42] = [
+    row!(Unused, Unused, Unknown), // 0
+    row!(Relation, Unused, OfRelation), // 1: relation
+    row!(Variable, Unused, OfVariable), // 2: variable
+    row!(Sort, Unused, OfSort), // 3: all atoms of a sort
+    row!(Sort, Unused, OfIdentity), // 4: identity
+    row!(Node, Node, Same), // 5: union
+    row!(Node, Node, Same), // 6: intersection
+    row!(Node, Node, Same), // 7: difference
+    row!(Node, Node, Join), // 8: join
+    row!(Node, Node, Product), // 9: product
+    row!(Node, Unused, Inverse), // 10: inverse
+    row!(Node, Unused, Closure), // 11: closure
+    row!(Variable, Node, Comprehension), // 12: comprehension
+    row!(Unused, Unused, Unknown), // 13
+    row!(Unused, Unused, Unknown), // 14
+    row!(Unused, Unused, Unknown), // 15
+    row!(Unused, Unused, Unknown), // 16
+    row!(Unused, Unused, Unknown), // 17
+    row!(Unused, Unused, Unknown), // 18
+    row!(Unused, Unused, Unknown), // 19
+    row!(Node, Node, Comparison), // 20: equal
+    row!(Node, Node, Comparison), // 21: within
+    row!(Node, Unused, Test), // 22: some
+    row!(Node, Unused, Test), // 23: none
+    row!(Node, Unused, Test), // 24: lone
+    row!(Unused, Unused, Unknown), // 25
+    row!(Unused, Unused, Unknown), // 26
+    row!(Unused, Unused, Unknown), // 27
+    row!(Unused, Unused, Unknown), // 28
+    row!(Unused, Unused, Unknown), // 29
+    row!(Node, Unused, Negation), // 30: not
+    row!(Node, Node, Connective), // 31: and
+    row!(Node, Node, Connective), // 32: or
+    row!(Node, Node, Connective), // 33: implies
+    row!(Node, Node, Connective), // 34: equivalent
+    row!(Unused, Unused, Unknown), // 35
+    row!(Unused, Unused, Unknown), // 36
+    row!(Unused, Unused, Unknown), // 37
+    row!(Unused, Unused, Unknown), // 38
+    row!(Unused, Unused, Unknown), // 39
+    row!(Variable, Node, Quantifier), // 40: for all
+    row!(Variable, Node, Quantifier), // 41: for some
+];
+
 // A kind's row.
 #[tactic(auto, unfolding(crate::specs::Kinds::row_of))]
 pub fn row_of(kind: usize) -> Row
     ensures { result ≡ row_of kind }
 {
-    let (a, b, rule) = match kind {
-        1 => (Field::Relation, Field::Unused, Rule::OfRelation), // relation
-        2 => (Field::Variable, Field::Unused, Rule::OfVariable), // variable
-        3 => (Field::Sort, Field::Unused, Rule::OfSort), // all atoms of a sort
-        4 => (Field::Sort, Field::Unused, Rule::OfIdentity), // identity
-        5..=7 => (Field::Node, Field::Node, Rule::Same), // union, intersection, difference
-        8 => (Field::Node, Field::Node, Rule::Join), // join
-        9 => (Field::Node, Field::Node, Rule::Product), // product
-        10 => (Field::Node, Field::Unused, Rule::Inverse), // inverse
-        11 => (Field::Node, Field::Unused, Rule::Closure), // closure
-        12 => (Field::Variable, Field::Node, Rule::Comprehension), // comprehension
-        20..=21 => (Field::Node, Field::Node, Rule::Comparison), // equal, within
-        22..=24 => (Field::Node, Field::Unused, Rule::Test), // some, none, lone
-        30 => (Field::Node, Field::Unused, Rule::Negation), // not
-        31..=34 => (Field::Node, Field::Node, Rule::Connective), // and, or, implies, equivalent
-        40..=41 => (Field::Variable, Field::Node, Rule::Quantifier), // for all, for some
-        _ => (Field::Unused, Field::Unused, Rule::Unknown),
-    };
-    Row { a, b, rule }
+    if kind < 42 {
+        KINDS[kind]
+    } else {
+        row!(Unused, Unused, Unknown)
+    }
 }
 
 // The rule alone.

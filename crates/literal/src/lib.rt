@@ -13,7 +13,10 @@ const LAST_VARIABLE: u32 = i32::MAX as u32;
 pub fn opposite(l: i32) -> i32
     ensures { result ≡ opposite_word l }
 {
-    l.checked_neg().unwrap_or(0)
+    if l == i32::MIN {
+        return 0;
+    }
+    -l
 }
 
 // The variable of a literal.

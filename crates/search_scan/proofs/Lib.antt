@@ -1,3 +1,3 @@
 pub mod Words
 mod Scans
-mod Passes
+mod ScanLoops

@@ -1,5 +1,5 @@
--- One pass over a clause, what it shows, and what a list shows by its parts.
-use mathlib.Core.Path.{◌≡◌, refl, ◌∙◌}
+-- One pass over the clauses with what it keeps, and that it shows what the two rules ask for.
+use mathlib.Core.Path.{◌≡◌, refl, ◌∙◌, ap}
 use mathlib.Core.Bool.{Bool, true, false, cond, ◌&&◌, ◌||◌}
 use mathlib.Core.List.{List, [], ◌∷◌}
 use mathlib.Core.Option.{Option, none, some}
@@ -27,6 +27,18 @@ meet is_held l = is_held
 unfoldable pub look : List ℕ → Clause → List ℤ → Clause
 look vs s [] = s
 look vs s (l ∷ ls) = elim (literal vs l) [ falsified ↦ look vs s ls | satisfied ↦ is_held | unassigned ↦ look vs (meet s l) ls ]
+
+-- the first unit clause is kept
+unfoldable pub keep : Sight → ℤ → Sight
+keep conflicting l = conflicting
+keep (unit k) l = unit k
+keep neither l = unit l
+
+unfoldable pub pass : List ℕ → Sight → List (List ℤ) → Sight
+pass vs s [] = s
+pass vs s (c ∷ cs) =
+    elim (look vs all_false c)
+    [ all_false ↦ conflicting | sole l ↦ pass vs (keep s l) cs | several ↦ pass vs s cs | is_held ↦ pass vs s cs ]
 
 module _ (vs : List ℕ) where
   abbrev any_true : List ℤ → Bool
@@ -124,44 +136,44 @@ module _ (vs : List ℕ) where
           let a = alike l (all (same_literal l) ls) in
           rw (meets-sole l ls) (record { conflicts = e ∙ a.0; units = rw (p, q) a.1 })
 
-  abbrev pub sight_of : Clause → Sight
-  sight_of all_false = conflicting
-  sight_of (sole l) = unit l
-  sight_of several = neither
-  sight_of is_held = neither
+  abbrev keep_first : Sight → Option ℤ → Sight
+  keep_first s none = s
+  keep_first s (some l) = keep s l
 
-  abbrev shown : Bool → Option ℤ → Sight
-  shown b u = elim b as (λ _. Sight) [ true ↦ conflicting | false ↦ elim u as (λ _. Sight) [ some l ↦ unit l | none ↦ neither ] ]
+  keep-first : (s : Sight) (l : ℤ) (u : Option ℤ) → keep_first (keep s l) u ≡ keep s l
+  unfolding keep
+  keep-first conflicting l none = refl
+  keep-first conflicting l (some k) = refl
+  keep-first (unit j) l none = refl
+  keep-first (unit j) l (some k) = refl
+  keep-first neither l none = refl
+  keep-first neither l (some k) = refl
 
-  seen-of : (c : List ℤ) (x : Clause) → Shows c x
-      → sight_of x ≡ shown (all_falsified c || false) (elim (unit_of vs c) as (λ _. Option ℤ) [ none ↦ none | some l ↦ some l ])
-  seen-of c all_false h = rw h.conflicts refl
-  seen-of c (sole l) h = rw (h.conflicts, h.units) refl
-  seen-of c several h = rw (h.conflicts, h.units) refl
-  seen-of c is_held h = rw (h.conflicts, h.units) refl
+  pass_step : (s : Sight) (c : List ℤ) (cs : List (List ℤ)) → ((s : Sight) → pass vs s cs
+      ≡ cond (conflict vs cs) conflicting (keep_first s (first_unit vs cs)))
+      → (x : Clause) → Shows c x
+      → elim x as (λ _. Sight) [ all_false ↦ conflicting | sole l ↦ pass vs (keep s l) cs | several ↦ pass vs s cs | is_held ↦ pass vs s cs ]
+      ≡ cond (all_falsified c || conflict vs cs) conflicting
+      (keep_first s (elim (unit_of vs c) as (λ _. Option ℤ) [ none ↦ first_unit vs cs | some l ↦ some l ]))
+  pass_step s c cs p all_false h = rw h.conflicts refl
+  pass_step s c cs p (sole l) h =
+      rw (h.conflicts, h.units) (p (keep s l) ∙ ap (cond (conflict vs cs) conflicting) (keep-first s l (first_unit vs cs)))
+  pass_step s c cs p several h = rw (h.conflicts, h.units) (p s)
+  pass_step s c cs p is_held h = rw (h.conflicts, h.units) (p s)
 
-  -- one clause
-  pub seen-one : (c : List ℤ) → sight_of (look vs all_false c) ≡ seen vs (c ∷ [])
-  unfolding seen conflict any first_unit
-  seen-one c = seen-of c (look vs all_false c) (shows c)
+  pass-is : (cs : List (List ℤ)) (s : Sight) → pass vs s cs ≡ cond (conflict vs cs) conflicting (keep_first s (first_unit vs cs))
+  unfolding pass conflict any first_unit
+  pass-is [] s = refl
+  pass-is (c ∷ cs) s = pass_step s c cs (pass-is cs) (look vs all_false c) (shows c)
 
-  -- what a list shows, by what its first clause does
-  abbrev pub behind : Sight → List (List ℤ) → Sight
-  behind conflicting cs = conflicting
-  behind (unit l) cs = cond (conflict vs cs) conflicting (unit l)
-  behind neither cs = seen vs cs
-
-  pub seen-more : (c : List ℤ) (cs : List (List ℤ)) → behind (seen vs (c ∷ [])) cs ≡ seen vs (c ∷ cs)
-  unfolding seen conflict any first_unit
-  seen-more c cs = by (all_falsified c) (unit_of vs c)
+  -- the pass shows a conflict anywhere, else the first unit clause
+  pub pass-seen : (cs : List (List ℤ)) → pass vs neither cs ≡ seen vs cs
+  unfolding seen keep
+  pass-seen cs = pass-is cs neither ∙ by (conflict vs cs) (first_unit vs cs)
     where
-      by-unit : (d : Bool) (l : ℤ) → cond d conflicting (unit l) ≡ shown d (some l)
-      by-unit true l = refl
-      by-unit false l = refl
-
       by : (b : Bool) (u : Option ℤ)
-          → behind (shown (b || false) (elim u as (λ _. Option ℤ) [ none ↦ none | some l ↦ some l ])) cs
-          ≡ shown (b || conflict vs cs) (elim u as (λ _. Option ℤ) [ none ↦ first_unit vs cs | some l ↦ some l ])
+          → cond b conflicting (keep_first neither u)
+          ≡ elim b as (λ _. Sight) [ true ↦ conflicting | false ↦ elim u as (λ _. Sight) [ some l ↦ unit l | none ↦ neither ] ]
       by true u = refl
       by false none = refl
-      by false (some l) = by-unit (conflict vs cs) l
+      by false (some l) = refl

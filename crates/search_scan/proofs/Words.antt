@@ -1,20 +1,19 @@
 -- Literals as the machine has them: their place among the values, and what the values say of them.
-use mathlib.Core.Path.{◌≡◌, refl, ◌∙◌, ap}
-use mathlib.Core.Bool.{Bool, true, false, beq}
+use mathlib.Core.Path.{◌≡◌, refl, sym, ◌∙◌, ap}
+use mathlib.Core.Bool.{Bool, true, false}
 use mathlib.Core.List.{List, [], ◌∷◌}
 use Prim.Native.Nat.{ℕ, zero, suc, ◌-◌, ◌<◌}
 use native.Mathlib.Omega.{arith}
 use native.Mathlib.Numerals.{sub-one}
-use lib.Dec.{eqb}
 use lib.IntN.{ℤ, pos, negsuc, nat_abs}
 use lib.ListN.{length, get_or}
-use borrow.Author.Tests.{ltb-false, lt-ltb, ne_eqb}
+use borrow.Author.Tests.{ltb-false}
 use Rattle.prelude.proofs.Laws.{clash}
 use Rattle.literal.specs.Words.{is_positive}
 use Rattle.search_rules.specs.Held.{InRange}
-use Rattle.std.specs.Prelude.{Some, None}
-use Rattle.search_scan.specs.Seen.{test_of}
-use Rattle.search_rules.specs.Rules.{Truth, truth_of, negated, literal, propagated, byte_of, place_of}
+use Rattle.search_scan.specs.Seen.{truth_code}
+use Rattle.search_rules.specs.Rules.{falsified, truth_of, negated, literal, propagated, byte_of, place_of}
+use Rattle.search_rules.proofs.Found.{place-below}
 
 -- a literal's place is its variable's, counted from 0
 pub place-of : (l : ℤ) → nat_abs l - 1 ≡ place_of l
@@ -44,46 +43,58 @@ default [] i d e h = absurd (omega arith)
 default (x ∷ vs) zero d e h = refl
 default (x ∷ vs) (suc i) d e h = default vs i d e (omega arith)
 
--- what a byte says of the literal of its variable with this sign
-abbrev signed : Bool → Truth → Truth
-signed true t = t
-signed false t = negated t
+truth-false : (x : ℕ) → (x ≡ 1 → ⊥) → (x ≡ 2 → ⊥) → truth_of x ≡ falsified
+unfolding truth_of
+truth-false zero p q = refl
+truth-false (suc zero) p q = absurd (p refl)
+truth-false (suc (suc zero)) p q = absurd (q refl)
+truth-false (suc (suc (suc n))) p q = refl
 
-literal-is : (vs : List ℕ) (l : ℤ) → InRange (length vs) l → literal vs l ≡ signed (is_positive l) (truth_of (get_or vs (place_of l) 0))
-unfolding literal place_of
-literal-is vs (pos zero) r = absurd (let h = r.0 in omega arith)
-literal-is vs (pos (suc n)) r = rw (lt-ltb 0 (suc n) (omega arith)) (ap truth_of (default vs n 2 0 (omega (arith, r.1))))
-literal-is vs (negsuc n) r = ap (λ x. negated (truth_of x)) (default vs n 2 0 (omega (arith, r.1)))
-
-says-open : (b : Bool) → None ≡ test_of (signed b (truth_of 2))
-unfolding truth_of negated test_of
-says-open true = refl
-says-open false = refl
-
-says-set : (b : Bool) (x : ℕ) → (x ≡ 2 → ⊥) → Some (beq (eqb x 1) b) ≡ test_of (signed b (truth_of x))
-unfolding truth_of negated test_of
-says-set true zero h = refl
-says-set true (suc zero) h = refl
-says-set true (suc (suc zero)) h = absurd (h refl)
-says-set true (suc (suc (suc n))) h = rw (ne_eqb (suc (suc (suc n))) 1 (omega arith)) refl
-says-set false zero h = refl
-says-set false (suc zero) h = refl
-says-set false (suc (suc zero)) h = absurd (h refl)
-says-set false (suc (suc (suc n))) h = rw (ne_eqb (suc (suc (suc n))) 1 (omega arith)) refl
-
--- the answers of `truth`: z is the literal as the machine has it, p its place
-module _ (vs : List ℕ) (z l : ℤ) (p : ℕ) (e : z ≡ l) (r : InRange (length vs) l) (d : p ≡ nat_abs z - 1) where
+-- the five answers of `truth`: z is the literal as the machine has it, p its place, x the byte there
+module _ (vs : List ℕ) (z l : ℤ) (p x : ℕ) (e : z ≡ l) (r : InRange (length vs) l) (d : p ≡ nat_abs z - 1) (b : x ≡ get_or vs p 0) where
   place_is : p ≡ place_of l
   place_is = d ∙ place-of z ∙ ap place_of e
 
-  says : literal vs l ≡ signed (is_positive z) (truth_of (get_or vs p 0))
-  says = rw (e, place_is) (literal-is vs l r)
+  pub place-within : p < length vs
+  place-within = rw place_is (place-below (length vs) l r)
 
-  pub is_open : get_or vs p 0 ≡ 2 → None ≡ test_of (literal vs l)
-  is_open q = rw (says, q) (says-open (is_positive z))
+  byte-is : get_or vs p 2 ≡ x
+  byte-is = default vs p 2 0 place-within ∙ sym b
 
-  pub is_set : (get_or vs p 0 ≡ 2 → ⊥) → Some (beq (eqb (get_or vs p 0) 1) (is_positive z)) ≡ test_of (literal vs l)
-  is_set q = rw says (says-set (is_positive z) (get_or vs p 0) q)
+  literal-above : is_positive z ≡ true → literal vs l ≡ truth_of x
+  unfolding literal place_of
+  literal-above t =
+      let q = is-above (length vs) z l e r t in
+      let i : p ≡ q.0 = place_is ∙ ap place_of q.1 in
+      rw q.1 (ap truth_of (ap (λ k. get_or vs k 2) (sym i) ∙ byte-is))
+
+  literal-below : is_positive z ≡ false → literal vs l ≡ negated (truth_of x)
+  unfolding literal place_of
+  literal-below t =
+      let q = is_below (length vs) z l e r t in
+      let i : p ≡ q.0 = place_is ∙ ap place_of q.1 in
+      rw q.1 (ap (λ y. negated (truth_of y)) (ap (λ k. get_or vs k 2) (sym i) ∙ byte-is))
+
+  pub says-open : (t : Bool) → is_positive z ≡ t → x ≡ 2 → 2 ≡ truth_code (literal vs l)
+  unfolding truth_of negated truth_code
+  says-open true t q = sym (ap truth_code (literal-above t ∙ ap truth_of q))
+  says-open false t q = sym (ap truth_code (literal-below t ∙ ap (λ y. negated (truth_of y)) q))
+
+  pub says-true-above : is_positive z ≡ true → x ≡ 1 → 1 ≡ truth_code (literal vs l)
+  unfolding truth_of truth_code
+  says-true-above t q = sym (ap truth_code (literal-above t ∙ ap truth_of q))
+
+  pub says-false-above : is_positive z ≡ true → (x ≡ 1 → ⊥) → (x ≡ 2 → ⊥) → 0 ≡ truth_code (literal vs l)
+  unfolding truth_code
+  says-false-above t q s = sym (ap truth_code (literal-above t ∙ truth-false x q s))
+
+  pub says-false-below : is_positive z ≡ false → x ≡ 1 → 0 ≡ truth_code (literal vs l)
+  unfolding truth_of negated truth_code
+  says-false-below t q = sym (ap truth_code (literal-below t ∙ ap (λ y. negated (truth_of y)) q))
+
+  pub says-true-below : is_positive z ≡ false → (x ≡ 1 → ⊥) → (x ≡ 2 → ⊥) → 1 ≡ truth_code (literal vs l)
+  unfolding negated truth_code
+  says-true-below t q s = sym (ap truth_code (literal-below t ∙ ap negated (truth-false x q s)))
 
 -- the byte of a propagated literal, by its sign
 module _ (v : ℕ) (z l : ℤ) (e : z ≡ l) (r : InRange v l) where

@@ -1,16 +1,16 @@
 -- What one look over the clauses shows.
 -- No public contract reaches this file: nothing here needs belief.
-use Rattle.std.specs.Prelude.{Bool, true, false, List, ℕ, ℤ, Option, Some, None}
+use Rattle.std.specs.Prelude.{true, false, List, ℕ, ℤ}
 use Rattle.std.proofs.Math.Option.{none, some}
 use Rattle.search_scan.specs.declared.Seen.{Seen}
 use Rattle.search_scan.specs.declared.Seen.TheVariants.{Conflict, UnitClause, Neither}
 use Rattle.search_rules.specs.Rules.{Truth, falsified, satisfied, unassigned, conflict, first_unit}
 
--- the truth of a literal as a test; none where its variable is open
-unfoldable pub test_of : Truth → Option Bool
-test_of falsified = Some false
-test_of satisfied = Some true
-test_of unassigned = None
+-- the truth of a literal as a number
+unfoldable pub truth_code : Truth → ℕ
+truth_code falsified = 0
+truth_code satisfied = 1
+truth_code unassigned = 2
 
 -- what a look over the clauses shows: the first two rules at once
 pub data Sight : Type 0 where
