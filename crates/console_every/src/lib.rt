@@ -49,8 +49,7 @@ fn print_cases(
         decisions: 0,
         backtracks: 0,
     };
-    let mut left = CALLS;
-    while left > 0 {
+    for _ in 0..CALLS {
         let piece = next_text(input, list, v, values, trail, at, STEPS, instance, text);
         if !print_front(text, piece.bytes, output, errors) {
             return false;
@@ -59,7 +58,6 @@ fn print_cases(
             return true;
         }
         at = piece.position;
-        left -= 1;
     }
     // no more steps can be counted: a call with none says whether the search has ended
     let piece = next_text(input, list, v, values, trail, at, 0, instance, text);

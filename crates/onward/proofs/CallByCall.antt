@@ -15,7 +15,7 @@ use Rattle.onward.specs.Limits.{most_steps}
 use Rattle.search.proofs.MoreSteps.{Unspent, more-steps}
 
 -- the calls that are made at most, and the steps of each
-abbrev most-calls : ℕ
+abbrev pub most-calls : ℕ
 most-calls = 18446744073709
 
 abbrev per-call : ℕ

@@ -51,17 +51,15 @@ pub(crate) fn go_on(
         decisions: 0,
         backtracks: 0,
     };
-    let mut left = CALLS;
-    while left > 0 {
+    for done in 0..CALLS {
         let call = resumed(list, v, values, trail, position, STEPS);
         let Some(steps) = spent_steps(call.answer) else {
             // a call before this one was spent, and shown
-            end_line(left < CALLS, errors);
+            end_line(done > 0, errors);
             return call;
         };
         position = call.position;
         show(step_figure(steps), errors);
-        left -= 1;
     }
     end_line(true, errors);
     resumed(list, v, values, trail, position, 0)

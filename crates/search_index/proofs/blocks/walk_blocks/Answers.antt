@@ -20,6 +20,6 @@ loop-at-preserved c =
       | then-weights-b-eq1+else-c-end w ↦
           let le = least-of _ _ _ w.min-end.ensures in
           search-lowered _ _ _ _ _ few inv inside _ _ le.0 le.1 le.2 w.unit_within-c.ensures _ w.weights-is
-          w.if-c-end.false 
+          w.if-c-end.false
       | else-weights-b-eq1 w ↦ rw w.weights-is (search-down _ _ _ _ _ few inv inside w.if-weights-b-eq1.false)
     ]
