@@ -1,11 +1,13 @@
-// OR, AND and IFF (document 01, "Clauses", second paragraph; document 02, Change 2). Past the limit of variables no gate is made.
+// OR, AND and IFF (document 01, "Clauses", second paragraph; document 02, Change 2). Past the limit of variables no gate
+// is made.
 ghost use Rattle.std.specs.Prelude.{◌≡◌, pos, IfSome};
 ghost use Rattle.literal.specs.Literals.{opposite};
 ghost use Rattle.literal.specs.Words.{literal_of};
 ghost use Rattle.clauses_rules.specs.Gates as spec;
 ghost use Rattle.clauses_rules.specs.Gates.{gate_of, input_clauses};
 ghost use Rattle.clauses_rules.specs.Translation as two;
-ghost use Rattle.clauses_emission.specs.Emission.{literals_of, Inside, Inputs, Appends, Bounded, Within, EmitsList, EmitsTwo, pairing};
+ghost use Rattle.clauses_emission.specs.Emission.{literals_of, Inside, Inputs, Appends, Bounded, Within};
+ghost use Rattle.clauses_emission.specs.Emission.{EmitsList, EmitsTwo, pairing};
 ghost use Rattle.clauses_emission.specs.Settling.{Told, Tells};
 
 use super::inputs::{settle, turn};
@@ -157,7 +159,7 @@ pub fn same(list: &mut [i32], tape: &mut Tape, p: i32, q: i32) -> i32
 }
 
 // One of these.
-// Kept: with a function in its place, each contract over cells would have to ask for its law, which `pairing` says once.
+// Kept: with a function in its place each contract over cells would have to ask for its law; `pairing` says it once.
 pub fn pair(list: &mut [i32], tape: &mut Tape, kind: Pairing, p: i32, q: i32) -> i32
     requires bounded { Bounded tape.old }
     requires inside { Inside tape.old.next (literal_of p) }

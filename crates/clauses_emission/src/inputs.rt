@@ -31,7 +31,8 @@ fn look(kept: &[i32], l: i32) -> Seen
     Seen::Nothing
 }
 
-// Moves what remains of the inputs to the front, in order, and answers how many they are. Where the list gives 1, that is all that remains.
+// Moves what remains of the inputs to the front, in order, and answers how many they are. Where the list gives 1, that is
+// all that remains.
 pub(crate) fn settle(inputs: &mut [i32]) -> usize
     requires { AllInside 16002 (literals_of inputs.old) }
     ensures { Settles inputs.old inputs.new result }

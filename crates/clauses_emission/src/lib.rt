@@ -1,5 +1,6 @@
-// Clauses and gates written into a lent list (document 01, "Clauses"): clauses one after the other, OR, AND, IFF, and what is made of two
-// literals. Counting runs the same code over an empty list. The operators over matrices of literals are the crate `clauses_matrix`.
+// Clauses and gates written into a lent list, and counted on a lent tape (document 01, "Clauses"): clauses one after the
+// other, OR, AND, IFF, and what is made of two literals. Counting runs the same code over an empty list. The operators
+// over matrices of literals are the crate `clauses_matrix`.
 #![tactic(auto)]
 
 pub mod gates; // gates.rt: OR, AND, IFF, and two literals

@@ -1,4 +1,5 @@
-// Matrices of literals, and the operators over them (document 01, "Clauses", the last list), made of the gates of `clauses_emission`.
+// Matrices of literals, and the operators over them (document 01, "Clauses", the last list), made of the gates of
+// `clauses_emission`.
 #![tactic(auto)]
 
 use nodes::matrix::Matrix;

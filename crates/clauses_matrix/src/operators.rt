@@ -58,7 +58,8 @@ pub fn matched(
     }
 }
 
-// One cell of a join: OR over the middle atoms of AND. `left` is a row of the left operand, `right` all cells of the right one.
+// One cell of a join: OR over the middle atoms of AND. `left` is a row of the left operand, `right` all cells of the
+// right one.
 fn join_cell(
     list: &mut [i32],
     tape: &mut Tape,
@@ -85,7 +86,8 @@ fn join_cells(list: &mut [i32], tape: &mut Tape, p: Literals, q: Literals) -> [i
     requires bounded { Bounded tape.old }
     requires operand { Operand tape.old.next p }
     requires operand_2 { Operand tape.old.next q }
-    ensures { EmitsCells (p.rows * matrices.join_columns (matrix_of q)) (join_cells (matrix_of p) (matrix_of q) tape.old.next)
+    ensures { EmitsCells (p.rows * matrices.join_columns (matrix_of q))
+        (join_cells (matrix_of p) (matrix_of q) tape.old.next)
         list.old tape.old result list.new tape.new }
 {
     let columns = join_columns(q.arity, q.columns);
@@ -181,7 +183,8 @@ fn round(list: &mut [i32], tape: &mut Tape, p: Literals) -> Literals
     matched(list, tape, Pairing::Either, p, joined)
 }
 
-// After a round that takes no variable and leaves the cells as they were, the others would change nothing: they are not worked out.
+// After a round that takes no variable and leaves the cells as they were, the others would change nothing: they are not
+// worked out.
 pub fn closure(list: &mut [i32], tape: &mut Tape, p: Literals) -> Literals
     requires bounded { Bounded tape.old }
     requires operand { Operand tape.old.next p }

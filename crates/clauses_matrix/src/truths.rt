@@ -59,7 +59,8 @@ fn meet(list: &mut [i32], tape: &mut Tape, p: i32, q: i32) -> i32
     }
 }
 
-// At most one: AND over pairs, in order, of OR(-p, -q). It is made as the opposite of OR over pairs of AND(p, q): the same gates.
+// At most one: AND over pairs, in order, of OR(-p, -q). It is made as the opposite of OR over pairs of AND(p, q): the
+// same gates.
 pub fn lone(list: &mut [i32], tape: &mut Tape, p: Literals) -> i32
     requires bounded { Bounded tape.old }
     requires operand { Operand tape.old.next p }

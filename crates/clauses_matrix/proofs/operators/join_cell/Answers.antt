@@ -13,17 +13,16 @@ use Rattle.clauses_matrix.proofs.operators.join_cell.Goals as goal
 pub loop-k-init : goal.loop-k-init
 loop-k-init c = met_start c.args.list.now c.args.tape.now c.requires.bounded
 
-pub both-requires : goal.both-requires
-both-requires c =
-    let k = c.loop-k.k in
+pub both-requires-clause-inside : goal.both-requires-clause-inside
+both-requires-clause-inside c =
+    rw (back (get_or c.args.left.now c.loop-k.k (pos 0)) (search rules))
+    (row_inside c.requires.row_and_column c.loop-k-test.true c.loop-k.invariant.emits.grows)
+
+pub both-requires-clause-inside_2 : goal.both-requires-clause-inside_2
+both-requires-clause-inside_2 c =
     let a = c.args in
-    let emits = c.loop-k.invariant.emits in record {
-      bounded = emits.bounded;
-      inside = rw (back (get_or a.left.now k (pos 0)) (search rules))
-          (row_inside c.requires.row_and_column c.loop-k-test.true emits.grows);
-      inside_2 = rw (back (get_or a.right.now (k * a.columns + a.j) (pos 0)) (search rules))
-          (column-inside c.requires.row_and_column c.loop-k-test.true emits.grows);
-    }
+    rw (back (get_or a.right.now (c.loop-k.k * a.columns + a.j) (pos 0)) (search rules))
+    (column-inside c.requires.row_and_column c.loop-k-test.true c.loop-k.invariant.emits.grows)
 
 pub loop-k-preserved : goal.loop-k-preserved
 loop-k-preserved c =
@@ -35,8 +34,8 @@ loop-k-preserved c =
     (rw (back (get_or a.left.now k (pos 0)) (search rules), back (get_or a.right.now (k * a.columns + a.j) (pos 0)) (search rules))
     at c.both.ensures))
 
-pub or-requires : goal.or-requires
-or-requires c = record { bounded = c.loop-k.invariant.emits.bounded; inputs = met-inputs c.loop-k.invariant }
+pub or-requires-clause-inputs : goal.or-requires-clause-inputs
+or-requires-clause-inputs c = met-inputs c.loop-k.invariant
 
 pub returns : goal.returns
 returns c =

@@ -6,13 +6,11 @@ use Rattle.clauses_matrix.proofs.Fills.{front-inputs}
 use Rattle.clauses_matrix.proofs.Regulars.{regular-paired}
 use Rattle.clauses_matrix.proofs.truths.all_matched.Goals as goal
 
-pub and-requires : goal.and-requires
-and-requires c =
+pub and-requires-clause-inputs : goal.and-requires-clause-inputs
+and-requires-clause-inputs c =
     let made = c.matched_cells-cells in
-    let size = c.args.p.rows * c.args.p.columns in record {
-      bounded = made.ensures.bounded;
-      inputs = front-inputs size size made.new.tape.next made.result made.ensures.bounded.first made.ensures.fine;
-    }
+    let size = c.args.p.rows * c.args.p.columns in
+    front-inputs size size made.new.tape.next made.result made.ensures.bounded.first made.ensures.fine
 
 pub returns : goal.returns
 returns c =

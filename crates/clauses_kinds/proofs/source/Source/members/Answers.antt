@@ -17,6 +17,3 @@ cells-requires c = omega (
   c.scope.ensures.0,
   members-end (sheet_of c.args.self.now.sheet.bytes.now) c.args.sort c.requires,
 )
-
-pub returns : goal.returns
-returns c = rw (← c.first_member.ensures.0, ← c.scope.ensures.0) c.cells.ensures

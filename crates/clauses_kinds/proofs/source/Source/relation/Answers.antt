@@ -12,7 +12,3 @@ cells-requires c =
     let e : c.row_count.result * c.row_length.result ≡ cells_of sheet c.args.r =
     ap₂ ◌*◌ c.row_count.ensures.0 c.row_length.ensures.0 in
     omega (arith, e, c.first_cell.ensures.0, relation-ends sheet c.args.r _ c.requires)
-
-pub returns : goal.returns
-returns c =
-    rw (← c.first_cell.ensures.0, ← c.row_count.ensures.0, ← c.row_length.ensures.0) c.cells.ensures

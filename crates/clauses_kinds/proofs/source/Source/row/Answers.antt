@@ -1,9 +1,5 @@
-use mathlib.Core.Path.{◌≡◌}
-use Prim.Native.Nat.{◌+◌, ◌*◌}
 use native.Mathlib.Omega.{arith}
-use Rattle.sheet_rules.specs.Blocks.{sheet_of}
 use Rattle.sheet_rules.proofs.Acceptance.{accepted-facts}
-use Rattle.relational.specs.Cells.{cell}
 use Rattle.relational.proofs.Places.{square}
 use Rattle.cells.proofs.Layouts.{rows-most}
 use Rattle.clauses_kinds.proofs.Sources.{row-ends, low-relation}
@@ -29,10 +25,3 @@ overflow_add-first_cell c =
 pub cells-requires : goal.cells-requires
 cells-requires c =
     rw (c.first_cell.ensures.0, c.row_length-n.ensures.0) (row-ends _ c.args.r c.args.i c.requires.r_bound c.requires.i_bound)
-
-pub returns : goal.returns
-returns c =
-    let sheet = sheet_of c.args.self.now.sheet.bytes.now in
-    let e : c.first_cell.result + c.args.i * c.row_length-n.result ≡ cell sheet c.args.r c.args.i 0
-    = rw (c.first_cell.ensures.0, c.row_length-n.ensures.0) (omega arith) in
-    rw (← e, ← c.row_length-n.ensures.0) c.cells.ensures
