@@ -7,7 +7,7 @@ ghost use Rattle.clauses_emission.specs.Emission.{literals_of, most_inputs, Appe
 use super::Tape;
 
 // Stores a word where the list has a place for it.
-// Kept: tried `get_mut`; std says nothing of a slice's element after a write through it, so `ensures` stayed open.
+// Kept: with `get_mut` the check knows nothing of the element that was written (the kit's NOT_COVERED.md).
 fn put(list: &mut [i32], at: usize, word: i32)
     ensures { list.new ≡ set list.old at word }
 {

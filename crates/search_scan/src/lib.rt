@@ -42,6 +42,7 @@ pub fn scan(list: &[i32], values: &[u8]) -> Seen
     requires values_len_bound { length values.now ≤ last_variable }
     ensures { seen_as result ≡ seen values.now (clauses_of list.now) }
 {
+    // Kept: document 01 names the form, a scan whose loop over a clause's literals is left by label at a true one.
     let mut at: usize = 0;
     let mut unit: i32 = 0;
     'clauses: while at < list.len() {
