@@ -2,7 +2,7 @@
 // the input or for a text that was printed.
 #![tactic(auto)]
 
-ghost use Rattle.std.specs.Prelude.{◌≡◌, ◌≤◌, length, take, IfSome};
+ghost use Rattle.std.specs.Prelude.{◌≡◌, ◌≤◌, length, take, IfSome, IfOk, IfErr};
 
 use arrayvec::ArrayString;
 use std::fmt::Write;
@@ -36,24 +36,28 @@ fn read_some<I: Read>(from: &mut I, part: &mut [u8], what: &[u8], errors: Stderr
     }
 }
 
-// Reads from a reader until buf is full or the input ends, and answers how many bytes it read: None where a read failed, which is said.
+// Reads from a reader until buf is full or the input ends, and answers how many bytes it read. Err has those that came before a read that
+// failed, which is said.
 pub fn read_input<I: Read>(
     from: &mut I,
     buf: &mut [u8],
     what: &[u8],
     errors: Stderr,
-) -> Option<usize>
-    ensures { IfSome result (λ n. (n ≤ length buf.new) × (n ≡ length (take n buf.new))) }
+) -> Result<usize, usize>
+    ensures all { IfOk result (λ n. (n ≤ length buf.new) × (n ≡ length (take n buf.new))) }
+    ensures some { IfErr result (λ n. (n ≤ length buf.new) × (n ≡ length (take n buf.new))) }
 {
     let mut done: usize = 0;
     while done < buf.len() {
-        let n = read_some(from, &mut buf[done..], what, errors)?;
+        let Some(n) = read_some(from, &mut buf[done..], what, errors) else {
+            return Err(done);
+        };
         if n == 0 {
-            return Some(done);
+            return Ok(done);
         }
         done += n;
     }
-    Some(done)
+    Ok(done)
 }
 
 // Prints a text on standard output, and answers whether all of it was written.

@@ -124,7 +124,7 @@ fn answer(input: &[u8], text: &mut [u8; 2048], output: Stdout, errors: Stderr) -
 // Reads an input, prints its cases, and answers whether both went well.
 pub fn every<I: Read>(from: &mut I, output: Stdout, errors: Stderr) -> bool {
     let mut input = [0u8; 4097];
-    let Some(n) = read_sheet(from, &mut input, errors) else {
+    let Ok(n) = read_sheet(from, &mut input, errors) else {
         return false;
     };
     let mut text = [0u8; 2048];

@@ -2,7 +2,7 @@
 // `console_every` read and print with the same functions.
 #![tactic(auto)]
 
-ghost use Rattle.std.specs.Prelude.{◌≡◌, ◌≤◌, length, take, IfSome};
+ghost use Rattle.std.specs.Prelude.{◌≡◌, ◌≤◌, length, take, IfOk, IfErr};
 
 use cells::MOST_CELLS;
 use report::finder::find_text;
@@ -12,8 +12,13 @@ use std::io::{Read, Stderr, Stdout};
 const WORDS: usize = 16384;
 
 // Reads an input. One byte more than the longest input is read, so that a longer one is seen.
-pub fn read_sheet<I: Read>(from: &mut I, input: &mut [u8; 4097], errors: Stderr) -> Option<usize>
-    ensures { IfSome result (λ n. (n ≤ length input.new) × (n ≡ length (take n input.new))) }
+pub fn read_sheet<I: Read>(
+    from: &mut I,
+    input: &mut [u8; 4097],
+    errors: Stderr,
+) -> Result<usize, usize>
+    ensures all { IfOk result (λ n. (n ≤ length input.new) × (n ≡ length (take n input.new))) }
+    ensures some { IfErr result (λ n. (n ≤ length input.new) × (n ≡ length (take n input.new))) }
 {
     console::read_input(from, input, b"finder: reading standard input", errors)
 }
@@ -56,7 +61,7 @@ fn answer(input: &[u8], output: Stdout, errors: Stderr) -> bool {
 // Reads an input, prints the answer, and answers whether both went well.
 pub fn find<I: Read>(from: &mut I, output: Stdout, errors: Stderr) -> bool {
     let mut input = [0u8; 4097];
-    let Some(n) = read_sheet(from, &mut input, errors) else {
+    let Ok(n) = read_sheet(from, &mut input, errors) else {
         return false;
     };
     answer(&input[..n], output, errors)

@@ -28,7 +28,7 @@ fn answer(input: &[u8], output: Stdout, errors: Stderr) -> bool {
 // Reads an input, prints the answer, and answers whether both went well.
 pub fn find_on<I: Read>(from: &mut I, output: Stdout, errors: Stderr) -> bool {
     let mut input = [0u8; 4097];
-    let Some(n) = read_sheet(from, &mut input, errors) else {
+    let Ok(n) = read_sheet(from, &mut input, errors) else {
         return false;
     };
     answer(&input[..n], output, errors)
