@@ -48,8 +48,7 @@ pub fn print_clauses<I: Read>(
     errors: Stderr,
 ) -> bool {
     let mut input = [0u8; 4097];
-    let Ok(n) = console::read_input(from, &mut input, b"cnf: reading standard input", errors)
-    else {
+    let Ok(n) = console::read_input(from, &mut input, b"cnf: reading standard input", errors) else {
         return false;
     };
     answer(&input[..n], list, text, output, errors)
