@@ -36,28 +36,28 @@ impl<'a> Sheet<'a> {
         Ok(Sheet { bytes, layout })
     }
 
-    pub fn sorts(&self) -> &[u8]
+    pub fn sorts(&self) -> &'a [u8]
         ensures { result.now ≡ (sheet_of self.now.bytes.now).sorts }
     {
         let Block { start, count } = self.layout.sorts;
         part(self.bytes, start, count)
     }
 
-    pub fn variables(&self) -> &[u8]
+    pub fn variables(&self) -> &'a [u8]
         ensures { result.now ≡ (sheet_of self.now.bytes.now).variables }
     {
         let Block { start, count } = self.layout.variables;
         part(self.bytes, start, count)
     }
 
-    pub fn relations(&self) -> &[u8]
+    pub fn relations(&self) -> &'a [u8]
         ensures { result.now ≡ (sheet_of self.now.bytes.now).relations }
     {
         let Block { start, count } = self.layout.relations;
         part(self.bytes, start, 4 * count)
     }
 
-    pub fn nodes(&self) -> &[u8]
+    pub fn nodes(&self) -> &'a [u8]
         ensures { result.now ≡ (sheet_of self.now.bytes.now).nodes }
     {
         let Block { start, count } = self.layout.nodes;

@@ -7,7 +7,7 @@ ghost use Rattle.clauses.specs.Translating.{CellWords, Translates};
 use cells::{Cells, MOST_CELLS, Sheet};
 use clauses_emission::Tape;
 use clauses_emission::list::emit_clause;
-use clauses_kinds::source::Source;
+use clauses_kinds::source::{Source, WalkSource};
 use clauses_marks::marks;
 use clauses_marks::members::members;
 use clauses_translation::walk::formula;
@@ -30,9 +30,15 @@ pub(crate) fn translate(list: &mut [i32], sheet: &Sheet) -> Tape
 {
     let Cells { count, starts } = sheet.cells();
     let words = cell_words(count);
+    let given = &words[..count];
     let source = Source {
         sheet: *sheet,
-        given: &words[..count],
+        given,
+        starts,
+    };
+    let walk = WalkSource {
+        sheet: *sheet,
+        given,
         starts,
     };
     let mut tape = Tape {
@@ -44,7 +50,7 @@ pub(crate) fn translate(list: &mut [i32], sheet: &Sheet) -> Tape
     members(list, &mut tape, &source);
     marks(list, &mut tape, &source);
     let root = sheet.layout.nodes.count - 1;
-    let truth = formula(list, &mut tape, &source, [0; 4], root);
+    let truth = formula(list, &mut tape, &walk, [0; 4], root);
     emit_clause(list, &mut tape, truth, &[]);
     tape
 }

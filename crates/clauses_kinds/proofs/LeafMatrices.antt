@@ -28,16 +28,12 @@ use Rattle.clauses_rules.specs.Translation.{constant, absent, literal_at}
 use Rattle.clauses_emission.specs.Emission.{Inside, AllInside, literals_of}
 use Rattle.clauses_matrix.specs.Matrices.{Literals, matrix_of, Cells, cells_of, Operand}
 use Rattle.clauses_emission.proofs.Ranges.{literal-of, inside-absent}
-use Rattle.clauses_kinds.specs.Leaves.{Filled, LeafIs, Constants, Diagonal, row_matrix}
+use Rattle.clauses_kinds.specs.Leaves.{Filled, cell_from, LeafIs, Constants, Diagonal, row_matrix}
 use Rattle.clauses_kinds.proofs.Lists.{filled_is, filled-cells, filled-fine}
 
 constant-inside : (b : Bool) (n : ℕ) → 2 ≤ n → Inside n (constant b)
 constant-inside true n h = record { low = omega arith; high = omega arith }
 constant-inside false n h = record { low = omega arith; high = omega arith }
-
--- the literals of the cells, from the first on
-abbrev pub cell_from : List ℤ → ℕ → ℕ → Literal
-cell_from given first k = get_or (literals_of given) (first + k) absent
 
 -- a row of cells
 pub row-fine : {n m : ℕ} {ws : List ℤ} → n ≤ 8 → Cells n m ws → Operand m (row_matrix n ws)

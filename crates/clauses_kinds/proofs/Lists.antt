@@ -96,20 +96,3 @@ module _ (f : ℕ → Literal) where
       at i (yes p) (yes q) = rw (literal-at ws i (omega (arith, h.room)), h.done i q) (inside i q)
       at i (yes p) (no q) = rw (literal-at ws i (omega (arith, h.room)), h.rest i (omega arith) p) (inside-absent m two)
       at i (no p) d = rw (← literal-of ws i, get_or-eq_default ws (negsuc 0) {n = i} (omega (arith, h.room))) (inside-absent m two)
-
--- a part of the literals, copied
-module _ (words : List ℤ) {n : ℕ} (cells : List Literal) (first : ℕ)
-    (e : literals_of words ≡ map (λ i. get_or cells i absent) (from first n)) where
-  pub part-length : length words ≡ n
-  part-length = sym (length-literals words) ∙ ap length e ∙ length-map-from (λ i. get_or cells i absent) first n
-
-  pub filled-part : {ws : List ℤ} → Filled (λ k. get_or (literals_of words) k absent) (length words) ws
-      → Filled (λ k. get_or cells (first + k) absent) n ws
-  filled-part h =
-      let at : ℕ → Literal = λ i. get_or cells i absent in
-      let long = part-length in
-      record {
-        room = h.room;
-        done = λ i p. h.done i (omega arith) ∙ ap (λ (ls : List Literal). get_or ls i absent) e ∙ from_at at absent first n i p;
-        rest = λ i p q. h.rest i (omega arith) q;
-      }

@@ -1,16 +1,20 @@
 -- The matrices of leaves.
 -- No public contract reaches this file: nothing here needs belief.
-use Rattle.std.specs.Prelude.{◌≡◌, false, cond, List, map, ℕ, ◌≤◌, ◌<◌, eqb, ℤ, pos, negsuc, length, get_or}
+use Rattle.std.specs.Prelude.{◌≡◌, false, cond, List, map, ℕ, ◌+◌, ◌≤◌, ◌<◌, eqb, ℤ, pos, negsuc, length, get_or}
 use Rattle.literal.specs.Literals.{Literal}
 use Rattle.literal.specs.Words.{literal_of}
 use Rattle.sheet_rules.specs.Blocks.{Sheet}
 use Rattle.relational.specs.declared.Leaf.{Leaf}
 use Rattle.relational.specs.Meaning.{Environment}
 use Rattle.relational.specs.Matrices.{upto, Place, places, Matrix, set_of, relation_of, leaf_matrix}
-use Rattle.clauses_rules.specs.Translation.{constant, literal_at}
+use Rattle.clauses_rules.specs.Translation.{constant, absent, literal_at}
 use Rattle.clauses_emission.specs.declared.Tape.{Tape}
 use Rattle.clauses_emission.specs.Emission.{AllInside, literals_of, Bounded}
 use Rattle.clauses_matrix.specs.Matrices.{Literals, matrix_of, Operand}
+
+-- the literals of the cells, from the first on
+abbrev pub cell_from : List ℤ → ℕ → ℕ → Literal
+cell_from given first k = get_or (literals_of given) (first + k) absent
 
 -- a matrix is that of a leaf
 pub record LeafIs (sheet : Sheet) (given : List ℤ) (l : Leaf) (a : ℕ) (env : Environment) (m : Literals) : Type 0 where

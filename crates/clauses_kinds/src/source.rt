@@ -14,6 +14,16 @@ ghost use Rattle.clauses_emission.specs.Emission.{AllInside, literals_of};
 use cells::Sheet;
 use clauses_emission::list::word_at;
 
+// What a walk is made from. Of the literals nothing is known: past those that are given a cell has that of false.
+#[derive(Clone, Copy)]
+pub struct WalkSource<'a> {
+    pub sheet: Sheet<'a>,
+    pub given: &'a [i32],
+    pub starts: [usize; 16],
+    pub ghost located: { Starts (sheet_of sheet.bytes.now) starts },
+}
+
+// What the clauses of members and marks are made from: each cell has a literal.
 #[derive(Clone, Copy)]
 pub struct Source<'a> {
     pub sheet: Sheet<'a>,
@@ -34,18 +44,7 @@ impl<'a> Source<'a> {
         &self.given[first..first + n]
     }
 
-    // Those of a bounded sort's membership cells.
-    pub fn members(&self, sort: usize) -> &[i32]
-        requires { spec.is_bounded (sheet_of self.now.sheet.bytes.now) sort ≡ true }
-        ensures { literals_of result.now ≡
-            map (literal_at (sheet_of self.now.sheet.bytes.now) (literals_of self.now.given.now))
-            (from (first_member (sheet_of self.now.sheet.bytes.now) sort)
-            (spec.scope (sheet_of self.now.sheet.bytes.now) sort)) }
-    {
-        self.cells(self.sheet.first_member(sort), self.sheet.scope(sort))
-    }
-
-    // That of atom i's cell.
+    // That of atom i's membership cell.
     pub fn member(&self, sort: usize, i: usize) -> i32
         requires { (sort < 8) × (i < 8) }
         ensures { literal_of result ≡
@@ -63,21 +62,7 @@ impl<'a> Source<'a> {
         self.starts[r]
     }
 
-    // Its literals.
-    pub fn relation(&self, r: usize) -> &[i32]
-        requires { r < relation_count (sheet_of self.now.sheet.bytes.now) }
-        ensures { literals_of result.now ≡
-            map (literal_at (sheet_of self.now.sheet.bytes.now) (literals_of self.now.given.now))
-            (from (first_cell (sheet_of self.now.sheet.bytes.now) r)
-            (cells_of (sheet_of self.now.sheet.bytes.now) r)) }
-    {
-        self.cells(
-            self.first_cell(r),
-            self.sheet.row_count(r) * self.sheet.row_length(r),
-        )
-    }
-
-    // Those of its row i.
+    // The literals of its row i.
     pub fn row(&self, r: usize, i: usize) -> &[i32]
         requires r_bound { r < relation_count (sheet_of self.now.sheet.bytes.now) }
         requires i_bound { i < row_count (sheet_of self.now.sheet.bytes.now) r }

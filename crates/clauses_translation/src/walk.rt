@@ -7,9 +7,10 @@ ghost use Rattle.nodes.specs.Nodes.{IsExpression, IsFormula};
 ghost use Rattle.clauses_translation.specs.Walks.{Ready, WalksExpression, WalksFormula, WalksBodies};
 
 use clauses_emission::{LIMIT, Tape};
-use clauses_kinds::apply::{binary, compare, comprehend, connect, quantify_over, test, unary};
-use clauses_kinds::leaves::{leaf, nothing, set};
-use clauses_kinds::source::Source;
+use clauses_kinds::apply::{apply_binary, apply_comparison, apply_connective, apply_quantifier};
+use clauses_kinds::apply::{apply_test, apply_unary, comprehend};
+use clauses_kinds::leaves::{apply_leaf, nothing, set};
+use clauses_kinds::source::WalkSource;
 use clauses_matrix::Literals;
 use nodes::environments::bind;
 use nodes::forms::{Node, read_node};
@@ -20,7 +21,7 @@ use relational::Symbol;
 fn expression(
     list: &mut [i32],
     tape: &mut Tape,
-    source: &Source,
+    source: &WalkSource,
     env: [usize; 4],
     at: usize,
 ) -> Literals
@@ -35,19 +36,19 @@ fn expression(
     let node = read_node(&source.sheet, at);
     let Node { a, b, .. } = node;
     match node.symbol {
-        Symbol::Leaf(operator) => leaf(source, env, operator, a),
+        Symbol::Leaf(operator) => apply_leaf(source, env, operator, a),
         Symbol::Binary(operator) => {
             let p = expression(list, tape, source, env, a);
             let q = expression(list, tape, source, env, b);
-            binary(list, tape, operator, p, q)
+            apply_binary(list, tape, operator, p, q)
         }
         Symbol::Unary(operator) => {
             let p = expression(list, tape, source, env, a);
-            unary(list, tape, operator, p)
+            apply_unary(list, tape, operator, p)
         }
         Symbol::Comprehension => {
             let row = bodies(list, tape, source, env, b, a);
-            comprehend(list, tape, source, a, row)
+            comprehend(list, tape, &source.sheet, source.given, a, row)
         }
         _ => unreachable!(),
     }
@@ -58,7 +59,7 @@ fn expression(
 pub fn formula(
     list: &mut [i32],
     tape: &mut Tape,
-    source: &Source,
+    source: &WalkSource,
     env: [usize; 4],
     at: usize,
 ) -> i32
@@ -76,21 +77,29 @@ pub fn formula(
         Symbol::Comparison(operator) => {
             let p = expression(list, tape, source, env, a);
             let q = expression(list, tape, source, env, b);
-            compare(list, tape, operator, p, q)
+            apply_comparison(list, tape, operator, p, q)
         }
         Symbol::Test(operator) => {
             let p = expression(list, tape, source, env, a);
-            test(list, tape, operator, p)
+            apply_test(list, tape, operator, p)
         }
         Symbol::Negation => literal::opposite(formula(list, tape, source, env, a)),
         Symbol::Connective(operator) => {
             let p = formula(list, tape, source, env, a);
             let q = formula(list, tape, source, env, b);
-            connect(list, tape, operator, p, q)
+            apply_connective(list, tape, operator, p, q)
         }
         Symbol::Quantifier(operator) => {
             let row = bodies(list, tape, source, env, b, a);
-            quantify_over(list, tape, source, operator, a, row)
+            apply_quantifier(
+                list,
+                tape,
+                &source.sheet,
+                source.given,
+                operator,
+                a,
+                row,
+            )
         }
         _ => unreachable!(),
     }
@@ -101,7 +110,7 @@ pub fn formula(
 fn bodies(
     list: &mut [i32],
     tape: &mut Tape,
-    source: &Source,
+    source: &WalkSource,
     env: [usize; 4],
     at: usize,
     x: usize,

@@ -9,8 +9,8 @@ ghost use Rattle.instance_matrix.specs.Values.{Fine, Gives, matrix_of};
 
 use super::Instance;
 use instance_matrix::Value;
-use instance_matrix::operators::binary;
-use instance_matrix::truths::quantify;
+use instance_matrix::operators::apply_binary;
+use instance_matrix::truths::apply_quantifier;
 use relational::{Binary, Quantifier};
 
 impl<'a> Instance<'a> {
@@ -28,7 +28,7 @@ impl<'a> Instance<'a> {
         ensures { (env : Environment) → Gives result (spec.value_binary binary_operator.Intersection
             (spec.range (sheet_of self.now.sheet.bytes.now) self.now.cells.now x env) (matrix_of row)) }
     {
-        binary(Binary::Intersection, self.range(x), row)
+        apply_binary(Binary::Intersection, self.range(x), row)
     }
 
     // Kinds 40 and 41, over that set: for all, for some.
@@ -37,6 +37,6 @@ impl<'a> Instance<'a> {
         ensures { (env : Environment) → result ≡ spec.truth_quantifier operator
             (spec.range (sheet_of self.now.sheet.bytes.now) self.now.cells.now x env) (matrix_of row) }
     {
-        quantify(operator, self.range(x), row)
+        apply_quantifier(operator, self.range(x), row)
     }
 }

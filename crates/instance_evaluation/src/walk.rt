@@ -7,8 +7,8 @@ ghost use Rattle.instance_evaluation.specs.Walking.{value_at, truth_at, bodies_a
 
 use super::Instance;
 use instance_matrix::Value;
-use instance_matrix::operators::{binary, unary};
-use instance_matrix::truths::{compare, connect, test};
+use instance_matrix::operators::{apply_binary, apply_unary};
+use instance_matrix::truths::{apply_comparison, apply_connective, apply_test};
 use nodes::environments::bind;
 use nodes::forms::read_node;
 use relational::Symbol;
@@ -28,10 +28,10 @@ impl<'a> Instance<'a> {
             Symbol::Binary(operator) => {
                 let p = self.expression(env, node.a);
                 let q = self.expression(env, node.b);
-                binary(operator, p, q)
+                apply_binary(operator, p, q)
             }
             // 2.2.4 inverse; 2.2.5 closure
-            Symbol::Unary(operator) => unary(operator, self.expression(env, node.a)),
+            Symbol::Unary(operator) => apply_unary(operator, self.expression(env, node.a)),
             // 2.2.6 comprehension: a binder, as the quantifiers
             Symbol::Comprehension => {
                 let row = self.bodies(env, node.b, node.a);
@@ -53,16 +53,16 @@ impl<'a> Instance<'a> {
             Symbol::Comparison(operator) => {
                 let p = self.expression(env, node.a);
                 let q = self.expression(env, node.b);
-                compare(operator, p, q)
+                apply_comparison(operator, p, q)
             }
             // 2.2.6 some, none, at most one
-            Symbol::Test(operator) => test(operator, self.expression(env, node.a)),
+            Symbol::Test(operator) => apply_test(operator, self.expression(env, node.a)),
             // 2.2.6 the connectives
             Symbol::Negation => !self.formula(env, node.a),
             Symbol::Connective(operator) => {
                 let p = self.formula(env, node.a);
                 let q = self.formula(env, node.b);
-                connect(operator, p, q)
+                apply_connective(operator, p, q)
             }
             // 2.2.6 all and some
             Symbol::Quantifier(operator) => {

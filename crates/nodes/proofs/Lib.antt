@@ -5,3 +5,4 @@ pub mod FormulaViews
 pub mod Roots
 mod Powers
 mod Placed
+pub mod Numbers

@@ -17,7 +17,7 @@ pub struct Node {
 
 // What a kind stands for.
 #[tactic(auto, unfolding(relational::specs::Trees::symbol_of))]
-fn symbol_of(kind: usize) -> Symbol
+pub fn symbol_of(kind: usize) -> Symbol
     ensures { result ≡ symbol_of kind }
 {
     match kind {

@@ -1,20 +1,11 @@
--- `quantify_over` meets its contract: the quantifier over the variable's atoms.
-use mathlib.Core.Path.{ap, refl}
-use borrow.Author.Rules.{rules}
-use Rattle.literal.specs.Literals.{Literal}
-use Rattle.relational.specs.Matrices.{Matrix}
-use Rattle.clauses_rules.specs.Translation.{translate_quantifier}
-use Rattle.clauses_emission.proofs.Steps.{emits-as, emits-read}
-use Rattle.clauses_matrix.specs.Matrices.{matrix_of}
+use Rattle.std.proofs.Common.{◌≡◌, sym, ◌∙◌, rules}
+use Rattle.relational.specs.declared.Symbol.TheVariants.{Quantifier as quantifier-symbol}
+use Rattle.clauses_emission.proofs.Steps.{emits-read}
 use Rattle.clauses_kinds.proofs.apply.quantify_over.Goals as goal
 
-pub quantify-requires-clause-operand : goal.quantify-requires-clause-operand
-quantify-requires-clause-operand c = (c.range.ensures (λ x. 0)).fine _ c.requires.inside
-
-pub returns : goal.returns
-returns c env =
-    emits-read (search rules)
-    (emits-as
-    (ap (λ (m : Matrix Literal). translate_quantifier c.args.operator m (matrix_of c.args.p) c.args.tape.now.next)
-    (c.range.ensures env).matrix)
-    refl c.quantify.ensures)
+pub returns-in-Quantifier : goal.returns-in-Quantifier
+returns-in-Quantifier c env o e =
+    let z : quantifier-symbol c.in-Quantifier.operator ≡ quantifier-symbol o =
+    sym c.in-Quantifier.is ∙ c.symbol_of.ensures ∙ e in
+    let w : c.in-Quantifier.operator ≡ o = cc in
+    rw (← w) (emits-read (search rules) (c.apply_quantifier.ensures env))

@@ -75,8 +75,8 @@ pub formula-read_node-node-requires : goal.formula-read_node-node-requires
 formula-read_node-node-requires t c =
     formula-low (accepted-facts _ _ c.args.source.now.sheet.taken) c.requires.formula
 
-pub expression-leaf-requires : goal.expression-leaf-requires
-expression-leaf-requires t c =
+pub expression-apply_leaf-requires : goal.expression-apply_leaf-requires
+expression-apply_leaf-requires t c =
     (at_leaf (expression_node _ _ c.args.source.now.sheet.taken c.read_node-node.ensures.0 c.requires.expression) c.in-Leaf.is).names
 
 pub expression-expression-p-requires : goal.expression-expression-p-requires
@@ -91,8 +91,8 @@ expression-expression-q-requires t c =
     c.in-Binary.is in
     (omega (arith, b.lower_b, c.decreases), (ready-after c.expression-p.ensures b.left c.requires.ready, b.right))
 
-pub expression-binary-requires : goal.expression-binary-requires
-expression-binary-requires t c =
+pub expression-apply_binary-requires : goal.expression-apply_binary-requires
+expression-apply_binary-requires t c =
     let b = at-binary (expression_node _ _ c.args.source.now.sheet.taken c.read_node-node.ensures.0 c.requires.expression)
     c.in-Binary.is in
     let e = both-finished c.expression-q.ensures b.right (λ _ _. operand-grow)
@@ -105,8 +105,8 @@ expression-expression-p-requires-in-Unary t c =
     in
     (omega (arith, b.lower_a, c.decreases), (c.requires.ready, b.left))
 
-pub expression-unary-requires : goal.expression-unary-requires
-expression-unary-requires t c =
+pub expression-apply_unary-requires : goal.expression-apply_unary-requires
+expression-apply_unary-requires t c =
     let e = finished c.expression-p-in-Unary.ensures
     (at-unary (expression_node _ _ c.args.source.now.sheet.taken c.read_node-node.ensures.0 c.requires.expression) c.in-Unary.is).left in
     record { bounded = e.0; operand = e.1 }
@@ -128,19 +128,19 @@ pub expression-returns-in-Leaf : goal.expression-returns-in-Leaf
 expression-returns-in-Leaf t c =
     leaf-walks c.args.source.now.given.now c.args.env (expression_node _ _ c.args.source.now.sheet.taken c.read_node-node.ensures.0
     c.requires.expression) c.in-Leaf.is
-    c.requires.ready.bounded c.requires.ready.inside c.leaf.ensures
+    c.requires.ready.bounded c.requires.ready.inside c.apply_leaf.ensures
 
 pub expression-returns-in-Binary : goal.expression-returns-in-Binary
 expression-returns-in-Binary t c =
     binary-walks c.args.source.now.given.now c.args.env (expression_node _ _ c.args.source.now.sheet.taken c.read_node-node.ensures.0
     c.requires.expression) c.in-Binary.is
-    c.expression-p.ensures c.expression-q.ensures c.binary.ensures
+    c.expression-p.ensures c.expression-q.ensures c.apply_binary.ensures
 
 pub expression-returns-in-Unary : goal.expression-returns-in-Unary
 expression-returns-in-Unary t c =
     unary-walks c.args.source.now.given.now c.args.env (expression_node _ _ c.args.source.now.sheet.taken c.read_node-node.ensures.0
     c.requires.expression) c.in-Unary.is
-    c.expression-p-in-Unary.ensures c.unary.ensures
+    c.expression-p-in-Unary.ensures c.apply_unary.ensures
 
 pub expression-returns-in-Comprehension : goal.expression-returns-in-Comprehension
 expression-returns-in-Comprehension t c =
@@ -160,8 +160,8 @@ formula-expression-q-requires t c =
     c.in-Comparison.is in
     (omega (arith, b.lower_b, c.decreases), (ready-after c.expression-p.ensures b.left c.requires.ready, b.right))
 
-pub formula-compare-requires : goal.formula-compare-requires
-formula-compare-requires t c =
+pub formula-apply_comparison-requires : goal.formula-apply_comparison-requires
+formula-apply_comparison-requires t c =
     let b = at-comparison (formula_node _ _ c.args.source.now.sheet.taken c.read_node-node.ensures.0 c.requires.formula)
     c.in-Comparison.is in
     let e = both-finished c.expression-q.ensures b.right (λ _ _. operand-grow)
@@ -173,8 +173,8 @@ formula-expression-p-requires-in-Test t c =
     let b = at_test (formula_node _ _ c.args.source.now.sheet.taken c.read_node-node.ensures.0 c.requires.formula) c.in-Test.is in
     (omega (arith, b.lower_a, c.decreases), (c.requires.ready, b.left))
 
-pub formula-test-requires : goal.formula-test-requires
-formula-test-requires t c =
+pub formula-apply_test-requires : goal.formula-apply_test-requires
+formula-apply_test-requires t c =
     let e = finished c.expression-p-in-Test.ensures
     (at_test (formula_node _ _ c.args.source.now.sheet.taken c.read_node-node.ensures.0 c.requires.formula) c.in-Test.is).left in
     record { bounded = e.0; operand = e.1 }
@@ -197,8 +197,8 @@ formula-formula-q-requires t c =
     c.in-Connective.is in
     (omega (arith, b.lower_b, c.decreases), (ready-after c.formula-p.ensures b.left c.requires.ready, b.right))
 
-pub formula-connect-requires : goal.formula-connect-requires
-formula-connect-requires t c =
+pub formula-apply_connective-requires : goal.formula-apply_connective-requires
+formula-apply_connective-requires t c =
     let b = at-connective (formula_node _ _ c.args.source.now.sheet.taken c.read_node-node.ensures.0 c.requires.formula)
     c.in-Connective.is in
     let e = both-finished c.formula-q.ensures b.right (λ _ _. inside-grows) (finished c.formula-p.ensures b.left).1 in
@@ -214,8 +214,8 @@ formula-bodies-row-requires t c =
     c.in-Quantifier.is in
     (omega (arith, b.lower_b, c.decreases), (c.requires.ready, (b.body, b.names)))
 
-pub formula-quantify_over-requires : goal.formula-quantify_over-requires
-formula-quantify_over-requires t c =
+pub formula-apply_quantifier-requires : goal.formula-apply_quantifier-requires
+formula-apply_quantifier-requires t c =
     let b = at-quantifier (formula_node _ _ c.args.source.now.sheet.taken c.read_node-node.ensures.0 c.requires.formula)
     c.in-Quantifier.is in
     let r = ready-after c.bodies-row.ensures b.body c.requires.ready in
@@ -225,13 +225,13 @@ pub formula-returns-in-Comparison : goal.formula-returns-in-Comparison
 formula-returns-in-Comparison t c =
     comparison-walks c.args.source.now.given.now c.args.env
     (formula_node _ _ c.args.source.now.sheet.taken c.read_node-node.ensures.0 c.requires.formula) c.in-Comparison.is
-    c.expression-p.ensures c.expression-q.ensures (emits-read (search rules) c.compare.ensures)
+    c.expression-p.ensures c.expression-q.ensures (emits-read (search rules) c.apply_comparison.ensures)
 
 pub formula-returns-in-Test : goal.formula-returns-in-Test
 formula-returns-in-Test t c =
     test-walks c.args.source.now.given.now c.args.env (formula_node _ _ c.args.source.now.sheet.taken c.read_node-node.ensures.0
     c.requires.formula) c.in-Test.is
-    c.expression-p-in-Test.ensures (emits-read (search rules) c.test.ensures)
+    c.expression-p-in-Test.ensures (emits-read (search rules) c.apply_test.ensures)
 
 pub formula-returns-in-Negation : goal.formula-returns-in-Negation
 formula-returns-in-Negation t c =
@@ -247,13 +247,13 @@ formula-returns-in-Connective t c =
     (formula_node _ _ c.args.source.now.sheet.taken c.read_node-node.ensures.0 c.requires.formula) c.in-Connective.is
     c.formula-p.ensures c.formula-q.ensures
     (emits-read (search rules)
-    (rw (back c.formula-p.result (search rules), back c.formula-q.result (search rules)) at c.connect.ensures))
+    (rw (back c.formula-p.result (search rules), back c.formula-q.result (search rules)) at c.apply_connective.ensures))
 
 pub formula-returns-in-Quantifier : goal.formula-returns-in-Quantifier
 formula-returns-in-Quantifier t c =
     quantifier-walks c.args.source.now.given.now c.args.env
     (formula_node _ _ c.args.source.now.sheet.taken c.read_node-node.ensures.0 c.requires.formula) c.in-Quantifier.is
-    c.bodies-row.ensures (emits-read (search rules) (c.quantify_over.ensures (environment c.args.env)))
+    c.bodies-row.ensures (emits-read (search rules) (c.apply_quantifier.ensures (environment c.args.env)))
 
 pub expression-unreachable-requires : goal.expression-unreachable-requires
 expression-unreachable-requires t c =

@@ -69,7 +69,7 @@ expression-expression-q-requires t c =
 pub expression-returns-in-Binary : goal.expression-returns-in-Binary
 expression-returns-in-Binary t c =
     let h = reached IsExpression c.args.self.now c.requires c.read_node-node.ensures in
-    binary-value h _ _ c.in-Binary.is c.expression-p.ensures c.expression-q.ensures c.binary.ensures
+    binary-value h _ _ c.in-Binary.is c.expression-p.ensures c.expression-q.ensures c.apply_binary.ensures
 
 pub expression-expression-requires : goal.expression-expression-requires
 expression-expression-requires t c =
@@ -79,7 +79,7 @@ expression-expression-requires t c =
 pub expression-returns-in-Unary : goal.expression-returns-in-Unary
 expression-returns-in-Unary t c =
     let h = reached IsExpression c.args.self.now c.requires c.read_node-node.ensures in
-    unary-value h _ _ c.in-Unary.is c.expression.ensures c.unary.ensures
+    unary-value h _ _ c.in-Unary.is c.expression.ensures c.apply_unary.ensures
 
 pub expression-bodies-row-requires : goal.expression-bodies-row-requires
 expression-bodies-row-requires t c =
@@ -114,7 +114,7 @@ formula-expression-q-requires t c =
 pub formula-returns-in-Comparison : goal.formula-returns-in-Comparison
 formula-returns-in-Comparison t c =
     let h = reached IsFormula c.args.self.now c.requires c.read_node-node.ensures in
-    comparison-truth h _ _ c.in-Comparison.is c.expression-p.ensures c.expression-q.ensures c.compare.ensures
+    comparison-truth h _ _ c.in-Comparison.is c.expression-p.ensures c.expression-q.ensures c.apply_comparison.ensures
 
 pub formula-expression-requires : goal.formula-expression-requires
 formula-expression-requires t c =
@@ -124,7 +124,7 @@ formula-expression-requires t c =
 pub formula-returns-in-Test : goal.formula-returns-in-Test
 formula-returns-in-Test t c =
     let h = reached IsFormula c.args.self.now c.requires c.read_node-node.ensures in
-    test-truth h _ _ c.in-Test.is c.expression.ensures c.test.ensures
+    test-truth h _ _ c.in-Test.is c.expression.ensures c.apply_test.ensures
 
 pub formula-formula-requires : goal.formula-formula-requires
 formula-formula-requires t c =
@@ -149,7 +149,7 @@ formula-formula-q-requires t c =
 pub formula-returns-in-Connective : goal.formula-returns-in-Connective
 formula-returns-in-Connective t c =
     let h = reached IsFormula c.args.self.now c.requires c.read_node-node.ensures in
-    connective-truth h _ _ c.in-Connective.is c.formula-p.ensures c.formula-q.ensures c.connect.ensures
+    connective-truth h _ _ c.in-Connective.is c.formula-p.ensures c.formula-q.ensures c.apply_connective.ensures
 
 pub formula-bodies-row-requires : goal.formula-bodies-row-requires
 formula-bodies-row-requires t c =

@@ -8,11 +8,11 @@ use Rattle.instance_matrix.specs.Values.{matrix_of}
 use Rattle.instance_matrix.proofs.Results.{gives_as}
 use Rattle.instance_evaluation.proofs.Instance.comprehend.Goals as goal
 
-pub binary-requires-clause-fine : goal.binary-requires-clause-fine
-binary-requires-clause-fine c = (c.range.ensures (λ x. 0)).fine
+pub apply_binary-requires-clause-fine : goal.apply_binary-requires-clause-fine
+apply_binary-requires-clause-fine c = (c.range.ensures (λ x. 0)).fine
 
 pub returns : goal.returns
 returns c env =
     gives_as _ _ _
     (ap (λ (m : Matrix Bool). value_binary intersection m (matrix_of c.args.row)) (c.range.ensures env).is)
-    c.binary.ensures
+    c.apply_binary.ensures

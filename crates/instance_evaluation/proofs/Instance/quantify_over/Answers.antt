@@ -6,10 +6,10 @@ use Rattle.relational.specs.Evaluation.{truth_quantifier}
 use Rattle.instance_matrix.specs.Values.{matrix_of}
 use Rattle.instance_evaluation.proofs.Instance.quantify_over.Goals as goal
 
-pub quantify-requires-clause-fine : goal.quantify-requires-clause-fine
-quantify-requires-clause-fine c = (c.range.ensures (λ x. 0)).fine
+pub apply_quantifier-requires-clause-fine : goal.apply_quantifier-requires-clause-fine
+apply_quantifier-requires-clause-fine c = (c.range.ensures (λ x. 0)).fine
 
 pub returns : goal.returns
 returns c env =
-    c.quantify.ensures
+    c.apply_quantifier.ensures
     ∙ ap (λ (m : Matrix Bool). truth_quantifier c.args.operator m (matrix_of c.args.row)) (c.range.ensures env).is

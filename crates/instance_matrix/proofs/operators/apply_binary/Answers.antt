@@ -1,7 +1,7 @@
 -- Operator by operator as the definition.
 use Rattle.std.proofs.Common.{rules}
 use Rattle.relational.specs.Evaluation.{either, both, without}
-use Rattle.instance_matrix.proofs.operators.binary.Goals as goal
+use Rattle.instance_matrix.proofs.operators.apply_binary.Goals as goal
 
 pub returns-in-Union : goal.returns-in-Union
 returns-in-Union c = rw c.in-Union.is (c.matched.ensures either (λ a b r h. search rules))

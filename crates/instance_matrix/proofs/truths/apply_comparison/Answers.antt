@@ -3,7 +3,7 @@ use Rattle.std.proofs.Common.{◌≡◌, ◌∙◌, rules}
 use mathlib.Core.Bool.{beq}
 use Rattle.relational.specs.Evaluation.{same, implies}
 use Rattle.instance_matrix.proofs.Counting.{same-is}
-use Rattle.instance_matrix.proofs.truths.compare.Goals as goal
+use Rattle.instance_matrix.proofs.truths.apply_comparison.Goals as goal
 
 pub returns-in-Equal : goal.returns-in-Equal
 returns-in-Equal c =

@@ -3,7 +3,7 @@ use Rattle.std.proofs.Common.{Bool, ap, ◌∙◌, rules}
 use lib.Dec.{leb}
 use Rattle.relational.specs.Matrices.{Matrix}
 use Rattle.relational.specs.Evaluation.{both, implies, count}
-use Rattle.instance_matrix.proofs.truths.quantify.Goals as goal
+use Rattle.instance_matrix.proofs.truths.apply_quantifier.Goals as goal
 
 pub count-requires : goal.count-requires
 count-requires c = (c.matched.ensures both (λ a b r h. search rules)).fine

@@ -1,5 +1,5 @@
 use Rattle.clauses_matrix.proofs.Fills.{operand-grow}
-use Rattle.clauses_kinds.proofs.apply.unary.Goals as goal
+use Rattle.clauses_kinds.proofs.apply.apply_unary.Goals as goal
 
 pub inverse-requires : goal.inverse-requires
 inverse-requires c = operand-grow c.requires.bounded.last c.requires.operand
