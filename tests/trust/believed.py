@@ -15,18 +15,19 @@ TABLED = "marked"
 
 
 class Reached:
-    """The definitions and types that some roots reach, those of others aside, by their files."""
+    """The definitions that some roots reach, those of others aside, by their files: of specs/, and types of the code."""
 
     def __init__(self, project, starts, others=()):
         self.came_from = project.reach(starts)
         new = {found for found in self.came_from if not any(found in other.came_from for other in others)}
-        self.definitions, self.types = {}, {}
+        self.definitions, self.types = {}, {}  # the types are among the definitions too
         specs = {found.spec for found in new if isinstance(found, Definition)}
         sources = {found.source for found in new if isinstance(found, Type)}
         for spec in sorted(specs, key=lambda spec: spec.path):
             self.definitions[spec.path] = [found for found in spec.definitions if found in new]
         for source in sorted(sources, key=lambda source: source.path):
-            self.types[source.path] = [found.name for found in source.types if found in new]
+            self.definitions[source.path] = [found for found in source.types if found in new]
+            self.types[source.path] = [found.name for found in self.definitions[source.path]]
 
     def lines(self, paths=None):
         """The lines that its definitions take, in some files or in all."""
@@ -79,8 +80,8 @@ class Belief:
                 why = f"is reached ({reached.way(path)})" if wanted else "is not reached so"
                 told(f'"{heading}": {path} {why}, and stands {times} times in the table')
         for path in reached.definitions:
-            if path not in self.specs:
-                told(f"{path} is reached ({reached.way(path)}), and is not in specs/")
+            if path not in self.specs and path not in reached.types:
+                told(f"{path} is reached ({reached.way(path)}), and is neither in specs/ nor a type of the code")
         for row in rows[:-1]:
             lines = reached.lines(doc.files(row[0]))
             if not doc.files(row[0]) or doc.number(row[1]) != lines:

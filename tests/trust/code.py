@@ -89,8 +89,11 @@ class Function:
 
 
 class Type:
+    """A struct or an enum: its declaration, attributes and comments aside."""
+
     def __init__(self, source, name, text):
-        self.source, self.name, self.text = source, name, text
+        self.source, self.path, self.name, self.text = source, source.path, name, text.strip()
+        self.lines = sum(1 for line in text.split("\n") if line.strip())
 
     def reaches(self):
         """The types that its declaration names."""
@@ -116,10 +119,11 @@ class Source:
             elif (cited := PROOFS.match(path)) and (project.crates / cited[1]).is_dir():
                 project.problem(f"{self.path}: a contract cites {path}, which is not in specs/")
         self.functions = [Function(self, found) for found in FUNCTION.finditer(self.code)]
-        self.types = [Type(self, found[1], self.declaration(found.end())) for found in TYPE.finditer(self.code)]
+        self.types = [Type(self, found[1], self.declaration(found)) for found in TYPE.finditer(self.code)]
 
-    def declaration(self, at):
-        return "" if self.code[at] == ";" else self.code[at : self.closing(at)]
+    def declaration(self, found):
+        at = found.end()
+        return self.code[found.start() : at if self.code[at] == ";" else self.closing(at)]
 
     def closing(self, at):
         """The place after the bracket that closes the one at a place."""

@@ -4,7 +4,6 @@ import difflib
 from .contracts import every_contract, folded, judge
 from .project import Project
 from .public import roots
-from .specs import Definition
 from .theorems import said, statements_of, theorems
 
 STORED = "tests/promises.txt"
@@ -23,8 +22,7 @@ def contract(function):
         lines += [f"    {kind} {folded(clause)}" for clause in function.clauses[kind]]
     files = {}
     for found in sorted(function.named("\n".join(sum(function.clauses.values(), []))), key=str):
-        path = found.spec.path if isinstance(found, Definition) else found.source.path
-        files.setdefault(path, []).append(found.name)
+        files.setdefault(found.path, []).append(found.name)
     return lines + [f"    names {' '.join(names)} of {path}" for path, names in files.items()]
 
 
@@ -42,9 +40,9 @@ class Promises:
         self.stored = (root / STORED).read_text() if (root / STORED).is_file() else ""
 
     def words(self):
-        """The statements that promises are made of: records, data and functions to types, each once."""
+        """The statements that promises are made of, each once: records, data, functions to types, types of the code."""
         roots = self.functions + [theorem.statement for theorem in self.theorems if theorem.name not in EVIDENCE]
-        return [f"word of {made.spec.path}: {said(made)}" for made in sorted(statements_of(roots), key=str)]
+        return [f"word of {made.path}: {said(made)}" for made in sorted(statements_of(roots), key=str)]
 
     def text(self):
         blocks = ["\n".join(contract(function)) for function in self.functions]

@@ -17,7 +17,7 @@ class Definition:
     """A signature with its clauses, a `data` with its constructors, or a `record`; and the parameters around it."""
 
     def __init__(self, spec, name):
-        self.spec, self.name, self.texts, self.lines = spec, name, [], 0
+        self.spec, self.path, self.name, self.texts, self.lines = spec, spec.path, name, [], 0
 
     def add(self, text):
         self.texts.append(text)

@@ -1,6 +1,7 @@
 """The theorems that docs/ARCHITECTURE.md states, each held to its proofs file."""
 import re
 
+from .code import Type
 from .document import stated
 from .names import NAME
 from .specs import MARKS, SIGNATURE, Definition
@@ -27,19 +28,20 @@ def is_statement(made):
 
 
 def statements_of(roots):
-    """The statements that some roots are made of, in specs/ and in proofs/; no proof is followed."""
+    """The statements that some roots are made of, in specs/ and in proofs/, and the types of the code that they name; no
+    proof is followed."""
     found, ahead = set(roots), list(roots)
     while ahead:
         for made in set(ahead.pop().reaches()) - found:
             if not isinstance(made, Definition) or "/specs/" in made.spec.path or is_statement(made):
                 found.add(made)
                 ahead.append(made)
-    return [made for made in found if isinstance(made, Definition) and is_statement(made)]
+    return [made for made in found if isinstance(made, Type) or isinstance(made, Definition) and is_statement(made)]
 
 
 def said(made):
-    """The text of a definition, folded."""
-    return " ".join(" ".join(made.texts[1:]).split())
+    """The text of a definition or of a type, folded."""
+    return " ".join((made.text if isinstance(made, Type) else " ".join(made.texts[1:])).split())
 
 
 def type_of(made):

@@ -57,6 +57,7 @@ pub extern "C" fn fawnloom_more(v: u32) -> u32
 CHECK, SIZE = "crates/instance/src/lib.rt", "crates/dimacs/src/lib.rt"
 FINDER, BOUNDARY = "crates/report/src/finder.rt", "crates/boundary/src/runs.rt"
 EXPORTS, ENTRY = "crates/boundary_c/src/runs.rt", "crates/console_finder_c/src/lib.rt"
+OPERATORS, ANSWERS = "crates/relational/src/lib.rt", "crates/boundary/src/answer.rt"
 DEMAND3 = "crates/solve_rules/proofs/Demand3.antt"
 THEOREM = r"^pub demand3 : Demand3$"
 NO_THEOREM = "no `pub demand3 : Demand3`"
@@ -90,6 +91,16 @@ STORED_ALONE = [
            replaced(r'StartsWith "none" text', 'StartsWith "nonesuch" text'), '"nonesuch"'),
     Change("a hypothesis of a theorem", "crates/clauses_rules/proofs/Theorems.antt",
            replaced(r"^module _ (.*\n  pub match : )", r"module _ (no : ⊥) \1"), "no : ⊥"),
+    Change("an operator taken away", OPERATORS, replaced(r"^    Lone,\n", ""),
+           "+word of relational/src/lib.rt: pub enum Test { Some, None, }"),
+    Change("an operator more", OPERATORS, replaced(r"^    Equivalence,$", "    Equivalence,\n    Exclusion,"),
+           "Equivalence, Exclusion, }"),
+    Change("two operators exchanged", OPERATORS, replaced(r"^    Some,\n    None,$", "    None,\n    Some,"),
+           "pub enum Test { None, Some, Lone, }"),
+    Change("an operator where there was none", OPERATORS,
+           replaced(r"^    Comprehension,$", "    Comprehension(Quantifier),"), "Comprehension(Quantifier)"),
+    Change("a field of an answer taken away", ANSWERS, replaced(r"^    pub satisfies: u32,\n", ""),
+           "+word of boundary/src/answer.rt: pub struct CheckAnswer { pub refusal: u32, }"),
 ]
 
 # Told whatever the stored file says.
@@ -162,6 +173,10 @@ BELIEVED = [
            "solve_rules/specs/Narrower.antt is reached"),
     Change("lines of a row", DOCUMENT, replaced(r"^(\| `kinds/specs/Kinds.antt` \| )\d+", r"\g<1>1"),
            "1 lines in the table"),
+    Change("a row of types dropped", DOCUMENT, replaced(r"^\| `relational/src/lib.rt` \| .*\n", ""),
+           "relational/src/lib.rt is reached"),
+    Change("a type of more lines", OPERATORS, replaced(r"^    Equivalence,$", "    Equivalence,\n    Exclusion,"),
+           "48 lines in the table, 49 in the definitions"),
     Change("the sum of a table", DOCUMENT,
            replaced(r"^(### What statements add(?:(?!###)[\s\S])*\| all of these \| )[\d,]+", r"\g<1>1"),
            "the last row is not the sum"),
