@@ -47,13 +47,7 @@ pub fn apply_binary(
 }
 
 // The same by the number of the kind, of which any is taken.
-pub fn binary(
-    list: &mut [i32],
-    tape: &mut Tape,
-    kind: usize,
-    p: Literals,
-    q: Literals,
-) -> Literals
+pub fn binary(list: &mut [i32], tape: &mut Tape, kind: usize, p: Literals, q: Literals) -> Literals
     requires bounded { Bounded tape.old }
     requires operand { Operand tape.old.next p }
     requires operand_2 { Operand tape.old.next q }
@@ -153,7 +147,13 @@ pub fn test(list: &mut [i32], tape: &mut Tape, kind: usize, p: Literals) -> i32
 }
 
 // Kinds 31 to 34: and, or, implies, iff.
-pub fn apply_connective(list: &mut [i32], tape: &mut Tape, operator: Connective, p: i32, q: i32) -> i32
+pub fn apply_connective(
+    list: &mut [i32],
+    tape: &mut Tape,
+    operator: Connective,
+    p: i32,
+    q: i32,
+) -> i32
     requires bounded { Bounded tape.old }
     requires inside { Inside tape.old.next (literal_of p) }
     requires inside_2 { Inside tape.old.next (literal_of q) }

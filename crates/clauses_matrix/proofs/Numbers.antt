@@ -27,6 +27,12 @@ place-of i c j h =
     let m : (i * c + j) % c ≡ j = mul-add-mod_self_right i c j ∙ mod-eq_of_lt h in
     rw (d, m)
 
+pub row-at : (i c j : ℕ) → j < c → (i * c + j) / c ≡ i
+row-at i c j h = ap (λ (t : Place). t.0) (place-of i c j h)
+
+pub column-at : (i c j : ℕ) → j < c → (i * c + j) % c ≡ j
+column-at i c j h = ap (λ (t : Place). t.1) (place-of i c j h)
+
 -- one row
 row_of : (i c s n : ℕ) → s + n ≤ c → map {B = Place} (λ j. (i, j)) (from s n) ≡ map (place_of c) (from (i * c + s) n)
 row_of i c s zero h = refl

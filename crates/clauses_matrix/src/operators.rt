@@ -81,7 +81,7 @@ fn join_cell(
     or(list, tape, &mut middles[..left.len()])
 }
 
-// The cells of a join, place by place.
+// The cells of a join, row by row.
 fn join_cells(list: &mut [i32], tape: &mut Tape, p: Literals, q: Literals) -> [i32; 64]
     requires bounded { Bounded tape.old }
     requires operand { Operand tape.old.next p }
@@ -95,16 +95,18 @@ fn join_cells(list: &mut [i32], tape: &mut Tape, p: Literals, q: Literals) -> [i
     let left = p.cells;
     let right = q.cells;
     let mut cells = [-1; 64];
-    for k in 0..p.rows * columns {
-        let start = k / columns * n;
-        cells[k] = join_cell(
-            list,
-            tape,
-            &left[start..start + n],
-            &right,
-            columns,
-            k % columns,
-        );
+    for i in 0..p.rows {
+        let start = i * n;
+        for j in 0..columns {
+            cells[index(i, columns, j)] = join_cell(
+                list,
+                tape,
+                &left[start..start + n],
+                &right,
+                columns,
+                j,
+            );
+        }
     }
     cells
 }

@@ -7,8 +7,10 @@ ghost use Rattle.nodes.specs.Nodes.{IsExpression, IsFormula};
 ghost use Rattle.clauses_translation.specs.Walks.{Ready, WalksExpression, WalksFormula, WalksBodies};
 
 use clauses_emission::{LIMIT, Tape};
-use clauses_kinds::apply::{apply_binary, apply_comparison, apply_connective, apply_quantifier};
-use clauses_kinds::apply::{apply_test, apply_unary, comprehend};
+use clauses_kinds::apply::{
+    apply_binary, apply_comparison, apply_connective, apply_quantifier, apply_test, apply_unary,
+    comprehend,
+};
 use clauses_kinds::leaves::{apply_leaf, nothing, set};
 use clauses_kinds::source::WalkSource;
 use clauses_matrix::Literals;
@@ -91,15 +93,7 @@ pub fn formula(
         }
         Symbol::Quantifier(operator) => {
             let row = bodies(list, tape, source, env, b, a);
-            apply_quantifier(
-                list,
-                tape,
-                &source.sheet,
-                source.given,
-                operator,
-                a,
-                row,
-            )
+            apply_quantifier(list, tape, &source.sheet, source.given, operator, a, row)
         }
         _ => unreachable!(),
     }

@@ -1,19 +1,17 @@
 -- Tests over a list and over its first elements.
-use mathlib.Core.Path.{◌≡◌, refl, sym, ◌∙◌}
-use mathlib.Core.Bool.{Bool, true, false, not, ◌&&◌, ◌||◌, false≢true}
+use mathlib.Core.Path.{◌≡◌, refl, ap, ◌∙◌}
+use mathlib.Core.Bool.{Bool, true, false, not, ◌&&◌, ◌||◌}
 use mathlib.Core.List.{List, [], ◌∷◌, ◌++◌}
-use Prim.Native.Nat.{ℕ, zero, suc, ◌+◌, ◌<◌, ◌≤◌}
+use Prim.Native.Nat.{ℕ, zero, suc, ◌+◌, ◌<◌}
 use native.Mathlib.Nat.{not-suc-le-zero, le_of_suc-le-suc}
 use native.Mathlib.Numerals.{add-one}
 use native.Mathlib.Omega.{arith}
 use lib.Dec.{eqb}
 use lib.ListN.{length, get_or, take}
 use lib.Seq.{take-suc}
-use Rattle.std.specs.List.{list_all, zip}
-use Rattle.std.proofs.lemmas.Slice.Zip.{length-zip, get_or-zip}
-use Rattle.prelude.specs.Tests.{each, all, any}
-use Rattle.prelude.proofs.Chains.{all-is}
-use Rattle.prelude.proofs.Laws.{clash, any_append, all-at, all_of, each_at, each_of}
+use Rattle.std.specs.List.{list_all}
+use Rattle.prelude.specs.Tests.{each, any}
+use Rattle.prelude.proofs.Laws.{clash, any_append, each-cong}
 use Rattle.search_rules.proofs.Booleans.{or-false, bool_false}
 use Rattle.search_state.specs.Inner.{settled}
 
@@ -51,27 +49,9 @@ get_d_any [] i d e h = absurd (not-suc-le-zero h)
 get_d_any (x ∷ xs) zero d e h = refl
 get_d_any (x ∷ xs) (suc i) d e h = get_d_any xs i d e (le_of_suc-le-suc h)
 
--- two tests that pass together
-same-test : (a b : Bool) → (a ≡ true → b ≡ true) → (b ≡ true → a ≡ true) → a ≡ b
-same-test true b f g = sym (f refl)
-same-test false b f g = sym (bool_false b (λ e. false≢true (g e)))
-
--- the test of `open_outside`: a mark or an open value
-pub all-settled : (values : List ℕ) (seen : List Bool) → length values ≤ length seen
-    → list_all (λ p. p.1 || eqb p.0 2) (zip values seen) ≡ each (length values) (settled values seen)
-all-settled values seen h =
-    all-is test pairs ∙ same-test (all test pairs) (each (length values) (settled values seen))
-    (λ e. each_of (settled values seen) (length values)
-    (λ i l. rw (at i l) at (all-at test pairs e i (2, false) (omega (arith, length-zip values seen)))))
-    (λ e. all_of test pairs (2, false)
-    (λ i l. let m : i < length values = omega (arith, length-zip values seen) in
-    rw (at i m) (each_at (settled values seen) (length values) e i m)))
-  where
-    test : ℕ × Bool → Bool
-    test p = p.1 || eqb p.0 2
-
-    pairs : List (ℕ × Bool)
-    pairs = zip values seen
-
-    at : (i : ℕ) → i < length values → get_or (zip values seen) i (2, false) ≡ (get_or values i 2, get_or seen i false)
-    at i l = get_or-zip values seen i (2, false) l (omega arith)
+-- the test of `open_outside`, where a place past the end counts as 0
+pub all-settled : (values : List ℕ) (seen : List Bool)
+    → each (length values) (λ i. get_or seen i false || eqb (get_or values i 0) 2) ≡ each (length values) (settled values seen)
+all-settled values seen =
+    each-cong (λ i. get_or seen i false || eqb (get_or values i 0) 2) (settled values seen) (length values)
+    (λ i h. ap (λ k. get_or seen i false || eqb k 2) (get_d_any values i 0 2 h))

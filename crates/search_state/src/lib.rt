@@ -58,10 +58,7 @@ fn open_outside(values: &[u8], seen: &[bool]) -> bool
     requires { length values.now ≤ length seen.now }
     ensures { result ≡ each (length values.now) (settled values.now seen.now) }
 {
-    values
-        .iter()
-        .zip(seen)
-        .all(|(x, marked)| *marked || *x == 2)
+    (0..values.len()).all(|i| seen[i] || values[i] == 2)
 }
 
 fn is_zero(word: i32) -> bool
