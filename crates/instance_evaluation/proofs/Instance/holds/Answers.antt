@@ -1,5 +1,6 @@
 -- The cells, the marks, and the root from any atoms.
-use mathlib.Core.Path.{◌∙◌}
+use mathlib.Core.Path.{◌≡◌, ◌∙◌}
+use mathlib.Core.Bool.{true}
 use native.Mathlib.Omega.{arith}
 use Rattle.std.proofs.lemmas.Grind.{common_steps}
 use Rattle.sheet_rules.specs.Blocks.{sheet_of}
@@ -28,7 +29,9 @@ returns-then-marked c =
     let sheet = sheet_of i.sheet.bytes.now in
     let truth = (rw (nodes-counted _ _ i.sheet.taken) at c.formula.ensures)
     ∙ root-truth sheet i.cells.now (root_tree sheet) in
-    rw (← c.cells_inside-inside.ensures, c.if-marked.true.0, ← c.marks_hold-marked.ensures, c.if-marked.true.1) truth
+    let inside : c.cells_inside-inside.result ≡ true = c.if-marked.true.0 in
+    let marked : c.marks_hold-marked.result ≡ true = c.if-marked.true.1 in
+    rw (← c.cells_inside-inside.ensures, inside, ← c.marks_hold-marked.ensures, marked) truth
 
 pub returns-else-marked : goal.returns-else-marked
 unfolding holds
