@@ -11,12 +11,11 @@ use lib.Seq.{get_or-set_same, get_or-set_other, get_or-take, length-take-le, ext
 use Rattle.std.proofs.lemmas.List.{drop-replicate, get_or-append_right}
 use Rattle.literal.specs.Literals.{Literal}
 use Rattle.literal.specs.Words.{literal_of}
-use Rattle.relational.specs.Matrices.{from, upto}
-use Rattle.relational.proofs.Places.{upto-at, length-map-from, from_at}
+use Rattle.relational.specs.Matrices.{upto}
+use Rattle.relational.proofs.Places.{upto-at, length-map-from}
 use Rattle.clauses_rules.specs.Translation.{absent}
 use Rattle.clauses_emission.specs.Emission.{Inside, literals_of}
 use Rattle.clauses_matrix.specs.Matrices.{Cells, cells_of}
-use Rattle.clauses_emission.proofs.Ors.{length-literals}
 use Rattle.clauses_emission.proofs.Ranges.{literal-of, literal-at, inside-absent}
 use Rattle.clauses_kinds.specs.Leaves.{Filled}
 

@@ -1,21 +1,18 @@
 -- Where the cells of relations stand among the cells of a sheet, and their literals.
 use mathlib.Core.Path.{◌≡◌, refl}
-use mathlib.Core.Bool.{true}
-use mathlib.Core.Logic.{⊎_elim}
 use mathlib.Core.List.{List, map}
 use Prim.Native.Nat.{ℕ, zero, suc, ◌+◌, ◌*◌, ◌≤◌, ◌<◌}
-use native.Mathlib.Nat.{eq-or-lt_of_le, mul-le-mul_right}
+use native.Mathlib.Nat.{mul-le-mul_right}
 use native.Mathlib.Omega.{arith}
 use lib.IntN.{ℤ, pos}
 use lib.ListN.{length, get_or, take, drop}
 use lib.Seq.{drop-cons}
 use Rattle.sheet_rules.specs.declared.Layout.{Layout}
-use Rattle.sheet_rules.specs.Blocks.{Sheet, sheet_of, sort_count, scope, is_bounded, relation_count}
+use Rattle.sheet_rules.specs.Blocks.{Sheet, sheet_of, relation_count}
 use Rattle.sheet_rules.specs.Reading.{accepted, reading}
 use Rattle.sheet_rules.proofs.Acceptance.{accepted-facts}
-use Rattle.relational.specs.Cells.{row_count, row_length, members_of, first_member, first_cell, cell_count}
+use Rattle.relational.specs.Cells.{row_count, row_length, first_cell, cell_count}
 use Rattle.relational.specs.Matrices.{from}
-use Rattle.relational.proofs.Scopes.{bounded-there}
 use Rattle.cells.proofs.Layouts.{relation-ends}
 use Rattle.clauses_rules.specs.Translation.{absent}
 use Rattle.clauses_emission.specs.Emission.{literals_of}

@@ -1,10 +1,9 @@
 // What the clauses are made from: an accepted sheet, the literals of its cells, and where those of each relation begin.
-ghost use Rattle.std.specs.Prelude.{◌≡◌, true, map, ◌+◌, ◌*◌, ◌≤◌, ◌<◌, length};
+ghost use Rattle.std.specs.Prelude.{◌≡◌, map, ◌+◌, ◌*◌, ◌≤◌, ◌<◌, length};
 ghost use Rattle.literal.specs.Words.{literal_of};
-ghost use Rattle.sheet_rules.specs.Blocks as spec;
 ghost use Rattle.sheet_rules.specs.Blocks.{relation_count, sheet_of};
-ghost use Rattle.relational.specs.Cells.{most_cells, cell_count, cells_of, row_count};
-ghost use Rattle.relational.specs.Cells.{first_cell, first_member, member_cell};
+ghost use Rattle.relational.specs.Cells.{most_cells, cell_count, row_count};
+ghost use Rattle.relational.specs.Cells.{first_cell, member_cell};
 ghost use Rattle.relational.specs.Matrices.{from};
 ghost use Rattle.cells.specs.Private.{Starts};
 ghost use Rattle.clauses_rules.specs.Translation.{literal_at};

@@ -41,7 +41,8 @@ pub fn apply_comparison(operator: Comparison, p: Value, q: Value) -> bool
 pub fn compare(kind: usize, p: Value, q: Value) -> bool
     requires fine { Fine p }
     requires fine_2 { Fine q }
-    ensures { (o : Comparison) → trees.symbol_of kind ≡ symbol.Comparison o → result ≡ spec.truth_comparison o (matrix_of p) (matrix_of q) }
+    ensures { (o : Comparison) → trees.symbol_of kind ≡ symbol.Comparison o
+        → result ≡ spec.truth_comparison o (matrix_of p) (matrix_of q) }
 {
     match symbol_of(kind) {
         Symbol::Comparison(operator) => apply_comparison(operator, p, q),
@@ -122,7 +123,8 @@ pub fn apply_quantifier(operator: Quantifier, atoms: Value, bodies: Value) -> bo
 pub fn quantify(kind: usize, atoms: Value, bodies: Value) -> bool
     requires fine { Fine atoms }
     requires fine_2 { Fine bodies }
-    ensures { (o : Quantifier) → trees.symbol_of kind ≡ symbol.Quantifier o → result ≡ spec.truth_quantifier o (matrix_of atoms) (matrix_of bodies) }
+    ensures { (o : Quantifier) → trees.symbol_of kind ≡ symbol.Quantifier o
+        → result ≡ spec.truth_quantifier o (matrix_of atoms) (matrix_of bodies) }
 {
     match symbol_of(kind) {
         Symbol::Quantifier(operator) => apply_quantifier(operator, atoms, bodies),

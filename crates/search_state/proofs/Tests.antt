@@ -1,11 +1,10 @@
 -- Tests over a list and over its first elements.
-use mathlib.Core.Path.{◌≡◌, refl, ap, ◌∙◌}
+use mathlib.Core.Path.{◌≡◌, refl, ap}
 use mathlib.Core.Bool.{Bool, true, false, not, ◌&&◌, ◌||◌}
 use mathlib.Core.List.{List, [], ◌∷◌, ◌++◌}
 use Prim.Native.Nat.{ℕ, zero, suc, ◌+◌, ◌<◌}
 use native.Mathlib.Nat.{not-suc-le-zero, le_of_suc-le-suc}
 use native.Mathlib.Numerals.{add-one}
-use native.Mathlib.Omega.{arith}
 use lib.Dec.{eqb}
 use lib.ListN.{length, get_or, take}
 use lib.Seq.{take-suc}
@@ -51,7 +50,8 @@ get_d_any (x ∷ xs) (suc i) d e h = get_d_any xs i d e (le_of_suc-le-suc h)
 
 -- the test of `open_outside`, where a place past the end counts as 0
 pub all-settled : (values : List ℕ) (seen : List Bool)
-    → each (length values) (λ i. get_or seen i false || eqb (get_or values i 0) 2) ≡ each (length values) (settled values seen)
+    → each (length values) (λ i. get_or seen i false || eqb (get_or values i 0) 2)
+    ≡ each (length values) (settled values seen)
 all-settled values seen =
     each-cong (λ i. get_or seen i false || eqb (get_or values i 0) 2) (settled values seen) (length values)
     (λ i h. ap (λ k. get_or seen i false || eqb k 2) (get_d_any values i 0 2 h))

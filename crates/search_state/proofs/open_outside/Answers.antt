@@ -1,4 +1,4 @@
-use Rattle.std.proofs.Common.{◌≡◌, ℕ, Bool, false, ◌||◌, ◌<◌, eqb, get_or, length, refl, ◌∙◌, rules, tests, arith}
+use Rattle.std.proofs.Common.{ℕ, Bool, false, ◌||◌, eqb, get_or, length, refl, ◌∙◌, rules, tests, arith}
 use Rattle.std.proofs.lemmas.Iterator.{YieldsList-from_range}
 use Rattle.std.proofs.lemmas.Iterator.Search.{all_from_yields_List}
 use Rattle.prelude.proofs.Chains.{each-is}

@@ -1,4 +1,4 @@
-use Rattle.std.proofs.Common.{◌≡◌, sym, ◌∙◌, refl, ap}
+use Rattle.std.proofs.Common.{sym, ◌∙◌, refl, ap}
 use Rattle.relational.specs.declared.Symbol.TheVariants.{Leaf as leaf-symbol}
 use Rattle.relational.specs.Trees.{symbol_of}
 use Rattle.nodes.proofs.Numbers.{number-of}

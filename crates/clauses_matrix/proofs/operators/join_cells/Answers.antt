@@ -17,7 +17,8 @@ loop-i-init c =
     let a = c.args in
     let columns = c.join_columns-columns.result in
     rw (zero-mul columns)
-    (cells-start join_cell (middles_at a.p.cells a.q.cells a.p.columns columns) a.list.now a.tape.now c.requires.bounded)
+    (cells-start join_cell (middles_at a.p.cells a.q.cells a.p.columns columns) a.list.now a.tape.now
+    c.requires.bounded)
 
 pub join_cell-requires-clause-row_and_column : goal.join_cell-requires-clause-row_and_column
 join_cell-requires-clause-row_and_column c =
@@ -39,11 +40,12 @@ loop-j-preserved c =
     let w = c.join_cell.result in
     let next : i * columns.result + (j + 1) ≡ suc (i * columns.result + j) = omega arith in
     rw (next, back w (search rules), c.index.ensures.0)
-    (cells-next join_cell regular-join-cell (middles_at p.cells c.args.q.cells p.columns columns.result) (i * columns.result + j)
-    c.loop-j.cells w
+    (cells-next join_cell regular-join-cell (middles_at p.cells c.args.q.cells p.columns columns.result)
+    (i * columns.result + j) c.loop-j.cells w
     (place_in p.rows columns.result i j c.requires.operand.rows columns.ensures.1 c.loop-i-test.true c.loop-j-test.true)
     c.loop-j.invariant
-    (rw (row-at i columns.result j c.loop-j-test.true, column-at i columns.result j c.loop-j-test.true) c.join_cell.ensures))
+    (rw (row-at i columns.result j c.loop-j-test.true, column-at i columns.result j c.loop-j-test.true)
+    c.join_cell.ensures))
 
 pub returns : goal.returns
 returns c =
@@ -55,7 +57,7 @@ returns c =
     let e : loop.i ≡ c.args.p.rows = omega (arith, c.loop-i-test.false, loop.auto.i-end) in
     let cells = cells-done join_cell regular-join-cell
     (middles_at c.args.p.cells c.args.q.cells c.args.p.columns columns.result)
-    (λ k. middles absent p q (place_of columns.result k)) (loop.i * columns.result) (c.args.p.rows * columns.result) loop.cells
-    (rw e (omega arith)) (rw e (omega arith)) same loop.invariant
+    (λ k. middles absent p q (place_of columns.result k)) (loop.i * columns.result) (c.args.p.rows * columns.result)
+    loop.cells (rw e (omega arith)) (rw e (omega arith)) same loop.invariant
     in
     rw columns.ensures.0 at (emits-as (join-by-number p q columns.result c.args.tape.now.next) refl cells)

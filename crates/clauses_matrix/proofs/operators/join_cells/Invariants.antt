@@ -8,7 +8,8 @@ use Rattle.clauses_matrix.proofs.operators.join_cells.Given as goal
 
 abbrev pub invariant-loop-i : goal.invariant-loop-i
 invariant-loop-i l =
-    EmitsCells (l.i * l.columns) (each join_cell (map (middles_at l.left l.right l.n l.columns) (upto (l.i * l.columns))) l.fn.tape.next)
+    EmitsCells (l.i * l.columns)
+    (each join_cell (map (middles_at l.left l.right l.n l.columns) (upto (l.i * l.columns))) l.fn.tape.next)
     l.fn.list l.fn.tape l.cells l.list l.tape
 
 abbrev pub invariant-loop-j : goal.invariant-loop-j
