@@ -26,7 +26,11 @@ pub part-cells : (ws : List ℤ) (start n : ℕ) → start + n ≤ length ws
     → literals_of (take n (drop start ws)) ≡ map (λ i. get_or (literals_of ws) i absent) (from start n)
 part-cells ws start zero h = refl
 part-cells ws start (suc n) h =
-    rw (drop-cons ws start (pos 0) (omega arith), ← literal-at ws start (omega arith), part-cells ws (suc start) n (omega arith))
+    rw (
+      drop-cons ws start (pos 0) (omega arith),
+      ← literal-at ws start (omega arith),
+      part-cells ws (suc start) n (omega arith),
+    )
 
 module _ (sheet : Sheet) where
   -- the membership cells of a sort stand before those of the next, and before the relations' cells
@@ -57,5 +61,6 @@ module _ (sheet : Sheet) where
       rows-below m n i h = omega (arith, mul-le-mul_right n h)
 
 -- an accepted sheet has few relations
-pub low-relation : (s : List ℕ) (layout : Layout) (r : ℕ) → reading s ≡ accepted layout → r < relation_count (sheet_of s) → r < 256
+pub low-relation : (s : List ℕ) (layout : Layout) (r : ℕ)
+    → reading s ≡ accepted layout → r < relation_count (sheet_of s) → r < 256
 low-relation s layout r taken h = omega (arith, (accepted-facts s layout taken).counts.few_relations)
